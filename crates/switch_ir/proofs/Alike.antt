@@ -18,9 +18,11 @@ use Rattle.split_model.specs.declared.split.Part.{Part}
 use Rattle.split_model.specs.Crossing.{is_value, is_among, is_read_by}
 use Rattle.split_model.specs.Legal.{IsLegal, is_misplaced, is_not_lower}
 use Rattle.split_model.specs.Passes.{is_stage, done_below, pass, post_fields, value_from}
-use Rattle.split_model.specs.Split.{any_below, is_post, pre_stage, post_stage}
+use Rattle.split_model.specs.Split.{is_post, pre_stage, post_stage}
 use Rattle.switch_ir.specs.Emitted.{is_read_after, is_used_after}
-use Rattle.switch_ir.proofs.Handing.{value_same}
+use Rattle.switch_ir.proofs.Handing.{same_value, value_same}
+use Rattle.switch_ir.proofs.Places.{any_at}
+use Rattle.switch_ir.proofs.Soundness.{each_filter, each_of}
 
 -- readings that agree on what an instruction reads give it the same results
 pub record Agreements : Type 0 where
@@ -28,14 +30,6 @@ pub record Agreements : Type 0 where
   pub results : (r r' : Reading) (live : Bool) (st : Store) (packet : Packet) (work : Work) → SameFor r r' work → results r live st packet work ≡ results r' live st packet work
 
 -- ## Tests
-
-any_passes : (n : ℕ) (test : ℕ → Bool) (i : ℕ) → i < n → test i ≡ true → any_below n test ≡ true
-any_passes zero test i lt t = absurd (omega (arith, lt))
-any_passes (suc n) test i lt t =
-    ⊎_elim
-    (λ same. or_right (any_below n test) (test n) (ap test (sym same) ∙ t))
-    (λ less. or_left (any_below n test) (test n) (any_passes n test i less t))
-    (eq-or-lt_of_le {n = i} {m = n} (omega (arith, lt)))
 
 -- what holds of each value that is among others holds of each of these
 each_among : (P : ValueId → Type 0) (vs : List ValueId) → ((v : ValueId) → is_among v vs ≡ true → P v) → Each P vs
@@ -50,17 +44,9 @@ not_any test [] none v e = absurd (false≢true e)
 not_any test (x ∷ xs) none v e =
     let parts = or_parts (test x) (list_any test xs) none in
     ⊎_elim
-    (λ same. ap test (λ i. record { instruction = eqb-true v.instruction x.instruction (and_first (v.instruction == x.instruction) (v.result == x.result) same) i; result = eqb-true v.result x.result (and_second (v.instruction == x.instruction) (v.result == x.result) same) i }) ∙ parts.0)
+    (λ same. ap test (same_value v x same) ∙ parts.0)
     (λ later. not_any test xs parts.1 v later)
     (or_cases (is_value v x) (is_among v xs) e)
-  where
-    and_first : (a b : Bool) → (a && b) ≡ true → a ≡ true
-    and_first true b e = refl
-    and_first false b e = absurd (false≢true e)
-
-    and_second : (a b : Bool) → (a && b) ≡ true → b ≡ true
-    and_second true b e = e
-    and_second false b e = absurd (false≢true e)
 
 not_false : (b : Bool) → not b ≡ false → b ≡ true
 not_false true e = refl
@@ -91,7 +77,7 @@ module _ (agree : Agreements) (f : Program) (split : List Part) (legal : IsLegal
   read : (i own : ℕ) → i < length f.code → stage i ≡ Some own → (v : ValueId) → is_among v (operands (step_at f i).work) ≡ true → is_read_after f split v ≡ true
   read i own lt is v e =
       or_left (is_read_by f (is_post split) v) (is_among v (f.send ∷ f.port ∷ []) || list_any (λ (w : FieldValue). is_value v w.value) (post_fields f split))
-      (any_passes (length f.code) (λ j. is_post split j && is_among v (operands (step_at f j).work)) i lt
+      (any_at (length f.code) i (λ j. is_post split j && is_among v (operands (step_at f j).work)) lt
       (and_from (is_post split i) (is_among v (operands (step_at f i).work)) (ap is_some is) e))
 
   there : (i own : ℕ) → stage i ≡ Some own → i < length f.code
@@ -177,16 +163,8 @@ module _ (f : Program) (split : List Part) where
       (or_left out fields (or_right (is_value f.port f.send) (is_among f.port (f.port ∷ []))
       (or_left (is_value f.port f.port) (is_among f.port []) (value_same f.port f.port refl)))))
 
-  fields_by : (P : FieldValue → Type 0) → ((w : FieldValue) → is_post split w.value.instruction ≡ true → P w) → (ws : List FieldValue) → Each P (filter (λ (w : FieldValue). is_post split w.value.instruction) ws)
-  fields_by P go [] = tt
-  fields_by P go (w ∷ ws) = by_test (is_post split w.value.instruction) refl (fields_by P go ws)
-    where
-      by_test : (b : Bool) → is_post split w.value.instruction ≡ b → Each P (filter (λ (x : FieldValue). is_post split x.value.instruction) ws)
-          → Each P (if b then w ∷ filter (λ (x : FieldValue). is_post split x.value.instruction) ws else filter (λ (x : FieldValue). is_post split x.value.instruction) ws)
-      by_test true is rest = (go w is, rest)
-      by_test false is rest = rest
-
   pub fields_alike : (r r' : Reading) (bytes : List ℕ) → ((v : ValueId) → is_used_after f split v ≡ true → r v ≡ r' v) → with_writes (post_fields f split) r bytes ≡ with_writes (post_fields f split) r' bytes
   fields_alike r r' bytes same =
       writes_alike r r' (post_fields f split) bytes
-      (fields_by (λ (w : FieldValue). r w.value ≡ r' w.value) (λ w is. same w.value (or_left (is_post split w.value.instruction) (is_read_after f split w.value) is)) f.fields)
+      (each_filter (λ (w : FieldValue). r w.value ≡ r' w.value) (λ (w : FieldValue). is_post split w.value.instruction) f.fields
+      (each_of (λ (w : FieldValue). is_post split w.value.instruction ≡ true → r w.value ≡ r' w.value) (λ w is. same w.value (or_left (is_post split w.value.instruction) (is_read_after f split w.value) is)) f.fields))

@@ -30,8 +30,4 @@ pub copied_plan : (tables tables' : List Table) (handed handed' up up' : List Cr
     → tables' ≡ tables → handed' ≡ handed → up' ≡ up → pass' ≡ pass → plan' ≡ plan
     → IsPlanOf (pass_spans tables handed up pass) plan → IsPlanOf (pass_spans tables' handed' up' pass') plan'
 copied_plan tables tables' handed handed' up up' pass pass' plan plan' same_tables same_handed same_up same_pass same_plan is =
-    subst (λ (p : RegisterPlan). IsPlanOf (pass_spans tables' handed' up' pass') p) (sym same_plan)
-    (subst (λ (p : PassCode). IsPlanOf (pass_spans tables' handed' up' p) plan) (sym same_pass)
-    (subst (λ (l : List Crossing). IsPlanOf (pass_spans tables' handed' l pass) plan) (sym same_up)
-    (subst (λ (l : List Crossing). IsPlanOf (pass_spans tables' l up pass) plan) (sym same_handed)
-    (subst (λ (t : List Table). IsPlanOf (pass_spans t handed up pass) plan) (sym same_tables) is))))
+    rw (same_tables, same_handed, same_up, same_pass, same_plan) is

@@ -8,7 +8,6 @@ use Rattle.std.proofs.lemmas.List.Kept.{AllPairs-cons}
 use Rattle.std.proofs.lemmas.Option.{slice_get_past, same_Some, none-some}
 use Rattle.flat_ir.specs.declared.program.ValueId.{ValueId}
 use Rattle.flat_ir.specs.Program.{Program, Work, step_at, operands, result_count, is_named}
-use Rattle.flat_ir.specs.Program.Work.{const, field, apply, shift, select, byte, look, put, del}
 use Rattle.split_model.specs.declared.layout.Crossing.{Crossing}
 use Rattle.split_model.specs.declared.split.Part.{Part}
 use Rattle.split_model.specs.Crossing.{is_among as is_value_among, is_at_hand, is_read_by, crosses_down}
@@ -21,9 +20,9 @@ use Rattle.switch_ir.specs.Emitted.{steps_of, only_value, is_given, is_read_afte
 use Rattle.switch_ir.specs.LastReads.{AreInside, IsInside}
 use Rattle.switch_ir.specs.Passes.{Step}
 use Rattle.switch_ir.specs.Spans.{Written, written_by, handed_in, GoByStages}
-use Rattle.switch_ir.proofs.Handing.{HasNumbers}
-use Rattle.switch_ir.proofs.Soundness.{each_append, each_weaker}
-use Rattle.switch_ir.proofs.Spanned.{each_get}
+use Rattle.switch_ir.proofs.Givens.{one_result}
+use Rattle.switch_ir.proofs.Handing.{HasNumbers, crossing_parts}
+use Rattle.switch_ir.proofs.Soundness.{each_append, each_get, each_map, each_weaker, crossing_among}
 use Rattle.switch_ir.proofs.Staging.{apart_append, IsStepOf, IsValueOf, steps_are, values_are, steps_apart, low_steps, reads_lower, reads_given, named}
 
 abbrev AreApart : List Written → Type 0
@@ -70,41 +69,23 @@ module _ (numbers : HasNumbers) (f : Program) (split : List Part) where
   abbrev IsHandedDown : Written → Type 0
   IsHandedDown w = (crosses_down f split w.value ≡ true) × (w.number ≡ number_of f w.value) × (w.stage ≡ 0)
 
-  handed_among : (vs : List ValueId) → Each IsHandedDown (handed_in (map (crossing f) (filter (crosses_down f split) vs)))
-  handed_among [] = tt
-  handed_among (v ∷ vs) = by_test (crosses_down f split v) refl (handed_among vs)
-    where
-      by_test : (b : Bool) → crosses_down f split v ≡ b → Each IsHandedDown (handed_in (map (crossing f) (filter (crosses_down f split) vs)))
-          → Each IsHandedDown (handed_in (map (crossing f) (if b then v ∷ filter (crosses_down f split) vs else filter (crosses_down f split) vs)))
-      by_test true own rest = ((own, refl, refl), rest)
-      by_test false own rest = rest
-
   abbrev handed : List Written
   handed = handed_in (down_layout f split)
 
   handed_are : Each IsHandedDown handed
-  handed_are = handed_among (values_of f)
-
-  crossing_parts : (v : ValueId) → crosses_down f split v ≡ true → (is_named f v && not (is_post split v.instruction)) ≡ true
-  crossing_parts v e =
-      let read = is_value_among v (f.send ∷ f.port ∷ []) || (not (is_at_hand f split (step_at f v.instruction).work) && is_read_by f (is_post split) v) in
-      (and_parts (is_named f v && not (is_post split v.instruction)) read e).0
-
-  handed_named : (v : ValueId) → crosses_down f split v ≡ true → is_named f v ≡ true
-  handed_named v e = (and_parts (is_named f v) (not (is_post split v.instruction)) (crossing_parts v e)).0
-
-  handed_not_post : (v : ValueId) → crosses_down f split v ≡ true → not (is_post split v.instruction) ≡ true
-  handed_not_post v e = (and_parts (is_named f v) (not (is_post split v.instruction)) (crossing_parts v e)).1
+  handed_are = each_map IsHandedDown (λ (c : Crossing). record { value = c.value; number = c.number; stage = 0 }) (down_layout f split)
+      (each_weaker (λ (c : Crossing). (crosses_down f split c.value ≡ true) × (c.number ≡ number_of f c.value))
+      (λ c. IsHandedDown (record { value = c.value; number = c.number; stage = 0 })) (λ c is. (is.0, is.1, refl)) (down_layout f split) (crossing_among f (crosses_down f split) (values_of f)))
 
   handed_numbered : (w : Written) → IsHandedDown w → IsNumbered w
-  handed_numbered w is = (handed_named w.value is.0, is.1)
+  handed_numbered w is = ((crossing_parts f split w.value is.0).0, is.1)
 
   -- and has a place among the first 9 results
   pub handed_inside : ((work : Work) → result_count f.objects work ≤ 9) → AreInside (length f.code) (handed_in (down_layout f split))
   handed_inside few =
       each_weaker IsHandedDown (IsInside (length f.code))
       (λ w is.
-      let range = and_parts (nat_lt w.value.instruction (length f.code)) (nat_lt w.value.result (result_count f.objects (step_at f w.value.instruction).work)) (handed_named w.value is.0) in
+      let range = and_parts (nat_lt w.value.instruction (length f.code)) (nat_lt w.value.result (result_count f.objects (step_at f w.value.instruction).work)) (crossing_parts f split w.value is.0).0 in
       let below = ltb-true w.value.result (result_count f.objects (step_at f w.value.instruction).work) range.1 in
       (ltb-true w.value.instruction (length f.code) range.0, omega (arith, below, few (step_at f w.value.instruction).work)))
       handed handed_are
@@ -131,20 +112,9 @@ module _ (numbers : HasNumbers) (f : Program) (split : List Part) where
       let c = and_parts (not (crosses_down f split (only_value i))) (is_read_after f split (only_value i)) b.1 in
       record { hand = a.0; later = b.0; crosses = c.0 }
 
-  one_result : (work : Work) → is_at_hand f split work ≡ true → result_count f.objects work ≡ 1
-  one_result (const width number) e = omega arith
-  one_result (field name) e = omega arith
-  one_result (apply op width args) e = absurd (false≢true e)
-  one_result (shift op width arg by) e = absurd (false≢true e)
-  one_result (select width cond first second) e = absurd (false≢true e)
-  one_result (byte index) e = absurd (false≢true e)
-  one_result (look object keys) e = absurd (false≢true e)
-  one_result (put object keys values) e = absurd (false≢true e)
-  one_result (del object keys) e = absurd (false≢true e)
-
   only_one : (v : ValueId) → is_at_hand f split (step_at f v.instruction).work ≡ true → v.result < result_count f.objects (step_at f v.instruction).work → only_value v.instruction ≡ v
   only_one v hand lt =
-      let first : 0 ≡ v.result = omega (arith, lt, one_result (step_at f v.instruction).work hand) in
+      let first : 0 ≡ v.result = omega (arith, lt, one_result f split (step_at f v.instruction).work hand) in
       λ i. record { instruction = v.instruction; result = first i }
 
   -- ---- groups that have no value in common
@@ -160,47 +130,37 @@ module _ (numbers : HasNumbers) (f : Program) (split : List Part) where
   stepped_post : (w : Written) → IsValueOf f split (post_stage split) w → is_post split w.value.instruction ≡ true
   stepped_post w is = ap (λ (o : Option ℕ). is_some o) is.0
 
-  given_from_steps : (i j : ℕ) (d : Written) → i < length given → j < length steps → (get_or given i d).number ≢ (get_or steps j d).number
-  given_from_steps i j d lt within =
-      let a = get_or given i d in
-      let b = get_or steps j d in
-      let of = each_get (IsValueOf f split (given_stage f split)) given i d given_values lt in
-      let on = each_get (IsValueOf f split (post_stage split)) steps j d steps_values within in
-      by_value a b (numbered (given_stage f split) a of) (numbered (post_stage split) b on)
-      (λ e. clash (is_post split a.value.instruction) (given_at a.value.instruction a.stage of.0).later
-      (ap (λ (v : ValueId). is_post split v.instruction) e ∙ stepped_post b on))
+  -- what isn't handed down
+  abbrev IsKept : Written → Type 0
+  IsKept w = IsNumbered w × (crosses_down f split w.value ≡ true → ⊥)
 
-  handed_from_steps : (i j : ℕ) (d : Written) → i < length handed → j < length steps → (get_or handed i d).number ≢ (get_or steps j d).number
-  handed_from_steps i j d lt within =
-      let a = get_or handed i d in
-      let b = get_or steps j d in
-      let of = each_get IsHandedDown handed i d handed_are lt in
-      let on = each_get (IsValueOf f split (post_stage split)) steps j d steps_values within in
-      by_value a b (handed_numbered a of) (numbered (post_stage split) b on)
-      (λ e. clash (is_post split a.value.instruction) (handed_not_post a.value of.0)
-      (ap (λ (v : ValueId). is_post split v.instruction) e ∙ stepped_post b on))
+  given_later : (w : Written) → IsValueOf f split (given_stage f split) w → not (is_post split w.value.instruction) ≡ true
+  given_later w is = (given_at w.value.instruction w.stage is.0).later
 
-  handed_from_given : (i j : ℕ) (d : Written) → i < length handed → j < length given → (get_or handed i d).number ≢ (get_or given j d).number
-  handed_from_given i j d lt within =
-      let a = get_or handed i d in
-      let b = get_or given j d in
-      let of = each_get IsHandedDown handed i d handed_are lt in
-      let on = each_get (IsValueOf f split (given_stage f split)) given j d given_values within in
-      let at = given_at b.value.instruction b.stage on.0 in
-      by_value a b (handed_numbered a of) (numbered (given_stage f split) b on)
-      (λ e. clash (crosses_down f split b.value)
-      (ap (λ (v : ValueId). not (crosses_down f split v)) (sym (only_one b.value at.hand on.2)) ∙ at.crosses)
-      (ap (crosses_down f split) (sym e) ∙ of.0))
+  given_kept : (w : Written) → IsValueOf f split (given_stage f split) w → IsKept w
+  given_kept w is =
+      let at = given_at w.value.instruction w.stage is.0 in (
+        numbered (given_stage f split) w is,
+        clash (crosses_down f split w.value) (ap (λ (v : ValueId). not (crosses_down f split v)) (sym (only_one w.value at.hand is.2)) ∙ at.crosses),
+      )
 
-  split_groups : (i j : ℕ) (d : Written) → i < length handed → j < length (given ++ steps) → (get_or handed i d).number ≢ (get_or (given ++ steps) j d).number
-  split_groups i j d lt within = both given steps (λ k x. handed_from_given i k x lt) (λ k x. handed_from_steps i k x lt) j d within
-    where
-      both : (xs ys : List Written) → ((k : ℕ) (x : Written) → k < length xs → (get_or handed i x).number ≢ (get_or xs k x).number)
-          → ((k : ℕ) (x : Written) → k < length ys → (get_or handed i x).number ≢ (get_or ys k x).number)
-          → (k : ℕ) (x : Written) → k < length (xs ++ ys) → (get_or handed i x).number ≢ (get_or (xs ++ ys) k x).number
-      both [] ys first last k x below = last k x below
-      both (z ∷ xs) ys first last zero x below = first 0 x (omega arith)
-      both (z ∷ xs) ys first last (suc k) x below = both xs ys (λ m y lt'. first (suc m) y (omega (arith, lt'))) last k x (omega (arith, below))
+  steps_kept : (w : Written) → IsValueOf f split (post_stage split) w → IsKept w
+  steps_kept w is = (numbered (post_stage split) w is, λ e. clash (is_post split w.value.instruction) (crossing_parts f split w.value e).1 (stepped_post w is))
+
+  rest_apart : AreApart (given ++ steps)
+  rest_apart =
+      apart_append (IsValueOf f split (given_stage f split)) (IsValueOf f split (post_stage split))
+      (λ a b of on. by_value a b (numbered (given_stage f split) a of) (numbered (post_stage split) b on)
+      (λ e. clash (is_post split a.value.instruction) (given_later a of) (ap (λ (v : ValueId). is_post split v.instruction) e ∙ stepped_post b on)))
+      given steps given_values steps_values (steps_apart f split (given_stage f split) (length f.code)) (steps_apart f split (post_stage split) (length f.code))
+
+  all_apart : IsRising (down_layout f split) → AreApart (handed ++ (given ++ steps))
+  all_apart rising =
+      apart_append IsHandedDown IsKept (λ a b of on. by_value a b (handed_numbered a of) on.0 (λ e. on.1 (ap (crosses_down f split) (sym e) ∙ of.0)))
+      handed (given ++ steps) handed_are
+      (each_append IsKept given steps (each_weaker (IsValueOf f split (given_stage f split)) IsKept given_kept given given_values)
+      (each_weaker (IsValueOf f split (post_stage split)) IsKept steps_kept steps steps_values))
+      (handed_apart (down_layout f split) rising) rest_apart
 
   -- ---- all of it
   given_first : Each (λ s. s.stage ≡ 0) (steps_of f (given_stage f split))
@@ -230,9 +190,7 @@ module _ (numbers : HasNumbers) (f : Program) (split : List Part) where
           (steps_are f split (pre_stage split) (length f.code) (omega arith)) (values_are f split (pre_stage split) (length f.code) (omega arith));
     };
     post = record {
-      apart = apart_append handed (given ++ steps) (handed_apart (down_layout f split) rising)
-          (apart_append given steps (steps_apart f split (given_stage f split) (length f.code)) (steps_apart f split (post_stage split) (length f.code)) given_from_steps)
-          split_groups;
+      apart = all_apart rising;
       given = given_first;
       low = low_steps f split (post_stage split) (length f.code);
       lower = each_both (λ (s : Step) (w : Written). is_value_among w.value (operands s.work) ≡ true → w.stage < s.stage) (steps_of f (post_stage split)) handed (given ++ steps)

@@ -6,7 +6,7 @@ use Rattle.std.specs.List.{filter}
 use Rattle.packet_fields.specs.declared.packet.Packet.{Packet}
 use Rattle.flat_ir.specs.declared.program.ValueId.{ValueId}
 use Rattle.flat_ir.specs.Program.{Program, Step, Work, step_at, is_named}
-use Rattle.flat_ir.specs.Program.Work.{const, field, apply, shift, select, byte, look, put, del}
+use Rattle.flat_ir.specs.Program.Work.{const, field}
 use Rattle.flat_ir.specs.Blocks.{Reading, nothing}
 use Rattle.flat_ir.specs.Run.{results}
 use Rattle.split_model.specs.declared.layout.Crossing.{Crossing}
@@ -67,18 +67,19 @@ module _ (f : Program) (test : ValueId → Bool) (v : ValueId) where
           ⊎_elim (λ same. ap test (sym (same_value x v same)) ∙ own) later (or_cases (is_value x v) (crosses (layout xs) v) e)
       by_test false own later e = later e
 
+-- a value that crosses down is one of the program, and isn't computed by postprocessing
+pub crossing_parts : (f : Program) (split : List Part) (v : ValueId) → crosses_down f split v ≡ true → (is_named f v ≡ true) × (not (is_post split v.instruction) ≡ true)
+crossing_parts f split v e =
+    let later = not (is_post split v.instruction) in
+    let read = is_among v (f.send ∷ f.port ∷ []) || (not (is_at_hand f split (step_at f v.instruction).work) && is_read_by f (is_post split) v) in
+    and_parts (is_named f v) later ((and_parts (is_named f v && later) read e).0)
+
 -- the layout has the values that cross
 layout_exact : HasNumbers → (f : Program) (split : List Part) (v : ValueId) → crosses (down_layout f split) v ≡ crosses_down f split v
 layout_exact numbers f split v =
     both_or_neither (crosses (down_layout f split) v) (crosses_down f split v)
     (passed f (crosses_down f split) v (values_of f))
-    (λ e. found f (crosses_down f split) v (values_of f) (number_of f v) e (numbers f v (named e)))
-  where
-    named : crosses_down f split v ≡ true → is_named f v ≡ true
-    named e =
-        let post = is_post split v.instruction in
-        let read = is_among v (f.send ∷ f.port ∷ []) || (not (is_at_hand f split (step_at f v.instruction).work) && is_read_by f (is_post split) v) in
-        (and_parts (is_named f v) (not post) ((and_parts (is_named f v && not post) read e).0)).0
+    (λ e. found f (crosses_down f split) v (values_of f) (number_of f v) e (numbers f v (crossing_parts f split v e).0))
 
 handed_is : (layout : List Crossing) (down : Reading) (v : ValueId) → crosses layout v ≡ true → handed layout (value_by down) v ≡ down v
 handed_is [] down v e = absurd (false≢true e)
@@ -114,13 +115,7 @@ module _ (f : Program) (split : List Part) (packet : Packet) (v : ValueId) where
   one_alone : (work : Work) (n : ℕ) → is_at_hand f split work ≡ true → slice_index (results nothing false [] packet work) (suc n) ≡ 0
   one_alone (const width number) n e = refl
   one_alone (field name) n e = refl
-  one_alone (apply op width args) n e = absurd (false≢true e)
-  one_alone (shift op width arg by) n e = absurd (false≢true e)
-  one_alone (select width cond first second) n e = absurd (false≢true e)
-  one_alone (byte index) n e = absurd (false≢true e)
-  one_alone (look object keys) n e = absurd (false≢true e)
-  one_alone (put object keys values) n e = absurd (false≢true e)
-  one_alone (del object keys) n e = absurd (false≢true e)
+  one_alone work n e = absurd (false≢true e)
 
   nothing_either : (b : Bool) (x : ℕ) → x ≡ 0 → (if b then x else 0) ≡ 0
   nothing_either true x e = e

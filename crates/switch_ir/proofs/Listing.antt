@@ -1,7 +1,6 @@
 -- The instructions of a pass, one after the other.
-use Rattle.std.proofs.Common.{◌≡◌, ℕ, zero, suc, ◌+◌, ◌<◌, ◌≤◌, inl, inr, max, List, [], ◌∷◌, ◌++◌, length, map, take, get_or, sym, ap, subst, ◌∙◌, arith, append_assoc}
+use Rattle.std.proofs.Common.{◌≡◌, ℕ, zero, suc, ◌+◌, ◌<◌, ◌≤◌, max, List, [], ◌∷◌, ◌++◌, length, map, take, get_or, refl, sym, ap, subst, ◌∙◌, arith, append_assoc}
 use Rattle.std.specs.List.{AllByRecursion as Each}
-use Rattle.std.proofs.lemmas.Bool.{cases_lt}
 use Rattle.std.proofs.lemmas.List.{append-nil, map-append, take_more, take_all}
 use Rattle.flat_ir.specs.declared.program.ValueId.{ValueId}
 use Rattle.flat_ir.specs.declared.spans.Span.{Span}
@@ -11,6 +10,7 @@ use Rattle.split_model.specs.declared.layout.Crossing.{Crossing}
 use Rattle.switch_ir.specs.declared.code.PassStep.{PassStep}
 use Rattle.switch_ir.specs.declared.code.Table.{Table}
 use Rattle.transfer_header.specs.BlockSteps.{step_if}
+use Rattle.switch_ir.specs.LastReads.{noted, AreNoted, AreInside}
 use Rattle.switch_ir.specs.Passes.{Step, pass_step_of}
 use Rattle.switch_ir.specs.Spans.{Written, last_stage, results_in, results_of, written_by, handed_in, span_of}
 use Rattle.switch_ir.proofs.Staging.{written_append}
@@ -45,18 +45,6 @@ pub each_parts : {X : Type 0} (P : X → Type 0) → (xs ys : List X) → Each P
 each_parts P [] ys h = (tt, h)
 each_parts P (x ∷ xs) ys h = let rest = each_parts P xs ys h.1 in ((h.0, rest.0), rest.1)
 
-pub results_at : (P : Written → Type 0) (s : Step) (n r : ℕ) → r < n → Each P (results_of s n) → P (record { value = record { instruction = s.instruction; result = r }; number = s.first + r; stage = s.stage })
-results_at P s zero r lt h = absurd (omega (arith, lt))
-results_at P s (suc n) r lt h =
-    let parts = each_parts P (results_of s n) (record { value = record { instruction = s.instruction; result = n }; number = s.first + n; stage = s.stage } ∷ []) h in
-    elim (cases_lt r n) [
-      | inl less ↦ results_at P s n r less parts.0
-      | inr more ↦ (
-          let same : n ≡ r = omega arith in
-          subst (λ k. P (record { value = record { instruction = s.instruction; result = k }; number = s.first + k; stage = s.stage })) same parts.1.0
-          )
-    ]
-
 pub steps_at : (P : Written → Type 0) (tables : List Table) (items : List PassStep) (i : ℕ) (x : PassStep) → i < length items → x ≡ get_or items i x → Each P (written_by tables (map pass_step_of items))
     → Each P (results_of (pass_step_of x) (results_in tables (pass_step_of x).work))
 steps_at P tables [] i x lt is h = absurd (omega (arith, lt))
@@ -65,11 +53,6 @@ steps_at P tables (y ∷ ys) zero x lt is h =
     (each_parts P (results_of (pass_step_of y) (results_in tables (pass_step_of y).work)) (written_by tables (map pass_step_of ys)) h).0
 steps_at P tables (y ∷ ys) (suc i) x lt is h =
     steps_at P tables ys i x (omega (arith, lt)) is (each_parts P (results_of (pass_step_of y) (results_in tables (pass_step_of y).work)) (written_by tables (map pass_step_of ys)) h).1
-
-pub handed_at : (P : Written → Type 0) (items : List Crossing) (i : ℕ) (c : Crossing) → i < length items → c ≡ get_or items i c → Each P (handed_in items) → P (record { value = c.value; number = c.number; stage = 0 })
-handed_at P [] i c lt is h = absurd (omega (arith, lt))
-handed_at P (x ∷ xs) zero c lt is h = subst (λ (q : Crossing). P (record { value = q.value; number = q.number; stage = 0 })) (sym is) h.0
-handed_at P (x ∷ xs) (suc i) c lt is h = handed_at P xs i c (omega (arith, lt)) is h.1
 
 -- ---- spans that are put last
 pub pushed : (start now new : List Span) (done more : List Written) (w : Written) (s : Span) (reads : ValueId → ℕ) → new ≡ now ++ s ∷ [] → s ≡ span_of reads w → now ≡ start ++ map (span_of reads) done → more ≡ done ++ w ∷ []
@@ -86,3 +69,10 @@ pushed_all start now new done more ws reads put so_far next =
 
 pub results_more : (s : Step) (r : ℕ) → results_of s (r + 1) ≡ results_of s r ++ record { value = record { instruction = s.instruction; result = r }; number = s.first + r; stage = s.stage } ∷ []
 results_more s r = let e : r + 1 ≡ suc r = omega arith in ap (results_of s) e
+
+-- ---- spans by what is noted
+pub spans_same : (n : ℕ) (reads : ValueId → ℕ) (last : List ℕ) → AreNoted n reads last → (had : List Written) → AreInside n had → map (span_of (noted last)) had ≡ map (span_of reads) had
+spans_same n reads last are [] inside = refl
+spans_same n reads last are (w ∷ ws) inside = λ i. (
+    record { value = w.number; from = w.stage; to = max w.stage (are.exact w.value inside.0.0 inside.0.1 i) } ∷ spans_same n reads last are ws inside.1 i
+    )

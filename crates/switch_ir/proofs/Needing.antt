@@ -11,7 +11,7 @@ use Rattle.flat_ir.specs.declared.program.ValueId.{ValueId}
 use Rattle.flat_ir.specs.declared.spans.Span.{Span}
 use Rattle.flat_ir.specs.Kinds.{is_input}
 use Rattle.flat_ir.specs.Program.{Program, Work, step_at, result_count, is_named}
-use Rattle.flat_ir.specs.Program.Work.{const, field, apply, shift, select, byte, look, put, del}
+use Rattle.flat_ir.specs.Program.Work.{look}
 use Rattle.flat_ir.specs.Spans.{covers, last_step}
 use Rattle.split_model.specs.declared.layout.Crossing.{Crossing}
 use Rattle.split_model.specs.declared.split.Part.{Part}
@@ -28,8 +28,9 @@ use Rattle.switch_ir.specs.Passes.{Step, PassCode}
 use Rattle.switch_ir.specs.Spans.{Written, results_in, results_of, written_by, handed_in, is_read_last, is_tested, last_read, span_of, pre_spans, post_spans}
 use Rattle.switch_ir.specs.Tables.{declared_at}
 use Rattle.switch_ir.proofs.Handing.{value_same}
+use Rattle.switch_ir.proofs.Passes.{highest_is}
 use Rattle.switch_ir.proofs.Places.{any_at}
-use Rattle.switch_ir.proofs.Spanned.{each_get}
+use Rattle.switch_ir.proofs.Soundness.{each_get, crossing_among}
 use Rattle.switch_ir.proofs.Staging.{written_append}
 
 any_map : {X Y : Type 0} (p : Y → Bool) (g : X → Y) (xs : List X) → list_any p (map g xs) ≡ list_any (λ x. p (g x)) xs
@@ -105,35 +106,9 @@ pub results_exact : (f : Program) (split : List Part) (work : Work) → ((o : �
 results_exact f split (look object keys) shown =
     let at = declared_is f split 0 f.objects object object (omega arith) (shown object (eq-eqb object object refl)) in
     omega (arith, ap (λ (o : Option ObjectDecl). length (unwrap_or (option_map (λ (d : ObjectDecl). d.values) o) [])) at)
-results_exact f split (const width number) shown = omega arith
-results_exact f split (field name) shown = omega arith
-results_exact f split (apply op width args) shown = omega arith
-results_exact f split (shift op width arg by) shown = omega arith
-results_exact f split (select width cond first second) shown = omega arith
-results_exact f split (byte index) shown = omega arith
-results_exact f split (put object keys values) shown = omega arith
-results_exact f split (del object keys) shown = omega arith
-
-high : (stage : ℕ → Option ℕ) (n i t : ℕ) → i < n → stage i ≡ Some t → t ≤ highest_of stage n
-high stage zero i t lt is = absurd (omega (arith, lt))
-high stage (suc n) i t lt is = elim (cases_lt i n) [
-  | inl less ↦ omega (arith, high stage n i t less is)
-  | inr more ↦ (
-      let same : i ≡ n = omega arith in
-      omega (arith, ap stage_or_zero (subst (λ k. stage k ≡ Some t) same is))
-      )
-]
+results_exact f split work shown = omega arith
 
 -- ---- the values of a layout
-crossing_among : (f : Program) (test : ValueId → Bool) (vs : List ValueId) → Each (λ (c : Crossing). (test c.value ≡ true) × (c.number ≡ number_of f c.value)) (map (crossing f) (filter test vs))
-crossing_among f test [] = tt
-crossing_among f test (v ∷ vs) = by_test (test v) refl (crossing_among f test vs)
-  where
-    by_test : (b : Bool) → test v ≡ b → Each (λ (c : Crossing). (test c.value ≡ true) × (c.number ≡ number_of f c.value)) (map (crossing f) (filter test vs))
-        → Each (λ (c : Crossing). (test c.value ≡ true) × (c.number ≡ number_of f c.value)) (map (crossing f) (if b then v ∷ filter test vs else filter test vs))
-    by_test true own rest = ((own, refl), rest)
-    by_test false own rest = rest
-
 covers_high : (highest t last : ℕ) (number : ℕ) → t ≤ highest → suc highest ≤ last → covers highest (record { value = number; from = t; to = max t last }) ≡ true
 covers_high highest t last number low late =
     and_from (nat_le t highest) (nat_le highest (max t (max t last - 1))) (le-leb t highest low) (le-leb highest (max t (max t last - 1)) (omega (arith, low, late)))
@@ -190,7 +165,7 @@ module _ (f : Program) (split : List Part) (legal : IsLegal f split) (writeback 
       ∙ found_steps f (pre_stage split) tables (spans_to pass.highest (number_of f v)) (length f.code) v.instruction at.0 v.result inside at.1 few
       (and_from (number_of f v == number_of f v) (covers pass.highest (record { value = number_of f v; from = at.0; to = max at.0 (last v) }))
       (eq-eqb (number_of f v) (number_of f v) refl)
-      (covers_high pass.highest at.0 (last v) (number_of f v) (high (pre_stage split) (length f.code) v.instruction at.0 inside at.1) read))
+      (covers_high pass.highest at.0 (last v) (number_of f v) (highest_is (pre_stage split) (length f.code) v.instruction at.0 inside at.1) read))
 
   pub up_needed : All (λ (c : Crossing). IsNeeded (pre_spans (emitted f split writeback)) pass.highest c.number) up
   up_needed k d lt =

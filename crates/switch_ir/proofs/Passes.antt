@@ -94,7 +94,7 @@ DoneByStages = (f : Program) (stage : ℕ → Option ℕ) (given : Reading) (tab
     → ((own : ℕ) → stage v.instruction ≡ Some own → own < t)
     → done_below f stage given tables packet t v ≡ pass f stage given tables packet v
 
-highest_is : (stage : ℕ → Option ℕ) (n i own : ℕ) → i < n → stage i ≡ Some own → own ≤ highest_of stage n
+pub highest_is : (stage : ℕ → Option ℕ) (n i own : ℕ) → i < n → stage i ≡ Some own → own ≤ highest_of stage n
 highest_is stage zero i own lt at = absurd (omega (arith, lt))
 highest_is stage (suc n) i own lt at =
     ⊎_elim

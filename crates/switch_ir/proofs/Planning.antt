@@ -12,7 +12,7 @@ use Rattle.std.proofs.lemmas.Map.Made.{IsDistinct-from_AllPairs}
 use Rattle.std.proofs.lemmas.Map.Steps.{length-le_from_distinct_below}
 use Rattle.state_store.specs.declared.object.ObjectDecl.{ObjectDecl}
 use Rattle.flat_ir.specs.Program.{Program, Work, step_at, result_count}
-use Rattle.flat_ir.specs.Program.Work.{const, field, apply, shift, select, byte, look, put, del}
+use Rattle.flat_ir.specs.Program.Work.{look}
 use Rattle.split_model.specs.declared.layout.Crossing.{Crossing}
 use Rattle.split_model.specs.declared.split.Part.{Part}
 use Rattle.split_model.specs.Bounds.{IsBounded, HasFewStages}
@@ -62,14 +62,7 @@ few_results f few (look object keys) = by_case f.objects object few
     by_case [] (suc o) few = omega arith
     by_case (d ∷ ds) zero few = let one : length d.values ≤ 8 = few 0 d (omega arith) in omega (arith, one)
     by_case (d ∷ ds) (suc o) few = by_case ds o (λ k x lt. few (suc k) x (omega (arith, lt)))
-few_results f few (const width number) = omega arith
-few_results f few (field name) = omega arith
-few_results f few (apply op width args) = omega arith
-few_results f few (shift op width arg by) = omega arith
-few_results f few (select width cond first second) = omega arith
-few_results f few (byte index) = omega arith
-few_results f few (put object keys values) = omega arith
-few_results f few (del object keys) = omega arith
+few_results f few work = omega arith
 
 -- ---- few stages
 low_highest : (stage : ℕ → Option ℕ) (most : ℕ) → ((i t : ℕ) → stage i ≡ Some t → t ≤ most) → (n : ℕ) → highest_of stage n ≤ most
@@ -129,7 +122,4 @@ module _ (numbers : HasNumbers) (f : Program) (split : List Part) (writeback : �
 pub same_planned : (known known' : List Table) (handed handed' : List Crossing) (pass pass' : PassCode) (n n' : ℕ) → known' ≡ known → handed' ≡ handed → pass' ≡ pass → n' ≡ n
     → CanBePlanned known handed pass n → CanBePlanned known' handed' pass' n'
 same_planned known known' handed handed' pass pass' n n' same_tables same_handed same_pass same_n can =
-    subst (λ k. CanBePlanned known' handed' pass' k) (sym same_n)
-    (subst (λ (p : PassCode). CanBePlanned known' handed' p n) (sym same_pass)
-    (subst (λ (l : List Crossing). CanBePlanned known' l pass n) (sym same_handed)
-    (subst (λ (t : List Table). CanBePlanned t handed pass n) (sym same_tables) can)))
+    rw (same_tables, same_handed, same_pass, same_n) can

@@ -1,17 +1,19 @@
 -- What is emitted can be run.
-use Rattle.std.proofs.Common.{◌≡◌, ℕ, zero, suc, ◌+◌, ◌==◌, ◌<◌, ◌≤◌, Bool, true, false, not, ◌&&◌, List, [], ◌∷◌, ◌++◌, length, Option, Some, None, refl, sym, ap, subst, arith, get_or, slice_get, if◌then◌else◌}
+use Rattle.std.proofs.Common.{◌≡◌, ℕ, zero, suc, ◌+◌, ◌==◌, ◌<◌, ◌≤◌, Bool, true, false, not, ◌&&◌, List, [], ◌∷◌, ◌++◌, length, map, Option, Some, None, refl, sym, ap, subst, arith, get_or, slice_get, if◌then◌else◌}
 use Rattle.std.proofs.lemmas.Bool.{eqb-true}
-use Rattle.std.specs.List.{AllByRecursion as Each, All, filter}
+use Rattle.std.proofs.lemmas.List.Kept.{AllPairs-cons}
+use Rattle.std.specs.List.{AllByRecursion as Each, All, AllPairs, filter}
 use Rattle.state_store.specs.declared.object.ObjectDecl.{ObjectDecl}
 use Rattle.state_store.specs.Kept.{IsKeptObject}
 use Rattle.state_store.specs.Store.{start_object, start_store, object_at}
 use Rattle.flat_ir.specs.declared.program.FieldValue.{FieldValue}
+use Rattle.flat_ir.specs.declared.program.ValueId.{ValueId}
 use Rattle.flat_ir.specs.Operands.{CanRun}
 use Rattle.flat_ir.specs.Program.{Program, step_at}
 use Rattle.flat_ir.specs.WellFormed.{IsWellFormed, IsWritten}
 use Rattle.split_model.specs.declared.split.Part.{Part}
 use Rattle.split_model.specs.Bounds.{IsSmall, IsBounded}
-use Rattle.split_model.specs.Layouts.{up_layout, down_layout}
+use Rattle.split_model.specs.Layouts.{crossing, number_of, up_layout, down_layout}
 use Rattle.split_model.specs.declared.layout.Crossing.{Crossing}
 use Rattle.split_model.specs.Split.{is_pre, is_post, pre_stage, post_stage}
 use Rattle.split_model.specs.Legal.{IsLegal}
@@ -28,13 +30,36 @@ pub each_append : {X : Type 0} (P : X → Type 0) → (xs ys : List X) → Each 
 each_append P [] ys h k = k
 each_append P (x ∷ xs) ys h k = (h.0, each_append P xs ys h.1 k)
 
-each_filter : {X : Type 0} (P : X → Type 0) (test : X → Bool) → (xs : List X) → Each P xs → Each P (filter test xs)
+pub each_of : {X : Type 0} (P : X → Type 0) → ((x : X) → P x) → (xs : List X) → Each P xs
+each_of P all [] = tt
+each_of P all (x ∷ xs) = (all x, each_of P all xs)
+
+pub each_weaker : {X : Type 0} (P Q : X → Type 0) → ((x : X) → P x → Q x) → (xs : List X) → Each P xs → Each Q xs
+each_weaker P Q go [] h = tt
+each_weaker P Q go (x ∷ xs) h = (go x h.0, each_weaker P Q go xs h.1)
+
+pub each_map : {X Y : Type 0} (P : Y → Type 0) (g : X → Y) → (xs : List X) → Each (λ x. P (g x)) xs → Each P (map g xs)
+each_map P g [] h = tt
+each_map P g (x ∷ xs) h = (h.0, each_map P g xs h.1)
+
+pub each_filter : {X : Type 0} (P : X → Type 0) (test : X → Bool) → (xs : List X) → Each (λ x. test x ≡ true → P x) xs → Each P (filter test xs)
 each_filter P test [] h = tt
-each_filter P test (x ∷ xs) h = by_test (test x) (each_filter P test xs h.1)
+each_filter P test (x ∷ xs) h = by_test (test x) refl (each_filter P test xs h.1)
   where
-    by_test : (b : Bool) → Each P (filter test xs) → Each P (if b then x ∷ filter test xs else filter test xs)
-    by_test true rest = (h.0, rest)
-    by_test false rest = rest
+    by_test : (b : Bool) → test x ≡ b → Each P (filter test xs) → Each P (if b then x ∷ filter test xs else filter test xs)
+    by_test true own rest = (h.0 own, rest)
+    by_test false own rest = rest
+
+pub each_get : {X : Type 0} (P : X → Type 0) → (xs : List X) (i : ℕ) (d : X) → Each P xs → i < length xs → P (get_or xs i d)
+each_get P [] i d h lt = absurd (omega (arith, lt))
+each_get P (x ∷ xs) zero d h lt = h.0
+each_get P (x ∷ xs) (suc i) d h lt = each_get P xs i d h.1 (omega (arith, lt))
+
+-- the values of a layout pass its test, and have their numbers
+pub crossing_among : (f : Program) (test : ValueId → Bool) (vs : List ValueId) → Each (λ (c : Crossing). (test c.value ≡ true) × (c.number ≡ number_of f c.value)) (map (crossing f) (filter test vs))
+crossing_among f test vs =
+    each_map (λ (c : Crossing). (test c.value ≡ true) × (c.number ≡ number_of f c.value)) (crossing f) (filter test vs)
+    (each_filter (λ v. (test v ≡ true) × (number_of f v ≡ number_of f v)) test vs (each_of (λ v. test v ≡ true → (test v ≡ true) × (number_of f v ≡ number_of f v)) (λ v own. (own, refl)) vs))
 
 -- ## Instructions
 
@@ -48,7 +73,7 @@ steps_can f stage (suc n) can le =
     each_append CanStep (steps_below f stage n) (placed f n (stage n)) (steps_can f stage n can (omega (arith, le)))
     (one_can f n (stage n) (can n le))
 
--- ## Blocks and fields
+-- ## Blocks
 
 abbrev pub IsBlock : Program → ℕ → Type 0
 IsBlock f b = b ≤ length f.blocks
@@ -63,20 +88,7 @@ rest_there f split well (suc n) le =
     by_test true before = each_append (IsBlock f) (rest_below f split n) ((step_at f n).block ∷ []) before (well.blocks n le, tt)
     by_test false before = before
 
-writable : (f : Program) (ws : List FieldValue) → Each (IsWritten f) ws → Each IsWritable ws
-writable f [] h = tt
-writable f (w ∷ ws) h = (h.0.writable, writable f ws h.1)
-
 -- ## Tables
-
-each_at : {X : Type 0} (P : X → Type 0) → (xs : List X) (j : ℕ) (d : X) → Each P xs → j < length xs → P (get_or xs j d)
-each_at P [] j d h lt = absurd (omega (arith, lt))
-each_at P (x ∷ xs) zero d h lt = h.0
-each_at P (x ∷ xs) (suc j) d h lt = each_at P xs j d h.1 (omega (arith, lt))
-
-pub each_weaker : {X : Type 0} (P Q : X → Type 0) → ((x : X) → P x → Q x) → (xs : List X) → Each P xs → Each Q xs
-each_weaker P Q go [] h = tt
-each_weaker P Q go (x ∷ xs) h = (go x h.0, each_weaker P Q go xs h.1)
 
 abbrev IsFrom : ℕ → Table → Type 0
 IsFrom o t = o ≤ t.number
@@ -95,23 +107,16 @@ from_o f split o (d ∷ ds) =
     by_test false later = later
 
 abbrev Rise : List Table → Type 0
-Rise ts = (i j : ℕ) (d : Table) → i < j → j < length ts → (get_or ts i d).number < (get_or ts j d).number
-
-rise_cons : (t : Table) (ts : List Table) → Each (IsFrom (suc t.number)) ts → Rise ts
-    → (i j : ℕ) (d : Table) → i < j → j < suc (length ts) → (get_or (t ∷ ts) i d).number < (get_or (t ∷ ts) j d).number
-rise_cons t ts above rise i zero d lt within = absurd (omega (arith, lt))
-rise_cons t ts above rise zero (suc j) d lt within = each_at (IsFrom (suc t.number)) ts j d above (omega (arith, within))
-rise_cons t ts above rise (suc i) (suc j) d lt within = rise i j d (omega (arith, lt)) (omega (arith, within))
-
-rise_nil : (i j : ℕ) (d : Table) → i < j → j < 0 → (get_or [] i d).number < (get_or [] j d).number
-rise_nil i j d lt within = absurd (omega (arith, within))
+Rise = AllPairs (λ (a b : Table). a.number < b.number)
 
 tables_rise : (f : Program) (split : List Part) (o : ℕ) (ds : List ObjectDecl) → Rise (tables_from f split o ds)
-tables_rise f split o [] = rise_nil
+tables_rise f split o [] = λ i j d lt within. absurd (omega (arith, within))
 tables_rise f split o (d ∷ ds) = by_test (is_looked_up f split o) (tables_rise f split (suc o) ds)
   where
     by_test : (b : Bool) → Rise (tables_from f split (suc o) ds) → Rise (one_if b o d ++ tables_from f split (suc o) ds)
-    by_test true later = rise_cons (record { number = o; object = d }) (tables_from f split (suc o) ds) (from_o f split (suc o) ds) later
+    by_test true later =
+        AllPairs-cons (λ (a b : Table). a.number < b.number) (record { number = o; object = d }) (tables_from f split (suc o) ds)
+        (λ k x lt. each_get (IsFrom (suc o)) (tables_from f split (suc o) ds) k x (from_o f split (suc o) ds) lt) later
     by_test false later = later
 
 -- what is declared for a table is declared in the program
@@ -177,8 +182,9 @@ module _ (code : Code) (made : IsEmitted code)
     given = steps_can f (given_stage f split) (length f.code) made.runs (omega arith);
     blocks = well.parents;
     rest = rest_there f split well (length f.code) (omega arith);
-    pre_fields = writable f f.fields well.fields;
-    post_fields = each_filter IsWritable (λ (w : FieldValue). is_post split w.value.instruction) f.fields (writable f f.fields well.fields);
+    pre_fields = each_weaker (IsWritten f) IsWritable (λ w is. is.writable) f.fields well.fields;
+    post_fields = each_filter IsWritable (λ (w : FieldValue). is_post split w.value.instruction) f.fields
+        (each_weaker (IsWritten f) (λ w. is_post split w.value.instruction ≡ true → IsWritable w) (λ w is own. is.writable) f.fields well.fields);
     stages = stages f split code.writeback made.bounded made.legal;
     up = (rising f split).0;
     up_needed = up_needed f split made.legal code.writeback;

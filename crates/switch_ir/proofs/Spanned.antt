@@ -16,45 +16,36 @@ use Rattle.transfer_header.specs.Steps.{Steps, Contents, is_among, IsSpanOf, Are
 use Rattle.switch_ir.specs.declared.code.Table.{Table}
 use Rattle.switch_ir.specs.Passes.{Step, PassCode}
 use Rattle.switch_ir.specs.Spans.{Written, results_in, results_of, written_by, handed_in, written_in, is_read_last, last_stage, last_read, span_of, pass_spans, is_read_at, reads_at, writes_at, steps_of, GoesByStages}
-use Rattle.switch_ir.proofs.Soundness.{each_append}
+use Rattle.switch_ir.proofs.Soundness.{each_append, each_get, each_weaker}
 
 -- ---- elements
-pub each_get : {X : Type 0} (P : X → Type 0) → (xs : List X) (i : ℕ) (d : X) → Each P xs → i < length xs → P (get_or xs i d)
-each_get P [] i d h lt = absurd (omega (arith, lt))
-each_get P (x ∷ xs) zero d h lt = h.0
-each_get P (x ∷ xs) (suc i) d h lt = each_get P xs i d h.1 (omega (arith, lt))
-
-pub each_contains : {X : Type 0} (P : X → Type 0) → (xs : List X) (x : X) → Each P xs → Contains xs x → P x
+each_contains : {X : Type 0} (P : X → Type 0) → (xs : List X) (x : X) → Each P xs → Contains xs x → P x
 each_contains P xs x each there = subst P there.2 (each_get P xs there.0 x each there.1)
 
 -- ---- no stage is above the highest
-low_results : (s : Step) (n highest : ℕ) → s.stage ≤ highest → Each (λ w. w.stage ≤ highest) (results_of s n)
-low_results s zero highest low = tt
-low_results s (suc n) highest low =
-    each_append (λ (w : Written). w.stage ≤ highest) (results_of s n) (record { value = record { instruction = s.instruction; result = n }; number = s.first + n; stage = s.stage } ∷ [])
-    (low_results s n highest low) (low, tt)
+module _ (highest : ℕ) where
+  abbrev IsLow : Written → Type 0
+  IsLow w = w.stage ≤ highest
 
-low_by : (tables : List Table) (steps : List Step) (highest : ℕ) → Each (λ s. s.stage ≤ highest) steps → Each (λ w. w.stage ≤ highest) (written_by tables steps)
-low_by tables [] highest low = tt
-low_by tables (s ∷ ss) highest low =
-    each_append (λ (w : Written). w.stage ≤ highest) (results_of s (results_in tables s.work)) (written_by tables ss)
-    (low_results s (results_in tables s.work) highest low.0) (low_by tables ss highest low.1)
+  low_results : (s : Step) (n : ℕ) → s.stage ≤ highest → Each IsLow (results_of s n)
+  low_results s zero low = tt
+  low_results s (suc n) low = each_append IsLow (results_of s n) _ (low_results s n low) (low, tt)
 
-low_given : (steps : List Step) (highest : ℕ) → Each (λ s. s.stage ≡ 0) steps → Each (λ s. s.stage ≤ highest) steps
-low_given [] highest given = tt
-low_given (s ∷ ss) highest given = (omega (arith, given.0), low_given ss highest given.1)
+  low_by : (tables : List Table) (steps : List Step) → Each (λ s. s.stage ≤ highest) steps → Each IsLow (written_by tables steps)
+  low_by tables [] low = tt
+  low_by tables (s ∷ ss) low =
+      each_append IsLow (results_of s (results_in tables s.work)) (written_by tables ss) (low_results s (results_in tables s.work) low.0) (low_by tables ss low.1)
 
-low_handed : (layout : List Crossing) (highest : ℕ) → Each (λ w. w.stage ≤ highest) (handed_in layout)
-low_handed [] highest = tt
-low_handed (c ∷ cs) highest = (omega arith, low_handed cs highest)
+  low_handed : (layout : List Crossing) → Each IsLow (handed_in layout)
+  low_handed [] = tt
+  low_handed (c ∷ cs) = (omega arith, low_handed cs)
 
-pub low_in : (tables : List Table) (handed : List Crossing) (pass : PassCode) → Each (λ s. s.stage ≡ 0) pass.given → Each (λ s. s.stage ≤ pass.highest) pass.steps
-    → Each (λ w. w.stage ≤ pass.highest) (written_in tables handed pass)
-low_in tables handed pass given low =
-    each_append (λ (w : Written). w.stage ≤ pass.highest) (handed_in handed) (written_by tables pass.given ++ written_by tables pass.steps)
-    (low_handed handed pass.highest)
-    (each_append (λ (w : Written). w.stage ≤ pass.highest) (written_by tables pass.given) (written_by tables pass.steps)
-    (low_by tables pass.given pass.highest (low_given pass.given pass.highest given)) (low_by tables pass.steps pass.highest low))
+  low_in : (tables : List Table) (handed : List Crossing) (given steps : List Step) → Each (λ s. s.stage ≡ 0) given → Each (λ s. s.stage ≤ highest) steps
+      → Each IsLow (handed_in handed ++ (written_by tables given ++ written_by tables steps))
+  low_in tables handed given steps first low =
+      each_append IsLow (handed_in handed) (written_by tables given ++ written_by tables steps) (low_handed handed)
+      (each_append IsLow (written_by tables given) (written_by tables steps)
+      (low_by tables given (each_weaker (λ (s : Step). s.stage ≡ 0) (λ s. s.stage ≤ highest) (λ s is. omega (arith, is)) given first)) (low_by tables steps low))
 
 -- ---- no value has two spans
 abbrev one_if : Bool → ℕ
@@ -258,4 +249,4 @@ module _ (had : List Written) (up : List Crossing) (pass : PassCode) (number : �
 pub pass_is_spanned : (tables : List Table) (handed up : List Crossing) (pass : PassCode) (number : ℕ → Contents → Contents) → GoesByStages (written_in tables handed pass) pass
     → AreSpansOf (steps_of tables handed up pass number) (pass_spans tables handed up pass)
 pass_is_spanned tables handed up pass number by =
-    are_spans (written_in tables handed pass) up pass number by (low_in tables handed pass by.given by.low)
+    are_spans (written_in tables handed pass) up pass number by (low_in pass.highest tables handed pass.given pass.steps by.given by.low)

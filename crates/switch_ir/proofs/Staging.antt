@@ -1,5 +1,5 @@
 -- The passes of the code of a legally split program go by stages.
-use Rattle.std.proofs.Common.{◌≡◌, ◌≢◌, ℕ, zero, suc, ◌+◌, ◌<◌, ◌≤◌, true, false, List, [], ◌∷◌, ◌++◌, length, max, Option, Some, None, refl, sym, ap, subst, ◌∙◌, arith, get_or, slice_get, length-append}
+use Rattle.std.proofs.Common.{◌≡◌, ◌≢◌, ℕ, zero, suc, ◌+◌, ◌<◌, ◌≤◌, true, false, List, [], ◌∷◌, ◌++◌, length, max, Option, Some, None, refl, sym, ap, subst, ◌∙◌, arith, get_or, slice_get, append_assoc, add-one}
 use Rattle.std.specs.Prelude.{nat_lt, unwrap_or}
 use Rattle.std.specs.List.{AllByRecursion as Each, AllPairs}
 use Rattle.std.specs.Option.{option_map}
@@ -10,49 +10,60 @@ use Rattle.state_store.specs.declared.object.ObjectDecl.{ObjectDecl}
 use Rattle.flat_ir.specs.declared.program.ValueId.{ValueId}
 use Rattle.flat_ir.specs.Kinds.{is_input}
 use Rattle.flat_ir.specs.Program.{Program, Work, step_at, operands, result_count, is_named}
-use Rattle.flat_ir.specs.Program.Work.{const, field, apply, shift, select, byte, look, put, del}
+use Rattle.flat_ir.specs.Program.Work.{const, field, look}
 use Rattle.split_model.specs.declared.split.Part.{Part}
 use Rattle.split_model.specs.Counts.{stage_or_zero}
 use Rattle.split_model.specs.Crossing.{is_among as is_value_among}
 use Rattle.split_model.specs.Laws.{GoesByStages as ProgramGoesByStages}
-use Rattle.split_model.specs.Layouts.{first_results, values_below, number_of}
+use Rattle.split_model.specs.Layouts.{values_below, number_of}
 use Rattle.switch_ir.specs.declared.code.Table.{Table}
-use Rattle.switch_ir.specs.Emitted.{placed, steps_below, highest_of, tables_from}
+use Rattle.switch_ir.specs.Emitted.{step_for, placed, steps_below, highest_of, tables_from}
 use Rattle.switch_ir.specs.Passes.{Step}
 use Rattle.switch_ir.specs.Spans.{Written, results_in, results_of, written_by}
 use Rattle.switch_ir.specs.Tables.{declared_at}
-use Rattle.switch_ir.proofs.Soundness.{each_append, each_weaker, declared_among}
-use Rattle.switch_ir.proofs.Spanned.{each_get}
+use Rattle.switch_ir.proofs.Places.{values_more}
+use Rattle.switch_ir.proofs.Soundness.{each_append, each_get, each_weaker, declared_among}
 
 -- ---- pairs
 abbrev AreApart : List Written → Type 0
 AreApart had = AllPairs (λ (a b : Written). a.number ≢ b.number) had
 
-pub apart_append : (xs ys : List Written) → AreApart xs → AreApart ys
-    → ((i j : ℕ) (d : Written) → i < length xs → j < length ys → (get_or xs i d).number ≢ (get_or ys j d).number) → AreApart (xs ++ ys)
-apart_append [] ys ax ay cross = ay
-apart_append (x ∷ xs) ys ax ay cross =
+pub apart_append : (P Q : Written → Type 0) → ((a b : Written) → P a → Q b → a.number ≢ b.number) → (xs ys : List Written) → Each P xs → Each Q ys → AreApart xs → AreApart ys
+    → AreApart (xs ++ ys)
+apart_append P Q differ [] ys ps qs ax ay = ay
+apart_append P Q differ (x ∷ xs) ys ps qs ax ay =
     AllPairs-cons (λ (a b : Written). a.number ≢ b.number) x (xs ++ ys)
     (All-append (λ (b : Written). x.number ≢ b.number) xs ys
     (λ k d lt. ax 0 (suc k) d (omega arith) (omega (arith, lt)))
-    (λ k d lt. cross 0 k d (omega arith) lt))
-    (apart_append xs ys (λ i j d lt within. ax (suc i) (suc j) d (omega (arith, lt)) (omega (arith, within))) ay (λ i j d lt within. cross (suc i) j d (omega (arith, lt)) within))
+    (λ k d lt. differ x (get_or ys k d) ps.0 (each_get Q ys k d qs lt)))
+    (apart_append P Q differ xs ys ps.1 qs (λ i j d lt within. ax (suc i) (suc j) d (omega (arith, lt)) (omega (arith, within))) ay)
 
-none_apart : AreApart []
-none_apart i j d lt within = absurd (omega (arith, within))
+-- numbers that rise, from one that is at least this, to one below that
+abbrev Rises : ℕ → List Written → ℕ → Type 0
+Rises low [] high = low ≤ high
+Rises low (w ∷ ws) high = (low ≤ w.number) × Rises (suc w.number) ws high
 
-one_apart : (w : Written) → AreApart (w ∷ [])
-one_apart w i j d lt within = absurd (omega (arith, lt, within))
+rises_append : (low mid high : ℕ) (xs ys : List Written) → Rises low xs mid → Rises mid ys high → Rises low (xs ++ ys) high
+rises_append low mid high [] [] hx hy = omega (arith, hx, hy)
+rises_append low mid high [] (y ∷ ys) hx hy = (omega (arith, hx, hy.0), hy.1)
+rises_append low mid high (x ∷ xs) ys hx hy = (hx.0, rises_append (suc x.number) mid high xs ys hx.1 hy)
+
+above : (low high : ℕ) (ws : List Written) (k : ℕ) (d : Written) → Rises low ws high → k < length ws → low ≤ (get_or ws k d).number
+above low high [] k d rise lt = absurd (omega (arith, lt))
+above low high (w ∷ ws) zero d rise lt = rise.0
+above low high (w ∷ ws) (suc k) d rise lt = omega (arith, rise.0, above (suc w.number) high ws k d rise.1 (omega (arith, lt)))
+
+rises_apart : (low high : ℕ) (ws : List Written) → Rises low ws high → AreApart ws
+rises_apart low high [] rise = λ i j d lt within. absurd (omega (arith, within))
+rises_apart low high (w ∷ ws) rise =
+    AllPairs-cons (λ (a b : Written). a.number ≢ b.number) w ws (λ k d lt e. omega (arith, e, above (suc w.number) high ws k d rise.1 lt))
+    (rises_apart (suc w.number) high ws rise.1)
 
 pub written_append : (tables : List Table) (xs ys : List Step) → written_by tables (xs ++ ys) ≡ written_by tables xs ++ written_by tables ys
 written_append tables [] ys = refl
 written_append tables (x ∷ xs) ys =
     ap (λ l. results_of x (results_in tables x.work) ++ l) (written_append tables xs ys)
-    ∙ sym (appended (results_of x (results_in tables x.work)) (written_by tables xs) (written_by tables ys))
-  where
-    appended : (us vs ws : List Written) → (us ++ vs) ++ ws ≡ us ++ (vs ++ ws)
-    appended [] vs ws = refl
-    appended (u ∷ us) vs ws = ap (λ l. u ∷ l) (appended us vs ws)
+    ∙ sym (append_assoc (results_of x (results_in tables x.work)) (written_by tables xs) (written_by tables ys))
 
 -- ---- how many results
 results_at_most : (f : Program) (split : List Part) (work : Work) → results_in (tables_from f split 0 f.objects) work ≤ result_count f.objects work
@@ -65,14 +76,7 @@ results_at_most f split (look object keys) = by_case (declared_at (tables_from f
         let found = declared_among f split 0 f.objects object d e in
         let at : slice_get f.objects object ≡ Some d = ap (slice_get f.objects) found.1 ∙ ap (slice_get f.objects) (omega arith) ∙ found.2 in
         omega (arith, ap (λ (o : Option ObjectDecl). length (unwrap_or (option_map (λ (x : ObjectDecl). x.values) o) [])) at)
-results_at_most f split (const width number) = omega arith
-results_at_most f split (field name) = omega arith
-results_at_most f split (apply op width args) = omega arith
-results_at_most f split (shift op width arg by) = omega arith
-results_at_most f split (select width cond first second) = omega arith
-results_at_most f split (byte index) = omega arith
-results_at_most f split (put object keys values) = omega arith
-results_at_most f split (del object keys) = omega arith
+results_at_most f split work = omega arith
 
 -- ---- the instructions of a pass, and their values
 module _ (f : Program) (split : List Part) (stage : ℕ → Option ℕ) where
@@ -111,83 +115,31 @@ module _ (f : Program) (split : List Part) (stage : ℕ → Option ℕ) where
   values_are n le = written_are (steps_below f stage n) (steps_are n le)
 
   -- ---- numbers that rise
-  results_below : (s : Step) (n : ℕ) → Each (λ w. w.number < s.first + n) (results_of s n)
-  results_below s zero = tt
-  results_below s (suc n) =
-      each_append (λ w. w.number < s.first + suc n) (results_of s n) (record { value = record { instruction = s.instruction; result = n }; number = s.first + n; stage = s.stage } ∷ [])
-      (each_weaker (λ (w : Written). w.number < s.first + n) (λ w. w.number < s.first + suc n) (λ w lt. omega (arith, lt)) (results_of s n) (results_below s n))
-      (omega arith, tt)
+  results_rise : (s : Step) (n : ℕ) → Rises s.first (results_of s n) (s.first + n)
+  results_rise s zero = omega arith
+  results_rise s (suc n) =
+      rises_append s.first (s.first + n) (s.first + suc n) (results_of s n) (record { value = record { instruction = s.instruction; result = n }; number = s.first + n; stage = s.stage } ∷ [])
+      (results_rise s n) (omega arith, omega arith)
 
-  results_above : (s : Step) (n : ℕ) → Each (λ w. s.first ≤ w.number) (results_of s n)
-  results_above s zero = tt
-  results_above s (suc n) =
-      each_append (λ w. s.first ≤ w.number) (results_of s n) (record { value = record { instruction = s.instruction; result = n }; number = s.first + n; stage = s.stage } ∷ [])
-      (results_above s n) (omega arith, tt)
+  more_values : (n : ℕ) → length (values_below f n) + result_count f.objects (step_at f n).work ≡ length (values_below f (suc n))
+  more_values n = values_more f n (length (values_below f n)) (result_count f.objects (step_at f n).work) refl refl ∙ ap (λ k. length (values_below f k)) (add-one n)
 
-  results_apart : (s : Step) (n : ℕ) → AreApart (results_of s n)
-  results_apart s zero = none_apart
-  results_apart s (suc n) =
-      let one : Written = record { value = record { instruction = s.instruction; result = n }; number = s.first + n; stage = s.stage } in
-      apart_append (results_of s n) (one ∷ []) (results_apart s n) (one_apart one)
-      (λ i j d lt within e. omega (
-        arith,
-        each_get (λ (w : Written). w.number < s.first + n) (results_of s n) i d (results_below s n) lt,
-        each_get (λ (w : Written). w.number ≡ s.first + n) (one ∷ []) j d (refl, tt) within,
-        e,
-      ))
+  placed_rise : (n : ℕ) (o : Option ℕ) → Rises (length (values_below f n)) (written_by tables (placed f n o)) (length (values_below f (suc n)))
+  placed_rise n None = omega (arith, more_values n)
+  placed_rise n (Some t) =
+      let count = results_in tables (step_at f n).work in
+      rises_append (length (values_below f n)) (length (values_below f n) + count) (length (values_below f (suc n))) (results_of (step_for f n t) count) []
+      (results_rise (step_for f n t) count) (omega (arith, more_values n, results_at_most f split (step_at f n).work))
 
-  more_values : (n : ℕ) → length (values_below f (suc n)) ≡ length (values_below f n) + result_count f.objects (step_at f n).work
-  more_values n = length-append (values_below f n) (first_results n (result_count f.objects (step_at f n).work)) ∙ ap (λ k. length (values_below f n) + k) (count n (result_count f.objects (step_at f n).work))
-    where
-      count : (i n : ℕ) → length (first_results i n) ≡ n
-      count i zero = refl
-      count i (suc n) = length-append (first_results i n) (record { instruction = i; result = n } ∷ []) ∙ omega (arith, count i n)
-
-  placed_below : (n : ℕ) (o : Option ℕ) → Each (λ w. w.number < length (values_below f (suc n))) (written_by tables (placed f n o))
-  placed_below n None = tt
-  placed_below n (Some t) =
-      let work = (step_at f n).work in
-      let s : Step = record { instruction = n; stage = t; first = length (values_below f n); work = work } in
-      each_append (λ w. w.number < length (values_below f (suc n))) (results_of s (results_in tables work)) []
-      (each_weaker (λ (w : Written). w.number < s.first + results_in tables work) (λ w. w.number < length (values_below f (suc n)))
-      (λ w lt. omega (arith, lt, more_values n, results_at_most f split work)) (results_of s (results_in tables work)) (results_below s (results_in tables work)))
-      tt
-
-  placed_above : (n : ℕ) (o : Option ℕ) → Each (λ w. length (values_below f n) ≤ w.number) (written_by tables (placed f n o))
-  placed_above n None = tt
-  placed_above n (Some t) =
-      let work = (step_at f n).work in
-      let s : Step = record { instruction = n; stage = t; first = length (values_below f n); work = work } in
-      each_append (λ w. length (values_below f n) ≤ w.number) (results_of s (results_in tables work)) [] (results_above s (results_in tables work)) tt
-
-  placed_apart : (n : ℕ) (o : Option ℕ) → AreApart (written_by tables (placed f n o))
-  placed_apart n None = none_apart
-  placed_apart n (Some t) =
-      let work = (step_at f n).work in
-      let s : Step = record { instruction = n; stage = t; first = length (values_below f n); work = work } in
-      apart_append (results_of s (results_in tables work)) [] (results_apart s (results_in tables work)) none_apart (λ i j d lt within. absurd (omega (arith, within)))
-
-  below : (n : ℕ) → Each (λ w. w.number < length (values_below f n)) (written_by tables (steps_below f stage n))
-  below zero = tt
-  below (suc n) =
-      subst (Each (λ w. w.number < length (values_below f (suc n)))) (sym (written_append tables (steps_below f stage n) (placed f n (stage n))))
-      (each_append (λ w. w.number < length (values_below f (suc n))) (written_by tables (steps_below f stage n)) (written_by tables (placed f n (stage n)))
-      (each_weaker (λ (w : Written). w.number < length (values_below f n)) (λ w. w.number < length (values_below f (suc n))) (λ w lt. omega (arith, lt, more_values n)) (written_by tables (steps_below f stage n)) (below n))
-      (placed_below n (stage n)))
+  steps_rise : (n : ℕ) → Rises 0 (written_by tables (steps_below f stage n)) (length (values_below f n))
+  steps_rise zero = omega arith
+  steps_rise (suc n) =
+      subst (λ l. Rises 0 l (length (values_below f (suc n)))) (sym (written_append tables (steps_below f stage n) (placed f n (stage n))))
+      (rises_append 0 (length (values_below f n)) (length (values_below f (suc n))) (written_by tables (steps_below f stage n)) (written_by tables (placed f n (stage n)))
+      (steps_rise n) (placed_rise n (stage n)))
 
   pub steps_apart : (n : ℕ) → AreApart (written_by tables (steps_below f stage n))
-  steps_apart zero = none_apart
-  steps_apart (suc n) =
-      let front = written_by tables (steps_below f stage n) in
-      let back = written_by tables (placed f n (stage n)) in
-      subst AreApart (sym (written_append tables (steps_below f stage n) (placed f n (stage n))))
-      (apart_append front back (steps_apart n) (placed_apart n (stage n))
-      (λ i j d lt within e. omega (
-        arith,
-        each_get (λ (w : Written). w.number < length (values_below f n)) front i d (below n) lt,
-        each_get (λ (w : Written). length (values_below f n) ≤ w.number) back j d (placed_above n (stage n)) within,
-        e,
-      )))
+  steps_apart n = rises_apart 0 (length (values_below f n)) (written_by tables (steps_below f stage n)) (steps_rise n)
 
   -- ---- stages
   pub low_steps : (n : ℕ) → Each (λ s. s.stage ≤ highest_of stage n) (steps_below f stage n)
@@ -212,13 +164,7 @@ module _ (f : Program) (split : List Part) (stage : ℕ → Option ℕ) where
   no_input : (v : ValueId) (work : Work) → is_value_among v (operands work) ≡ true → is_input work ≡ false
   no_input v (const width number) e = absurd (false≢true e)
   no_input v (field name) e = absurd (false≢true e)
-  no_input v (apply op width args) e = refl
-  no_input v (shift op width arg by) e = refl
-  no_input v (select width cond first second) e = refl
-  no_input v (byte index) e = refl
-  no_input v (look object keys) e = refl
-  no_input v (put object keys values) e = refl
-  no_input v (del object keys) e = refl
+  no_input v work e = refl
 
   -- and it reads nothing at stage 0
   pub reads_given : ProgramGoesByStages f stage → (steps : List Step) (had : List Written) → Each IsStepOf steps → Each (λ w. w.stage ≡ 0) had

@@ -19,10 +19,14 @@ pub record AreNoted (n : ℕ) (last : ValueId → ℕ) (steps : List ℕ) : Type
   pub count : length steps ≡ 9 * n
   pub exact : (v : ValueId) → v.instruction < n → v.result < 9 → noted steps v ≡ last v
 
--- the numbers after are those before, but that values of this test are read at this step besides
+-- the numbers after are those before, but that each value is read at this step besides
+abbrev pub Adds : (ValueId → ℕ) → List ℕ → List ℕ → Type 0
+Adds more before after =
+    (n : ℕ) (last : ValueId → ℕ) → AreNoted n last before → AreNoted n (λ v. max (last v) (more v)) after
+
+-- values of this test are read at this step besides
 abbrev pub Raises : (ValueId → Bool) → ℕ → List ℕ → List ℕ → Type 0
-Raises test step before after =
-    (n : ℕ) (last : ValueId → ℕ) → AreNoted n last before → AreNoted n (λ v. max (last v) (step_if (test v) step)) after
+Raises test step = Adds (λ v. step_if (test v) step)
 
 -- values that have a number there
 abbrev pub IsInside : ℕ → Written → Type 0

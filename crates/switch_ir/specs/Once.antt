@@ -9,7 +9,7 @@ use Rattle.flat_ir.specs.declared.program.FieldValue.{FieldValue}
 use Rattle.flat_ir.specs.Operands.{CanRun}
 use Rattle.flat_ir.specs.declared.spans.Span.{Span}
 use Rattle.flat_ir.specs.Program.{Work, operands}
-use Rattle.flat_ir.specs.Program.Work.{const, field, apply, shift, select, byte, look, put, del}
+use Rattle.flat_ir.specs.Program.Work.{apply, shift, look}
 use Rattle.split_model.specs.declared.layout.Crossing.{Crossing}
 use Rattle.split_model.specs.Crossing.{is_among}
 use Rattle.transfer_header.specs.Registers.{IsRising}
@@ -22,12 +22,7 @@ can_run_prop : (work : Work) → IsProp (CanRun work)
 can_run_prop (apply op width args) = ×_prop (Coded-set coded_ℕ _ _) le_prop
 can_run_prop (shift op width arg by) = Coded-set coded_ℕ _ _
 can_run_prop (look object keys) = le_prop
-can_run_prop (const width number) = Unit-prop
-can_run_prop (field name) = Unit-prop
-can_run_prop (select width cond first second) = Unit-prop
-can_run_prop (byte index) = Unit-prop
-can_run_prop (put object keys values) = Unit-prop
-can_run_prop (del object keys) = Unit-prop
+can_run_prop work = Unit-prop
 
 pub can_step_prop : (steps : List Step) → IsProp (AllByRecursion CanStep steps)
 can_step_prop = AllByRecursion-prop CanStep (λ s. can_run_prop s.work)

@@ -1,16 +1,15 @@
 //! For how long the values of a pass are needed, and the registers that they are in.
-ghost use Rattle.std.specs.Prelude.{◌≡◌, ◌≤◌, ◌<◌, ◌+◌, ◌^◌, ◌++◌, ◌||◌, ◌∷◌, [], Bool, ℕ, suc, length, map, max};
+ghost use Rattle.std.specs.Prelude.{◌≡◌, ◌≤◌, ◌<◌, ◌+◌, ◌^◌, ◌++◌, ◌||◌, ◌∷◌, [], Bool, ℕ, suc, length, map};
 ghost use Rattle.std.specs.Prelude.{unwrap_or, IfOk, OnOk};
 ghost use Rattle.std.specs.List.{list_any, AllByRecursion as Each};
 ghost use Rattle.std.specs.Option.{option_map};
 ghost use Rattle.state_store.specs.declared.object.ObjectDecl.{ObjectDecl};
-ghost use Rattle.flat_ir.specs.declared.program.ValueId.{ValueId};
 ghost use Rattle.flat_ir.specs.Blocks.{line, HasLowParents};
 ghost use Rattle.flat_ir.specs.Program.{work_of};
 ghost use Rattle.split_model.specs.Crossing.{is_value, is_among};
 ghost use Rattle.transfer_header.specs.BlockSteps.{greatest, step_if};
 ghost use Rattle.transfer_header.specs.Plans.{IsPlanOf};
-ghost use Rattle.switch_ir.specs.LastReads.{AreNoted, AreInside, Raises, CanBePlanned, HaveFewValues};
+ghost use Rattle.switch_ir.specs.LastReads.{noted, AreNoted, Adds, Raises, CanBePlanned, HaveFewValues};
 ghost use Rattle.switch_ir.specs.Passes.{pass_of, pass_step_of};
 ghost use Rattle.switch_ir.specs.Spans.{handed_in, is_condition, is_tested, last_read, last_stage, pass_spans};
 ghost use Rattle.switch_ir.specs.Spans.{results_in, results_of, span_of, written_by, AreNumbered};
@@ -26,8 +25,7 @@ use transfer_header::{BlockSteps, plans_of_spans};
 
 // Notes what the instructions of a pass read.
 fn note_steps(pass: &Pass, last: &mut LastReads)
-    ensures { (n : ℕ) (reads : ValueId → ℕ) → AreNoted n reads last.old
-        → AreNoted n (λ v. max (reads v) (last_stage (pass_of pass.now).steps v)) last.new }
+    ensures { Adds (last_stage (pass_of pass.now).steps) last.old last.new }
 {
     for step in pass.steps.as_slice() {
         last.note_operands(&step.kind, step.stage);
@@ -62,8 +60,7 @@ fn tested_blocks(alloc: Global, pass: &Pass, step: u32) -> Result<BlockSteps, No
 // Notes that the condition of each block is read at the block's step.
 fn note_conditions(blocks: &Blocks, steps: &BlockSteps, last: &mut LastReads)
     requires count { length steps.now ≡ suc (length blocks.now) }
-    ensures { (n : ℕ) (reads : ValueId → ℕ) → AreNoted n reads last.old
-        → AreNoted n (λ v. max (reads v) (greatest (is_condition blocks.now v) steps.now)) last.new }
+    ensures { Adds (λ v. greatest (is_condition blocks.now v) steps.now) last.old last.new }
 {
     for (place, block) in blocks.as_slice().iter().enumerate() {
         last.note(block.cond, steps.at(place + 1));
@@ -86,10 +83,10 @@ fn note_out(out: &Out, step: u32, last: &mut LastReads)
     ensures { Raises (λ v. is_among v (out.now.send ∷ out.now.port ∷ [])
         || list_any (λ w. is_value v w.value) out.now.fields.items) step last.old last.new }
 {
-    last.note_all(&[out.send, out.port], step);
     for written in &out.fields {
         last.note(written.value, step);
     }
+    last.note_all(&[out.send, out.port], step);
 }
 
 // When each value of a pass is read last, which hands up the values of a layout.
@@ -115,8 +112,7 @@ fn last_reads(
 
 // The span of a value that a stage writes.
 fn span(value: ValueId, number: u32, stage: u32, last: &LastReads) -> Span
-    ensures { (n : ℕ) (reads : ValueId → ℕ) → AreNoted n reads last.now → value.instruction < n → value.result < 9
-        → result ≡ span_of reads (record { value = value; number = number; stage = stage }) }
+    ensures { result ≡ span_of (noted last.now) (record { value = value; number = number; stage = stage }) }
 {
     Span {
         value: number,
@@ -159,9 +155,8 @@ fn push_results(
 ) -> Result<(), NoMemory>
     requires few { count ≤ 9 }
     requires numbers { AreNumbered (2 ^ 32) (results_of (pass_step_of step.now) count) }
-    ensures { (n : ℕ) (reads : ValueId → ℕ) → AreNoted n reads last.now
-        → AreInside n (results_of (pass_step_of step.now) count)
-        → OnOk result (spans.new ≡ spans.old ++ map (span_of reads) (results_of (pass_step_of step.now) count)) }
+    ensures { OnOk result (spans.new
+        ≡ spans.old ++ map (span_of (noted last.now)) (results_of (pass_step_of step.now) count)) }
 {
     for result in 0..count {
         let value = ValueId {
@@ -181,9 +176,8 @@ fn push_steps(
     last: &LastReads,
 ) -> Result<(), NoMemory>
     requires { AreNumbered (2 ^ 32) (written_by tables.now (map pass_step_of steps.now)) }
-    ensures { (n : ℕ) (reads : ValueId → ℕ) → AreNoted n reads last.now
-        → AreInside n (written_by tables.now (map pass_step_of steps.now))
-        → OnOk result (spans.new ≡ spans.old ++ map (span_of reads) (written_by tables.now (map pass_step_of steps.now))) }
+    ensures { OnOk result (spans.new
+        ≡ spans.old ++ map (span_of (noted last.now)) (written_by tables.now (map pass_step_of steps.now))) }
 {
     for step in steps.as_slice() {
         push_results(spans, step, results(tables, &step.kind), last)?;
@@ -193,8 +187,7 @@ fn push_steps(
 
 // Puts the spans of the values last that a frame hands in.
 fn push_handed(spans: &mut Spans, layout: &Layout, last: &LastReads) -> Result<(), NoMemory>
-    ensures { (n : ℕ) (reads : ValueId → ℕ) → AreNoted n reads last.now → AreInside n (handed_in layout.now)
-        → OnOk result (spans.new ≡ spans.old ++ map (span_of reads) (handed_in layout.now)) }
+    ensures { OnOk result (spans.new ≡ spans.old ++ map (span_of (noted last.now)) (handed_in layout.now)) }
 {
     for crossing in layout.as_slice() {
         spans.push(span(crossing.value, crossing.number, 0, last))?;

@@ -1,6 +1,6 @@
 use Rattle.std.proofs.Common.{◌∙◌, ◌+◌, ◌++◌, ◌<◌, ◌^◌, List, map, take, ap, sym, subst, arith}
 use Rattle.switch_ir.specs.declared.code.PassStep.{PassStep}
-use Rattle.switch_ir.specs.LastReads.{AreInside, IsInside}
+use Rattle.switch_ir.specs.LastReads.{noted}
 use Rattle.switch_ir.specs.Passes.{pass_step_of}
 use Rattle.switch_ir.specs.Spans.{results_in, results_of, written_by, span_of, AreNumbered, Written}
 use Rattle.switch_ir.proofs.Listing.{steps_at, steps_all, written_more, pushed_all}
@@ -21,18 +21,14 @@ loop-step-preserved c =
     let i = c.loop-step.step-index in
     let tables = c.args.tables.now in
     let x = c.step-item.result in
-    λ n reads are inside.
-    let all = subst (λ (l : List PassStep). AreInside n (written_by tables (map pass_step_of l))) (sym c.as_slice-step-items.ensures) inside in
-    let here = steps_at (IsInside n) tables items i x c.loop-step-test.true c.step-item.is all in
-    let put = c.in_ok-push_results.ensures n reads are (subst (λ k. AreInside n (results_of (pass_step_of x) k)) (sym c.results.ensures.value) here) in
+    let reads = noted c.args.last.now in
     pushed_all c.args.spans.now c.loop-step.spans c.push_results.new.spans (written_by tables (map pass_step_of (take i items))) (written_by tables (map pass_step_of (take (i + 1) items)))
     (results_of (pass_step_of x) (results_in tables (pass_step_of x).work)) reads
-    (put ∙ ap (λ k. c.loop-step.spans ++ map (span_of reads) (results_of (pass_step_of x) k)) c.results.ensures.value)
-    (c.loop-step.invariant n reads are inside) (written_more tables items i x c.loop-step-test.true c.step-item.is)
+    (c.in_ok-push_results.ensures ∙ ap (λ k. c.loop-step.spans ++ map (span_of reads) (results_of (pass_step_of x) k)) c.results.ensures.value)
+    c.loop-step.invariant (written_more tables items i x c.loop-step-test.true c.step-item.is)
 
 pub returns : goal.returns
 returns c =
     let items = c.as_slice-step-items.result.now in
-    λ n reads are inside.
-    c.loop-step.invariant n reads are inside
-    ∙ ap (λ l. c.args.spans.now ++ map (span_of reads) (written_by c.args.tables.now l)) (steps_all items c.args.steps.now c.loop-step.step-index (omega arith) c.as_slice-step-items.ensures)
+    c.loop-step.invariant
+    ∙ ap (λ l. c.args.spans.now ++ map (span_of (noted c.args.last.now)) (written_by c.args.tables.now l)) (steps_all items c.args.steps.now c.loop-step.step-index (omega arith) c.as_slice-step-items.ensures)
