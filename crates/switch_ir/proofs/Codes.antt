@@ -1,5 +1,5 @@
 -- Code by its parts.
-use Rattle.std.proofs.Common.{◌≡◌, List, length, sym, subst}
+use Rattle.std.proofs.Common.{◌≡◌, List, length}
 use Rattle.flat_ir.specs.Plan.{RegisterPlan}
 use Rattle.split_model.specs.declared.layout.Crossing.{Crossing}
 use Rattle.transfer_header.specs.Plans.{IsPlanOf}

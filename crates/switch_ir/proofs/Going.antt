@@ -1,6 +1,6 @@
 -- Both passes of the code of a legally split program go by stages.
-use Rattle.std.proofs.Common.{◌≡◌, ◌≢◌, ℕ, zero, suc, ◌<◌, ◌≤◌, Bool, true, false, not, ◌&&◌, ◌||◌, List, [], ◌∷◌, ◌++◌, length, map, Option, Some, None, is_some, refl, sym, ap, ◌∙◌, inl, inr, arith, get_or, slice_get, if◌then◌else◌}
-use Rattle.std.specs.List.{AllByRecursion as Each, AllPairs, filter}
+use Rattle.std.proofs.Common.{◌≡◌, ◌≢◌, ℕ, suc, ◌<◌, ◌≤◌, Bool, true, false, not, ◌&&◌, ◌||◌, List, [], ◌∷◌, ◌++◌, length, Option, Some, None, is_some, refl, sym, ap, ◌∙◌, inl, inr, arith, slice_get, if◌then◌else◌}
+use Rattle.std.specs.List.{AllByRecursion as Each, AllPairs}
 use Rattle.std.specs.Prelude.{nat_lt}
 use Rattle.std.proofs.lemmas.Bool.{cases_lt, and_parts, ltb-true, false≢true}
 use Rattle.std.proofs.lemmas.List.Elements.{All-map}
@@ -10,9 +10,9 @@ use Rattle.flat_ir.specs.declared.program.ValueId.{ValueId}
 use Rattle.flat_ir.specs.Program.{Program, Work, step_at, operands, result_count, is_named}
 use Rattle.split_model.specs.declared.layout.Crossing.{Crossing}
 use Rattle.split_model.specs.declared.split.Part.{Part}
-use Rattle.split_model.specs.Crossing.{is_among as is_value_among, is_at_hand, is_read_by, crosses_down}
+use Rattle.split_model.specs.Crossing.{is_among as is_value_among, is_at_hand, crosses_down}
 use Rattle.split_model.specs.Laws.{GoesByStages as ProgramGoesByStages}
-use Rattle.split_model.specs.Layouts.{values_of, number_of, crossing, down_layout}
+use Rattle.split_model.specs.Layouts.{values_of, number_of, down_layout}
 use Rattle.split_model.specs.Split.{is_post, pre_stage, post_stage}
 use Rattle.transfer_header.specs.Registers.{IsRising}
 use Rattle.switch_ir.specs.declared.code.Table.{Table}
@@ -22,7 +22,7 @@ use Rattle.switch_ir.specs.Passes.{Step}
 use Rattle.switch_ir.specs.Spans.{Written, written_by, handed_in, GoByStages}
 use Rattle.switch_ir.proofs.Givens.{one_result}
 use Rattle.switch_ir.proofs.Handing.{HasNumbers, crossing_parts}
-use Rattle.switch_ir.proofs.Soundness.{each_append, each_get, each_map, each_weaker, crossing_among}
+use Rattle.switch_ir.proofs.Soundness.{each_append, each_map, each_weaker, crossing_among}
 use Rattle.switch_ir.proofs.Staging.{apart_append, IsStepOf, IsValueOf, steps_are, values_are, steps_apart, low_steps, reads_lower, reads_given, named}
 
 abbrev AreApart : List Written → Type 0

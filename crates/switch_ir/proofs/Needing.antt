@@ -1,7 +1,7 @@
 -- What goes up is needed after the last stage, and what comes down before the first.
 use Rattle.std.proofs.Common.{◌≡◌, ℕ, zero, suc, ◌+◌, ◌-◌, ◌==◌, ◌<◌, ◌≤◌, Bool, true, false, not, ◌&&◌, ◌||◌, List, [], ◌∷◌, ◌++◌, length, map, max, Option, Some, None, is_some, refl, sym, ap, subst, ◌∙◌, inl, inr, arith, get_or, slice_get, if◌then◌else◌}
 use Rattle.std.specs.Prelude.{nat_le, nat_lt, All, unwrap_or}
-use Rattle.std.specs.List.{AllByRecursion as Each, list_any, filter}
+use Rattle.std.specs.List.{list_any}
 use Rattle.std.specs.Option.{option_map}
 use Rattle.std.proofs.lemmas.Bool.{cases_lt, and_from, and_parts, eq-eqb, ne_eqb, le-leb, ltb-true, or_left, or_right, true≢false, false≢true}
 use Rattle.std.proofs.lemmas.List.Folds.{list_any-append, list_any_at}
@@ -15,15 +15,15 @@ use Rattle.flat_ir.specs.Program.Work.{look}
 use Rattle.flat_ir.specs.Spans.{covers, last_step}
 use Rattle.split_model.specs.declared.layout.Crossing.{Crossing}
 use Rattle.split_model.specs.declared.split.Part.{Part}
-use Rattle.split_model.specs.Counts.{stage_or_zero, is_post_shown}
+use Rattle.split_model.specs.Counts.{is_post_shown}
 use Rattle.split_model.specs.Crossing.{is_value, is_among, is_read_by, guards_write, is_written_value, crosses_up, crosses_down}
-use Rattle.split_model.specs.Layouts.{values_below, values_of, number_of, crossing, up_layout, down_layout}
+use Rattle.split_model.specs.Layouts.{values_below, values_of, number_of, up_layout, down_layout}
 use Rattle.split_model.specs.Legal.{IsLegal}
 use Rattle.split_model.specs.Shown.{looks_at, is_shown}
 use Rattle.split_model.specs.Split.{is_carried, is_pre, is_server, pre_stage}
 use Rattle.transfer_header.specs.Steps.{IsNeeded}
 use Rattle.switch_ir.specs.declared.code.Table.{Table}
-use Rattle.switch_ir.specs.Emitted.{placed, steps_below, highest_of, is_looked_up, tables_from, emitted}
+use Rattle.switch_ir.specs.Emitted.{placed, steps_below, is_looked_up, tables_from, emitted}
 use Rattle.switch_ir.specs.Passes.{Step, PassCode}
 use Rattle.switch_ir.specs.Spans.{Written, results_in, results_of, written_by, handed_in, is_read_last, is_tested, last_read, span_of, pre_spans, post_spans}
 use Rattle.switch_ir.specs.Tables.{declared_at}
