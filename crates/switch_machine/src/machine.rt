@@ -7,6 +7,7 @@ ghost use Rattle.state_store.specs.declared.object.ObjectDecl.{ObjectDecl};
 ghost use Rattle.writeback_table.specs.Pair.{visible_rows};
 ghost use Rattle.switch_ir.specs.Code.{code_of, Code};
 ghost use Rattle.switch_ir.specs.Emitted.{IsEmitted};
+ghost use Rattle.switch_ir.specs.Journal.{entry_of};
 ghost use Rattle.switch_ir.specs.Sound.{CanBeRun};
 ghost use Rattle.switch_ir.specs.Tables.{pair_at, told_after, IsStart, Told};
 ghost use Rattle.switch_ir.specs.UnderWay.{none_under_way};
@@ -25,6 +26,7 @@ ghost use Rattle.switch_machine.specs.Kept.{safe_prop, AreSafe};
 ghost use Rattle.switch_machine.specs.Loading.{code_in};
 ghost use Rattle.switch_machine.specs.Machine.{fails_next, seen_of};
 ghost use Rattle.switch_machine.specs.Ranges.{AreOrdered};
+ghost use Rattle.switch_machine.specs.Staging.{with_entry};
 
 use crate::calls::{CallKind, Calls, count, is_planned};
 use crate::loaded::Loaded;
@@ -33,7 +35,7 @@ use gal_io::NoMemory;
 use state_store::Rows;
 use std::alloc::Global;
 use switch_ir::{
-    CommandEnd, DownEnd, Entry, Journal, PortEnd, RowsEnd, SwitchCode, SwitchPort, UpEnd,
+    Call, CommandEnd, DownEnd, Journal, PortEnd, RowsEnd, SwitchCode, SwitchPort, UpEnd,
     what_is_emitted_can_be_run,
 };
 use writeback_table::{Command, what_a_lookup_sees};
@@ -152,13 +154,11 @@ impl ModelSwitch {
     }
 
     // Puts a call last in the journal.
-    pub(crate) fn note(&mut self, entry: Entry) -> Result<(), NoMemory>
-        ensures ok { let old = machine_of self.old in
-            OnOk result (machine_of self.new
-            ≡ record old { journal = record old.journal { entries = old.journal.entries ++ entry ∷ [] } }) }
+    pub(crate) fn note(&mut self, call: Call<'_>) -> Result<(), NoMemory>
+        ensures ok { OnOk result (machine_of self.new ≡ with_entry (entry_of call.entry) (machine_of self.old)) }
         ensures err { OnErr result (machine_of self.new ≡ machine_of self.old) }
     {
-        self.journal.push(entry)
+        self.journal.note(call)
     }
 
     fn try_load(&mut self, alloc: Global, code: &SwitchCode) -> Result<(), NoMemory>
@@ -176,7 +176,7 @@ impl ModelSwitch {
     {
         let tables = SwitchTables::start(alloc, code)?;
         let mut journal = Journal::new(alloc);
-        journal.push(Entry::Load)?;
+        journal.note(Call::Load)?;
         self.loaded = Some(Loaded::new(alloc, code)?);
         self.tables = tables;
         self.journal = journal;
@@ -196,7 +196,7 @@ impl ModelSwitch {
             × (machine_of self.new ≡ record old { journal = record old.journal { spare = spare } })) }
     {
         self.journal.reserve(commands)?;
-        self.note(Entry::Room(commands))
+        self.note(Call::Room(commands))
     }
 
     // Applies a command to the tables.
@@ -234,7 +234,7 @@ impl ModelSwitch {
     {
         what_a_lookup_sees();
         let rows = self.tables.rows(alloc, object)?;
-        self.note(Entry::Visible(object))?;
+        self.note(Call::Visible(object))?;
         Ok(rows)
     }
 }

@@ -17,9 +17,9 @@ ghost use Rattle.switch_machine.specs.declared.sides.Side.TheVariants.{Before, B
 
 use crate::machine::ModelSwitch;
 use crate::sides::{Outcome, Side};
-use gal_io::{Bytes, NoMemory};
+use gal_io::NoMemory;
 use std::alloc::Global;
-use switch_ir::{DownEnd, Entry, UpEnd};
+use switch_ir::{Call, DownEnd, UpEnd};
 
 impl ModelSwitch {
     ghost use Rattle.switch_machine.specs.Views.{machine_of};
@@ -47,13 +47,13 @@ impl ModelSwitch {
         ensures err { OnErr result (machine_of self.new ≡ machine_of self.old) }
     {
         if fails {
-            self.note_up(alloc, number, port, packet, &UpEnd::Failed, whole)?;
+            self.note_up(number, port, packet, &UpEnd::Failed, whole)?;
             self.count_fault(true);
             return Ok(UpEnd::Failed);
         }
         let outcome = self.arrive(alloc, number, port, packet, whole)?;
         let end = outcome.up();
-        match self.note_up(alloc, number, port, packet, &end, whole) {
+        match self.note_up(number, port, packet, &end, whole) {
             Ok(()) => Ok(end),
             Err(failed) => {
                 self.undo(Side::Before, number, is_going_up(&end));
@@ -96,7 +96,6 @@ impl ModelSwitch {
     // Notes that a packet arrived, and what became of it.
     fn note_up(
         &mut self,
-        alloc: Global,
         number: u32,
         port: u8,
         packet: &[u8],
@@ -107,22 +106,10 @@ impl ModelSwitch {
             else entry.BeginUp number port packet.now end.now) (machine_of self.old)) }
         ensures err { OnErr result (machine_of self.new ≡ machine_of self.old) }
     {
-        let packet = Bytes::from_slice(alloc, packet)?;
-        let answer = end.copy(alloc)?;
         if whole {
-            return self.note(Entry::Up {
-                number,
-                port,
-                packet,
-                answer,
-            });
+            return self.note(Call::Up(number, port, packet, end));
         }
-        self.note(Entry::BeginUp {
-            number,
-            port,
-            packet,
-            answer,
-        })
+        self.note(Call::BeginUp(number, port, packet, end))
     }
 
     /// A frame comes down, where the call fails or doesn't. The pass of its packet begins, or goes to its end at once
@@ -146,14 +133,14 @@ impl ModelSwitch {
         ensures err { OnErr result (machine_of self.new ≡ machine_of self.old) }
     {
         if fails {
-            self.note_down(alloc, frame, &DownEnd::Failed, whole)?;
+            self.note_down(frame, &DownEnd::Failed, whole)?;
             self.count_fault(true);
             return Ok(DownEnd::Failed);
         }
         let made = self.come_down(alloc, frame, whole)?;
         let (number, outcome) = made;
         let end = outcome.down();
-        match self.note_down(alloc, frame, &end, whole) {
+        match self.note_down(frame, &end, whole) {
             Ok(()) => Ok(end),
             Err(failed) => {
                 self.undo(Side::Behind, number, is_going_down(&end));
@@ -194,23 +181,15 @@ impl ModelSwitch {
     }
 
     // Notes that a frame came down, and what became of its packet.
-    fn note_down(
-        &mut self,
-        alloc: Global,
-        frame: &[u8],
-        end: &DownEnd,
-        whole: bool,
-    ) -> Result<(), NoMemory>
+    fn note_down(&mut self, frame: &[u8], end: &DownEnd, whole: bool) -> Result<(), NoMemory>
         ensures ok { OnOk result (machine_of self.new ≡ with_entry (if whole then entry.Down frame.now end.now
             else entry.BeginDown frame.now end.now) (machine_of self.old)) }
         ensures err { OnErr result (machine_of self.new ≡ machine_of self.old) }
     {
-        let frame = Bytes::from_slice(alloc, frame)?;
-        let answer = end.copy(alloc)?;
         if whole {
-            return self.note(Entry::Down { frame, answer });
+            return self.note(Call::Down(frame, end));
         }
-        self.note(Entry::BeginDown { frame, answer })
+        self.note(Call::BeginDown(frame, end))
     }
 
     // Ends the pass over the packet of this number at a side, where it has begun just now.
@@ -243,15 +222,13 @@ impl ModelSwitch {
         ensures err { OnErr result (machine_of self.new ≡ machine_of self.old) }
     {
         if fails {
-            let answer = UpEnd::Failed;
-            self.note(Entry::StageUp { number, answer })?;
+            self.note(Call::StageUp(number, &UpEnd::Failed))?;
             self.count_fault(true);
             return Ok(UpEnd::Failed);
         }
         let outcome = self.next(alloc, Side::Before, number)?;
         let end = outcome.up();
-        let answer = end.copy(alloc)?;
-        self.note(Entry::StageUp { number, answer })?;
+        self.note(Call::StageUp(number, &end))?;
         self.settle(Side::Before, number, is_going_up(&end));
         Ok(end)
     }
@@ -271,15 +248,13 @@ impl ModelSwitch {
         ensures err { OnErr result (machine_of self.new ≡ machine_of self.old) }
     {
         if fails {
-            let answer = DownEnd::Failed;
-            self.note(Entry::StageDown { number, answer })?;
+            self.note(Call::StageDown(number, &DownEnd::Failed))?;
             self.count_fault(true);
             return Ok(DownEnd::Failed);
         }
         let outcome = self.next(alloc, Side::Behind, number)?;
         let end = outcome.down();
-        let answer = end.copy(alloc)?;
-        self.note(Entry::StageDown { number, answer })?;
+        self.note(Call::StageDown(number, &end))?;
         self.settle(Side::Behind, number, is_going_down(&end));
         Ok(end)
     }

@@ -1,8 +1,7 @@
-use Rattle.std.proofs.Common.{◌∙◌, List, ℕ, ap, sym}
+use Rattle.std.proofs.Common.{◌∙◌, ap, sym}
 use Rattle.std.proofs.lemmas.Bool.{cond-false, cond-true}
 use Rattle.switch_ir.specs.declared.journal.Entry.{Entry}
 use Rattle.switch_ir.specs.declared.journal.Entry.TheVariants as entry
-use Rattle.switch_ir.specs.declared.port.DownEnd.{DownEnd}
 use Rattle.switch_machine.specs.Staging.{with_entry}
 use Rattle.switch_machine.specs.Views.{machine_of}
 use Rattle.switch_machine.proofs.Lists.{on_weaker}
@@ -12,16 +11,12 @@ pub returns-then-whole-clause-ok : goal.returns-then-whole-clause-ok
 returns-then-whole-clause-ok c =
     on_weaker _ _ c.note.result
     (λ noted. noted ∙ ap (λ (e : Entry). with_entry e (machine_of c.args.self.now))
-    (ap (λ (bytes : List ℕ). entry.Down bytes c.in_ok-answer.answer) c.in_ok-frame.ensures
-    ∙ ap (λ (end : DownEnd). entry.Down c.args.frame.now end) c.in_ok-answer.ensures
-    ∙ sym (cond-true c.args.whole (entry.Down c.args.frame.now c.args.end.now) (entry.BeginDown c.args.frame.now c.args.end.now) c.if-whole.true)))
+    (sym (cond-true c.args.whole (entry.Down c.args.frame.now c.args.end.now) (entry.BeginDown c.args.frame.now c.args.end.now) c.if-whole.true)))
     c.note.ensures.ok
 
 pub returns-clause-ok : goal.returns-clause-ok
 returns-clause-ok c =
     on_weaker _ _ c.note-2.result
     (λ noted. noted ∙ ap (λ (e : Entry). with_entry e (machine_of c.args.self.now))
-    (ap (λ (bytes : List ℕ). entry.BeginDown bytes c.in_ok-answer.answer) c.in_ok-frame.ensures
-    ∙ ap (λ (end : DownEnd). entry.BeginDown c.args.frame.now end) c.in_ok-answer.ensures
-    ∙ sym (cond-false c.args.whole (entry.Down c.args.frame.now c.args.end.now) (entry.BeginDown c.args.frame.now c.args.end.now) c.if-whole.false)))
+    (sym (cond-false c.args.whole (entry.Down c.args.frame.now c.args.end.now) (entry.BeginDown c.args.frame.now c.args.end.now) c.if-whole.false)))
     c.note-2.ensures.ok

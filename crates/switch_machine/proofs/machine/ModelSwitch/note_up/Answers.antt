@@ -1,8 +1,7 @@
-use Rattle.std.proofs.Common.{◌∙◌, List, ℕ, ap, sym}
+use Rattle.std.proofs.Common.{◌∙◌, ap, sym}
 use Rattle.std.proofs.lemmas.Bool.{cond-false, cond-true}
 use Rattle.switch_ir.specs.declared.journal.Entry.{Entry}
 use Rattle.switch_ir.specs.declared.journal.Entry.TheVariants as entry
-use Rattle.switch_ir.specs.declared.port.UpEnd.{UpEnd}
 use Rattle.switch_machine.specs.Staging.{with_entry}
 use Rattle.switch_machine.specs.Views.{machine_of}
 use Rattle.switch_machine.proofs.Lists.{on_weaker}
@@ -10,22 +9,14 @@ use Rattle.switch_machine.proofs.machine.ModelSwitch.note_up.Goals as goal
 
 pub returns-then-whole-clause-ok : goal.returns-then-whole-clause-ok
 returns-then-whole-clause-ok c =
-    let number = c.args.number in
-    let port = c.args.port in
     on_weaker _ _ c.note.result
     (λ noted. noted ∙ ap (λ (e : Entry). with_entry e (machine_of c.args.self.now))
-    (ap (λ (bytes : List ℕ). entry.Up number port bytes c.in_ok-answer.answer) c.in_ok-packet.ensures
-    ∙ ap (λ (end : UpEnd). entry.Up number port c.args.packet.now end) c.in_ok-answer.ensures
-    ∙ sym (cond-true c.args.whole (entry.Up number port c.args.packet.now c.args.end.now) (entry.BeginUp number port c.args.packet.now c.args.end.now) c.if-whole.true)))
+    (sym (cond-true c.args.whole (entry.Up c.args.number c.args.port c.args.packet.now c.args.end.now) (entry.BeginUp c.args.number c.args.port c.args.packet.now c.args.end.now) c.if-whole.true)))
     c.note.ensures.ok
 
 pub returns-clause-ok : goal.returns-clause-ok
 returns-clause-ok c =
-    let number = c.args.number in
-    let port = c.args.port in
     on_weaker _ _ c.note-2.result
     (λ noted. noted ∙ ap (λ (e : Entry). with_entry e (machine_of c.args.self.now))
-    (ap (λ (bytes : List ℕ). entry.BeginUp number port bytes c.in_ok-answer.answer) c.in_ok-packet.ensures
-    ∙ ap (λ (end : UpEnd). entry.BeginUp number port c.args.packet.now end) c.in_ok-answer.ensures
-    ∙ sym (cond-false c.args.whole (entry.Up number port c.args.packet.now c.args.end.now) (entry.BeginUp number port c.args.packet.now c.args.end.now) c.if-whole.false)))
+    (sym (cond-false c.args.whole (entry.Up c.args.number c.args.port c.args.packet.now c.args.end.now) (entry.BeginUp c.args.number c.args.port c.args.packet.now c.args.end.now) c.if-whole.false)))
     c.note-2.ensures.ok

@@ -33,12 +33,12 @@ returns-then-fails-clause-stays c = record {
 
 pub settle-requires-clause-there : goal.settle-requires-clause-there
 settle-requires-clause-there c =
-    let is = c.in_ok-note-2.ensures.ok ∙ ap (λ (m : MachineState). with_entry (entry.StageDown c.args.number c.in_ok-answer.answer) m) c.next.ensures.kept in
+    let is = c.in_ok-note-2.ensures.ok ∙ ap (λ (m : MachineState). with_entry (entry.StageDown c.args.number c.down-end.result) m) c.next.ensures.kept in
     subst (λ (m : MachineState). IsSome (m.passes.post c.args.number)) (sym is) c.requires.pass
 
 pub settle-requires-clause-left : goal.settle-requires-clause-left
 settle-requires-clause-left c going code before loaded there =
-    let is = c.in_ok-note-2.ensures.ok ∙ ap (λ (m : MachineState). with_entry (entry.StageDown c.args.number c.in_ok-answer.answer) m) c.next.ensures.kept in
+    let is = c.in_ok-note-2.ensures.ok ∙ ap (λ (m : MachineState). with_entry (entry.StageDown c.args.number c.down-end.result) m) c.next.ensures.kept in
     going_down_left c.in_ok-outcome.outcome (nat_lt (suc before.stage) code.post.highest)
     (sym (ap is_going_down c.down-end.ensures) ∙ sym c.is_going_down.ensures ∙ going)
     (c.in_ok-outcome.ensures.goes code before (sym (ap (λ (m : MachineState). m.code) is) ∙ loaded) (sym (ap (λ (m : MachineState). m.passes.post c.args.number) is) ∙ there))
@@ -51,8 +51,8 @@ returns-clause-stages c =
     let outcome = c.in_ok-outcome.outcome in
     let made = λ (end : DownEnd). entry.StageDown c.args.number end in
     let is : noted ≡ with_entry (made (down_of outcome)) old =
-    c.in_ok-note-2.ensures.ok ∙ ap (λ (m : MachineState). with_entry (made c.in_ok-answer.answer) m) c.next.ensures.kept
-    ∙ ap (λ (end : DownEnd). with_entry (made end) old) (c.in_ok-answer.ensures ∙ c.down-end.ensures) in
+    c.in_ok-note-2.ensures.ok ∙ ap (λ (m : MachineState). with_entry (made c.down-end.result) m) c.next.ensures.kept
+    ∙ ap (λ (end : DownEnd). with_entry (made end) old) c.down-end.ensures in
     let at = loaded_with c.args.self.now.loaded c.args.number (inr c.requires.pass) in
     let Went : MachineState × Bool → Type 0 =
     λ (m, going). (x : Code) → m.code ≡ Some x → Settles going c.args.number
@@ -71,6 +71,6 @@ returns-clause-plan c =
 pub returns-clause-stays : goal.returns-clause-stays
 returns-clause-stays c =
     let old = machine_of c.args.self.now in
-    let entry_made = entry.StageDown c.args.number c.in_ok-answer.answer in
+    let entry_made = entry.StageDown c.args.number c.down-end.result in
     let is = c.in_ok-note-2.ensures.ok ∙ ap (λ (m : MachineState). with_entry entry_made m) c.next.ensures.kept in
     left (entry_made ∷ []) false old (machine_of c.settle.new.self) (after_noted Behind old (machine_of c.note-2.new.self) (machine_of c.settle.new.self) entry_made is c.settle.ensures.stays)
