@@ -35,7 +35,7 @@ use gal_io::NoMemory;
 use state_store::Rows;
 use std::alloc::Global;
 use switch_ir::{
-    Call, CommandEnd, DownEnd, Journal, PortEnd, RowsEnd, SwitchCode, SwitchPort, UpEnd,
+    Call, CommandEnd, DownEnd, Entry, Journal, PortEnd, RowsEnd, SwitchCode, SwitchPort, UpEnd,
     what_is_emitted_can_be_run,
 };
 use writeback_table::{Command, what_a_lookup_sees};
@@ -176,7 +176,7 @@ impl ModelSwitch {
     {
         let tables = SwitchTables::start(alloc, code)?;
         let mut journal = Journal::new(alloc);
-        journal.note(Call::Load)?;
+        journal.push(Entry::Load)?;
         self.loaded = Some(Loaded::new(alloc, code)?);
         self.tables = tables;
         self.journal = journal;
