@@ -3,6 +3,7 @@ use Rattle.std.proofs.Common.{◌≡◌, ◌≤◌, ℕ, zero, suc, Bool, true, 
 use Rattle.std.specs.FinMap as finmap
 use Rattle.std.specs.Option.{option_map}
 use Rattle.std.proofs.lemmas.Bool.{and_parts, true≢false}
+use Rattle.std.proofs.lemmas.List.{length-replicate}
 use Rattle.std.proofs.lemmas.Option.{none-some}
 use Rattle.packet_fields.specs.declared.packet.Packet.{Packet}
 use Rattle.state_store.specs.declared.object.ObjectDecl.{ObjectDecl}
@@ -27,13 +28,9 @@ fits_long [] (n ∷ ns) e = absurd (true≢false (sym e))
 fits_long (w ∷ ws) [] e = absurd (true≢false (sym e))
 fits_long (w ∷ ws) (n ∷ ns) e = omega (arith, fits_long ws ns (and_parts (nat_lt n (2 ^ w)) (have_widths ws ns) e).1)
 
-zeros_long : (n : ℕ) → length {A = ℕ} (replicate n 0) ≡ n
-zeros_long zero = refl
-zeros_long (suc n) = omega (arith, zeros_long n)
-
 looked_long : (found : Option (List ℕ)) (count n : ℕ) → count ≡ n → ((values : List ℕ) → found ≡ Some values → length values ≡ n)
     → length (unwrap_or found (replicate count 0)) ≡ n
-looked_long None count n same all = zeros_long count ∙ same
+looked_long None count n same all = length-replicate count 0 ∙ same
 looked_long (Some values) count n same all = all values refl
 
 seen_at : (P : Object → Type 0) (bit : Bool) (pairs : List Pair) (o : ℕ) → (pair_at pairs o ≡ no_pair → P no_object) → P (seen_object bit (pair_at pairs o))

@@ -21,8 +21,7 @@ use Rattle.switch_machine.specs.Staged.{of_stage}
 use Rattle.switch_machine.proofs.Beginning.{begins_with}
 use Rattle.switch_machine.proofs.Fitting.{results_one}
 use Rattle.switch_machine.proofs.OfSides.{small_of}
-use Rattle.switch_machine.proofs.PassValues.{apart, begin_apart, begin_register, given_once, handed_fresh, handed_known}
-use Rattle.switch_machine.proofs.SettingUp.{given_fit}
+use Rattle.switch_machine.proofs.PassValues.{apart, begin_apart, begin_register, given_fit, given_once, handed_fresh, handed_known}
 
 module _ (code : Code) (can : CanBeRun code) (ordered : AreOrdered code) (few : code.values < 2 ^ 32)
     (ranges : List ValueRange) (are : AreRanges (entries code.tables code.down code.post) ranges)
@@ -48,6 +47,6 @@ module _ (code : Code) (can : CanBeRun code) (ordered : AreOrdered code) (few : 
       (handed_known code.tables code.down [] code.post ordered.post small can.stages.post ordered.others ranges are)
       (given_once code.tables code.down [] code.post ordered.post small can.stages.post ordered.others ranges are)
       (handed_fresh code.tables code.down [] code.post ordered.post small can.stages.post ordered.others ranges are)
-      (given_fit code.tables code.down [] code.post ordered.post small can.stages.post ordered.others ranges are law registers kept_apart packet (λ reads s. results_one code.tables reads packet s.work))
+      (given_fit code.tables code.down [] code.post ordered.post small can.stages.post ordered.others ranges are packet (λ reads s. results_one code.tables reads packet s.work))
       keeps placed has_one
       (begin_apart code.tables code.down [] code.post ordered.post small can.stages.post ordered.others ranges are [] tt no_number (post_spans code) (law no_number) registers kept_apart)

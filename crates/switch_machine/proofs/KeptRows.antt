@@ -1,13 +1,12 @@
 -- The tables of an object keep what was declared under each command.
-use Rattle.std.proofs.Common.{◌≡◌, ◌≤◌, ◌+◌, ◌-◌, ℕ, Bool, true, false, cond, ◌&&◌, ◌||◌, List, nat_lt, Option, Some, None, refl, sym, ◌∙◌, subst, arith, true≢false}
-use Rattle.std.specs.Ordering.{eq_by_cmp, is_eq}
-use Rattle.std.specs.declared.cmp.Ordering.{Ordering}
-use Rattle.std.specs.declared.cmp.Ordering.TheVariants.{Less, Equal, Greater}
+use Rattle.std.proofs.Common.{◌≡◌, ◌≤◌, ◌+◌, ◌-◌, ℕ, Bool, true, false, cond, ◌&&◌, ◌||◌, List, nat_lt, Option, Some, None, refl, sym, ◌∙◌, subst, arith}
+use Rattle.std.specs.Ordering.{eq_by_cmp}
 use Rattle.std.specs.FinMap.{FinMap, get, insert, remove, empty, len, contains_key, get-empty, get-insert, get-remove, len-empty, len-insert, len-remove}
-use Rattle.std.proofs.lemmas.Bool.{and_parts}
+use Rattle.std.proofs.lemmas.Bool.{and_from, and_parts, cond_both}
 use Rattle.std.proofs.lemmas.Bool.Decides.{nat_tests}
 use Rattle.std.proofs.lemmas.Cmp.{nat_list_cmp_total}
 use Rattle.std.proofs.lemmas.Map.Lookups.{exact_bytes}
+use Rattle.std.proofs.lemmas.Map.Views.{tells_apart}
 use Rattle.std.proofs.lemmas.Option.{same_Some, none-some}
 use Rattle.state_store.specs.declared.object.ObjectDecl.{ObjectDecl}
 use Rattle.state_store.specs.Keeping.{put_keeps, del_keeps}
@@ -22,50 +21,29 @@ use Rattle.writeback_table.specs.Pair.{Pair, applied, can_stage, change_to, valu
 use Rattle.writeback_table.specs.Widths.{fits_update, has_value_widths}
 use Rattle.switch_machine.specs.Kept.{staged_fits, KeepsRows}
 
-is_equal : (o : Ordering) → is_eq o ≡ true → o ≡ Equal
-is_equal Less e = absurd (true≢false (sym e))
-is_equal Equal e = refl
-is_equal Greater e = absurd (true≢false (sym e))
-
 -- ## Rows of a map, whatever their values
 
 module _ {X : Type 0} (P : List ℕ → X → Type 0) where
   abbrev AllRows : FinMap key_cmp X → Type 0
   AllRows rows = (key : List ℕ) (row : X) → get rows key ≡ Some row → P key row
 
-  one_row : (key found : List ℕ) (row there : X) (before : Option X) (same : Bool) → eq_by_cmp key_cmp found key ≡ same → P key row
-      → (before ≡ Some there → P found there) → cond same (Some row) before ≡ Some there → P found there
-  one_row key found row there before true e fits old is =
-      subst (λ k. P k there) (sym (exact_bytes found key (is_equal (key_cmp found key) e))) (subst (P key) (same_Some row there is) fits)
-  one_row key found row there before false e fits old is = old is
-
   pub row_more : (rows : FinMap key_cmp X) (key : List ℕ) (row : X) → P key row → AllRows rows → AllRows (insert rows key row)
   row_more rows key row fits all found there is =
-      one_row key found row there (get rows found) (eq_by_cmp key_cmp found key) refl fits (all found there)
-      (sym (get-insert nat_list_cmp_total rows key row found) ∙ is)
-
-  row_stays : (found : List ℕ) (there : X) (before : Option X) (same : Bool) → (before ≡ Some there → P found there)
-      → cond same None before ≡ Some there → P found there
-  row_stays found there before true old is = absurd (none-some there is)
-  row_stays found there before false old is = old is
+      cond_both (eq_by_cmp key_cmp found key) (Some row) (get rows found) (λ o. o ≡ Some there → P found there)
+      (λ same got. subst (λ k. P k there) (sym (tells_apart exact_bytes found key same)) (subst (P key) (same_Some row there got) fits))
+      (λ other got. all found there got) (sym (get-insert nat_list_cmp_total rows key row found) ∙ is)
 
   pub row_less : (rows : FinMap key_cmp X) (key : List ℕ) → AllRows rows → AllRows (remove rows key)
   row_less rows key all found there is =
-      row_stays found there (get rows found) (eq_by_cmp key_cmp found key) (all found there)
-      (sym (get-remove nat_list_cmp_total rows key found) ∙ is)
+      cond_both (eq_by_cmp key_cmp found key) None (get rows found) (λ o. o ≡ Some there → P found there)
+      (λ same got. absurd (none-some there got)) (λ other got. all found there got) (sym (get-remove nat_list_cmp_total rows key found) ∙ is)
 
-  no_more : (known : Bool) (n : ℕ) → cond known (n - 1) n ≤ n
-  no_more true n = omega arith
-  no_more false n = omega arith
-
-  pub none_more : (rows : FinMap key_cmp X) (key : List ℕ) → len (remove rows key) ≤ len rows
-  none_more rows key = subst (λ n. n ≤ len rows) (sym (len-remove nat_list_cmp_total rows key)) (no_more (contains_key rows key) (len rows))
+pub none_more : {X : Type 0} (rows : FinMap key_cmp X) (key : List ℕ) → len (remove rows key) ≤ len rows
+none_more rows key =
+    subst (λ n. n ≤ len rows) (sym (len-remove nat_list_cmp_total rows key))
+    (cond_both (contains_key rows key) (len rows - 1) (len rows) (λ n. n ≤ len rows) (λ e. omega arith) (λ e. omega arith))
 
 -- ## The main table
-
-both : (a b : Bool) → a ≡ true → b ≡ true → (a && b) ≡ true
-both true b e f = f
-both false b e f = e
 
 change_keeps : (d : ObjectDecl) (o : Object) (key : List ℕ) (to : To) → is_table d.kind ≡ false → have_widths d.keys key ≡ true
     → has_value_widths d to ≡ true → IsKeptObject d o → IsKeptObject d (change_to o key to)
@@ -94,18 +72,18 @@ stage_keeps d pair u true e key_fits values_fit kept =
     let goes_on : KeepsRows d after = record {
       main = kept.main;
       staged = row_more (IsStaged d) pair.staged u.key (values_of u.to)
-          (both (have_widths d.keys u.key) (staged_fits d (values_of u.to)) key_fits (staged_by d u.to values_fit)) kept.staged;
+          (and_from (have_widths d.keys u.key) (staged_fits d (values_of u.to)) key_fits (staged_by d u.to values_fit)) kept.staged;
       few = subst (λ n. n ≤ pair.room) (sym (len-insert nat_list_cmp_total pair.staged u.key (values_of u.to)))
           (room_for (contains_key pair.staged u.key) (len pair.staged) pair.room e kept.few);
       room = kept.room;
     } in
     rw e goes_on
 
-clear_keeps : (d : ObjectDecl) (pair : Pair) (o : ℕ) (key : List ℕ) → KeepsRows d pair → KeepsRows d (applied pair (Clear o key))
-clear_keeps d pair o key kept = record {
+pub clearing : (d : ObjectDecl) (pair : Pair) (o : ℕ) (key : List ℕ) → KeepsRows d pair → KeepsRows d (applied pair (Clear o key))
+clearing d pair o key kept = record {
   main = kept.main;
   staged = row_less (IsStaged d) pair.staged key kept.staged;
-  few = omega (arith, none_more (IsStaged d) pair.staged key, kept.few);
+  few = omega (arith, none_more pair.staged key, kept.few);
   room = kept.room;
 }
 
@@ -124,9 +102,6 @@ changing d pair u free fits kept =
       few = kept.few;
       room = kept.room;
     }
-
-pub clearing : (d : ObjectDecl) (pair : Pair) (o : ℕ) (key : List ℕ) → KeepsRows d pair → KeepsRows d (applied pair (Clear o key))
-clearing = clear_keeps
 
 -- ## What an object starts with
 

@@ -1,5 +1,6 @@
 -- What is ahead in a list.
-use Rattle.std.proofs.Common.{◌≡◌, ℕ, zero, suc, ◌+◌, ◌<◌, ◌≤◌, List, [], ◌∷◌, length, ◌-◌, get_or, take, drop, Result, Ok, Err, IfOk, OnErr, OnOk, refl, sym, ap, ◌∙◌, arith, add-one, drop-cons, length-drop}
+use Rattle.std.proofs.Common.{◌≡◌, ℕ, suc, ◌+◌, ◌<◌, ◌≤◌, List, [], ◌∷◌, length, ◌-◌, get_or, take, drop, Result, Ok, Err, IfOk, OnErr, OnOk, sym, ap, ◌∙◌, add-one, drop-cons, length-drop}
+use Rattle.std.proofs.lemmas.List.{drop_all}
 use Rattle.std.proofs.Math.Seq.{take-length}
 
 -- the member at a place, and what is behind it
@@ -7,10 +8,7 @@ pub ahead : {X : Type 0} (xs : List X) (i : ℕ) (x : X) → i < length xs → x
 ahead xs i x lt is = drop-cons xs i x lt ∙ ap (λ y. y ∷ drop (suc i) xs) (sym is) ∙ ap (λ n. x ∷ drop n xs) (sym (add-one i))
 
 pub none_ahead : {X : Type 0} (xs : List X) (i : ℕ) → length xs ≤ i → drop i xs ≡ []
-none_ahead [] zero le = refl
-none_ahead [] (suc i) le = refl
-none_ahead (x ∷ xs) zero le = absurd (omega (arith, le))
-none_ahead (x ∷ xs) (suc i) le = none_ahead xs i (omega (arith, le))
+none_ahead xs i le = drop_all i xs le
 
 -- a slice up to the end
 pub whole_rest : {X : Type 0} (n : ℕ) (xs : List X) → take (length xs - n) (drop n xs) ≡ drop n xs

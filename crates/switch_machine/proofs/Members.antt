@@ -1,8 +1,9 @@
 -- Members of lists.
-use Rattle.std.proofs.Common.{◌≡◌, ◌⊎◌, ℕ, zero, suc, ◌<◌, ◌==◌, Bool, true, false, cond, List, [], ◌∷◌, ◌++◌, length, map, get_or, refl, sym, ap, ◌∙◌, subst, inl, inr, arith}
+use Rattle.std.proofs.Common.{◌≡◌, ◌⊎◌, ℕ, suc, ◌==◌, Bool, true, List, [], ◌∷◌, ◌++◌, map, refl, sym, ap, ◌∙◌, subst, inl, inr, arith}
 use Rattle.std.specs.Prelude.{Contains}
 use Rattle.std.specs.List.{AllPairs, list_any, filter, AllByRecursion as Each}
 use Rattle.std.proofs.lemmas.Bool.{or_cases, or_left, or_right, eqb-true, eq-eqb, true≢false}
+use Rattle.std.proofs.lemmas.List.Elements.{All-contains, All-filter, All-from_recursion, filter_passes, recursion_from_All}
 
 -- it is one of them
 abbrev pub Has : {X : Type 0} → List X → X → Type 0
@@ -16,14 +17,6 @@ to_contains (y ∷ ys) x (inr later) =
     let c = to_contains ys x later in
     (suc c.0, omega (arith, c.1), c.2)
 
-at_place : {X : Type 0} (xs : List X) (i : ℕ) (x : X) → i < length xs → get_or xs i x ≡ x → Has xs x
-at_place [] i x lt is = absurd (omega (arith, lt))
-at_place (y ∷ ys) zero x lt is = inl is
-at_place (y ∷ ys) (suc i) x lt is = inr (at_place ys i x (omega (arith, lt)) is)
-
-pub of_contains : {X : Type 0} (xs : List X) (x : X) → Contains xs x → Has xs x
-of_contains xs x c = at_place xs c.0 x c.1 c.2
-
 pub has_left : {X : Type 0} (xs ys : List X) (x : X) → Has xs x → Has (xs ++ ys) x
 has_left [] ys x h = absurd h
 has_left (y ∷ xs) ys x (inl same) = inl same
@@ -33,14 +26,13 @@ pub has_right : {X : Type 0} (xs ys : List X) (x : X) → Has ys x → Has (xs +
 has_right [] ys x h = h
 has_right (y ∷ xs) ys x h = inr (has_right xs ys x h)
 
-first_or : {X : Type 0} (y : X) (xs ys : List X) (x : X) → Has xs x ⊎ Has ys x → Has (y ∷ xs) x ⊎ Has ys x
-first_or y xs ys x (inl h) = inl (inr h)
-first_or y xs ys x (inr h) = inr h
-
 pub has_parts : {X : Type 0} (xs ys : List X) (x : X) → Has (xs ++ ys) x → Has xs x ⊎ Has ys x
 has_parts [] ys x h = inr h
 has_parts (y ∷ xs) ys x (inl same) = inl (inl same)
-has_parts (y ∷ xs) ys x (inr later) = first_or y xs ys x (has_parts xs ys x later)
+has_parts (y ∷ xs) ys x (inr later) = elim (has_parts xs ys x later) [
+  | inl h ↦ inl (inr h)
+  | inr h ↦ inr h
+]
 
 pub each_has : {X : Type 0} (P : X → Type 0) (xs : List X) → Each P xs → (x : X) → Has xs x → P x
 each_has P [] all x h = absurd h
@@ -50,6 +42,9 @@ each_has P (y ∷ ys) all x (inr later) = each_has P ys all.1 x later
 pub has_each : {X : Type 0} (P : X → Type 0) (xs : List X) → ((x : X) → Has xs x → P x) → Each P xs
 has_each P [] all = tt
 has_each P (x ∷ xs) all = (all x (inl refl), has_each P xs (λ y h. all y (inr h)))
+
+pub of_contains : {X : Type 0} (xs : List X) (x : X) → Contains xs x → Has xs x
+of_contains xs x c = All-contains (Has xs) xs x (All-from_recursion (Has xs) xs (has_each (Has xs) xs (λ y h. h))) c
 
 -- what a list that is made of another has
 pub record IsMade {X Y : Type 0} (f : X → Y) (xs : List X) (y : Y) : Type 0 where
@@ -75,11 +70,13 @@ pub record Passes {X : Type 0} (p : X → Bool) (xs : List X) : Type 0 where
 
 pub any_has : {X : Type 0} (p : X → Bool) (xs : List X) → list_any p xs ≡ true → Passes p xs
 any_has p [] e = absurd (true≢false (sym e))
-any_has p (x ∷ xs) e = go (λ later. any_has p xs later) (or_cases (p x) (list_any p xs) e)
-  where
-    go : (list_any p xs ≡ true → Passes p xs) → (p x ≡ true) ⊎ (list_any p xs ≡ true) → Passes p (x ∷ xs)
-    go rest (inl here) = record { one = x; there = inl refl; is = here }
-    go rest (inr later) = let h = rest later in record { one = h.one; there = inr h.there; is = h.is }
+any_has p (x ∷ xs) e = elim (or_cases (p x) (list_any p xs) e) [
+  | inl here ↦ record { one = x; there = inl refl; is = here }
+  | inr later ↦ (
+      let h = any_has p xs later in
+      record { one = h.one; there = inr h.there; is = h.is }
+      )
+]
 
 pub has_any : {X : Type 0} (p : X → Bool) (xs : List X) (x : X) → Has xs x → p x ≡ true → list_any p xs ≡ true
 has_any p [] x h is = absurd h
@@ -88,45 +85,18 @@ has_any p (y ∷ ys) x (inr later) is = or_right (p y) (list_any p ys) (has_any 
 
 -- by the numbers
 pub among_has : (n : ℕ) (xs : List ℕ) → list_any (λ x. x == n) xs ≡ true → Has xs n
-among_has n [] e = absurd (true≢false (sym e))
-among_has n (x ∷ xs) e = go (λ later. among_has n xs later) (or_cases (x == n) (list_any (λ y. y == n) xs) e)
-  where
-    go : (list_any (λ y. y == n) xs ≡ true → Has xs n) → ((x == n) ≡ true) ⊎ (list_any (λ y. y == n) xs ≡ true) → Has (x ∷ xs) n
-    go rest (inl here) = inl (eqb-true x n here)
-    go rest (inr later) = inr (rest later)
+among_has n xs e = let p = any_has (λ x. x == n) xs e in subst (Has xs) (eqb-true p.one n p.is) p.there
 
 pub has_among : (n : ℕ) (xs : List ℕ) → Has xs n → list_any (λ x. x == n) xs ≡ true
-has_among n [] h = absurd h
-has_among n (x ∷ xs) (inl same) = or_left (x == n) (list_any (λ y. y == n) xs) (eq-eqb x n same)
-has_among n (x ∷ xs) (inr later) = or_right (x == n) (list_any (λ y. y == n) xs) (has_among n xs later)
+has_among n xs h = has_any (λ x. x == n) xs n h (eq-eqb n n refl)
 
 -- those of a list that pass a test
-kept_in : {X : Type 0} (b : Bool) (y : X) (ys : List X) (x : X) → Has (cond b (y ∷ ys) ys) x → ((b ≡ true) × (y ≡ x)) ⊎ Has ys x
-kept_in true y ys x (inl same) = inl (refl, same)
-kept_in true y ys x (inr later) = inr later
-kept_in false y ys x h = inr h
-
 pub filter_has : {X : Type 0} (p : X → Bool) (xs : List X) (x : X) → Has (filter p xs) x → Has xs x × (p x ≡ true)
-filter_has p [] x h = absurd h
-filter_has p (y ∷ ys) x h = go (λ later. filter_has p ys x later) (kept_in (p y) y (filter p ys) x h)
-  where
-    go : (Has (filter p ys) x → Has ys x × (p x ≡ true)) → ((p y ≡ true) × (y ≡ x)) ⊎ Has (filter p ys) x → Has (y ∷ ys) x × (p x ≡ true)
-    go rest (inl here) = (inl here.1, ap p (sym here.1) ∙ here.0)
-    go rest (inr later) = let h = rest later in (inr h.0, h.1)
-
-in_kept : {X : Type 0} (b : Bool) (y : X) (ys : List X) (x : X) → Has ys x → Has (cond b (y ∷ ys) ys) x
-in_kept true y ys x h = inr h
-in_kept false y ys x h = h
-
-first_kept : {X : Type 0} (b : Bool) (y : X) (ys : List X) → b ≡ true → Has (cond b (y ∷ ys) ys) y
-first_kept true y ys e = inl refl
-first_kept false y ys e = absurd (true≢false (sym e))
-
-pub has_filter : {X : Type 0} (p : X → Bool) (xs : List X) (x : X) → Has xs x → p x ≡ true → Has (filter p xs) x
-has_filter p [] x h is = absurd h
-has_filter p (y ∷ ys) x (inl same) is =
-    subst (λ z. Has (cond (p y) (y ∷ filter p ys) (filter p ys)) z) same (first_kept (p y) y (filter p ys) (ap p same ∙ is))
-has_filter p (y ∷ ys) x (inr later) is = in_kept (p y) y (filter p ys) x (has_filter p ys x later is)
+filter_has p xs x h = (
+  each_has (Has xs) (filter p xs) (recursion_from_All (Has xs) (filter p xs)
+      (All-filter p (Has xs) xs (All-from_recursion (Has xs) xs (has_each (Has xs) xs (λ y there. there))))) x h,
+  each_has (λ y. p y ≡ true) (filter p xs) (recursion_from_All (λ y. p y ≡ true) (filter p xs) (filter_passes p xs)) x h,
+)
 
 -- ## Pairs
 
@@ -146,6 +116,10 @@ pairs_between P [] ys all x y here there = absurd here
 pairs_between P (z ∷ xs) ys all x y (inl same) there =
     subst (λ u. P u y) same (each_has (P z) (xs ++ ys) all.0 y (has_right xs ys y there))
 pairs_between P (z ∷ xs) ys all x y (inr later) there = pairs_between P xs ys all.1 x y later there
+
+pub pairs_left : {X : Type 0} (P : X → X → Type 0) (xs ys : List X) → Pairs P (xs ++ ys) → Pairs P xs
+pairs_left P [] ys all = tt
+pairs_left P (x ∷ xs) ys all = (has_each (P x) xs (λ y h. each_has (P x) (xs ++ ys) all.0 y (has_left xs ys y h)), pairs_left P xs ys all.1)
 
 pub pairs_right : {X : Type 0} (P : X → X → Type 0) (xs ys : List X) → Pairs P (xs ++ ys) → Pairs P ys
 pairs_right P [] ys all = all

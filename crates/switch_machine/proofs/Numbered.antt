@@ -1,8 +1,9 @@
 -- Values by their numbers.
-use Rattle.std.proofs.Common.{◌≡◌, ◌≢◌, ℕ, zero, suc, ◌+◌, ◌-◌, ◌==◌, ◌<◌, ◌≤◌, Bool, true, false, cond, ◌&&◌, ◌||◌, ◌⊎◌, List, [], ◌∷◌, ◌++◌, length, map, Some, None, refl, sym, ap, ◌∙◌, inl, inr, arith, slice_index}
+use Rattle.std.proofs.Common.{◌≡◌, ◌≢◌, ℕ, zero, suc, ◌+◌, ◌-◌, ◌==◌, ◌<◌, ◌≤◌, Bool, true, false, cond, ◌&&◌, ◌||◌, List, [], ◌∷◌, ◌++◌, length, map, Some, None, refl, sym, ap, ◌∙◌, inl, inr, arith, slice_index}
 use Rattle.std.specs.Prelude.{nat_lt}
 use Rattle.std.specs.List.{AllByRecursion as Each}
-use Rattle.std.proofs.lemmas.Bool.{cases_Bool, cases_eq, cond-true, cond-false, eq-eqb, ne_eqb, eqb-true, ltb-true, ltb-false, lt-ltb, or_left, or_right, or_cases, true≢false}
+use Rattle.std.proofs.lemmas.Bool.{cases_Bool, cases_eq, cond-true, cond-false, eq-eqb, ne_eqb, eqb-true, ltb-true, ltb-false, lt-ltb, true≢false}
+use Rattle.std.proofs.lemmas.List.{map-append}
 use Rattle.std.proofs.lemmas.List.Folds.{list_any-append}
 use Rattle.std.proofs.lemmas.Option.{same_Some, none-some}
 use Rattle.packet_fields.specs.declared.packet.Packet.{Packet}
@@ -17,6 +18,8 @@ use Rattle.switch_machine.specs.declared.numbering.ValueRange.{ValueRange}
 use Rattle.switch_machine.specs.Numbers.{first_gives, first_values, gives, number_in, range_at, stage_gives, stage_number, stage_writes, values, AreOnce}
 use Rattle.switch_machine.specs.Planned.{AreNumberedApart}
 use Rattle.switch_machine.specs.Staged.{of_stage}
+use Rattle.switch_machine.proofs.Each.{each_two, each_weaker}
+use Rattle.switch_machine.proofs.Members.{among_has, each_has, has_among, has_each, has_left, has_parts, has_right, made_has, Has}
 
 -- ## The values of an instruction
 
@@ -29,27 +32,22 @@ pub record IsIn (range : ValueRange) (k n : ℕ) : Type 0 where
 pub among_values : (range : ValueRange) (k n : ℕ) → is_among n (first_values range k) ≡ true → IsIn range k n
 among_values range zero n e = absurd (true≢false (sym e))
 among_values range (suc k) n e =
-    elim (or_cases (is_among n (first_values range k)) ((range.first + k == n) || false) (sym (list_any-append (λ (v : ℕ). v == n) (first_values range k) ((range.first + k) ∷ [])) ∙ e)) [
+    elim (has_parts (first_values range k) ((range.first + k) ∷ []) n (among_has n (first_values range (suc k)) e)) [
       | inl before ↦ (
-          let h = among_values range k n before in
+          let h = among_values range k n (has_among n (first_values range k) before) in
           record { place = h.place; within = omega (arith, h.within); is = h.is }
           )
-      | inr last ↦ record { place = k; within = omega arith; is = sym (last_is (or_cases (range.first + k == n) false last)) }
+      | inr last ↦ each_has (IsIn range (suc k)) ((range.first + k) ∷ []) (record { place = k; within = omega arith; is = refl }, tt) n last
     ]
-  where
-    last_is : ((range.first + k == n) ≡ true) ⊎ (false ≡ true) → range.first + k ≡ n
-    last_is (inl same) = eqb-true (range.first + k) n same
-    last_is (inr outside) = absurd (true≢false (sym outside))
 
 pub values_among : (range : ValueRange) (k place : ℕ) → place < k → is_among (range.first + place) (first_values range k) ≡ true
-values_among range zero place lt = absurd (omega (arith, lt))
-values_among range (suc k) place lt =
-    let n = range.first + place in
-    list_any-append (λ (v : ℕ). v == n) (first_values range k) ((range.first + k) ∷ [])
-    ∙ elim (cases_eq place k) [
-      | inl last ↦ or_right (is_among n (first_values range k)) ((range.first + k == n) || false)
-          (or_left (range.first + k == n) false (eq-eqb (range.first + k) n (ap (λ (p : ℕ). range.first + p) (sym last))))
-      | inr other ↦ or_left (is_among n (first_values range k)) ((range.first + k == n) || false) (values_among range k place (omega (arith, lt, other)))
+values_among range k place lt = has_among (range.first + place) (first_values range k) (one k place lt)
+  where
+    one : (k place : ℕ) → place < k → Has (first_values range k) (range.first + place)
+    one zero place lt = absurd (omega (arith, lt))
+    one (suc k) place lt = elim (cases_eq k place) [
+      | inl last ↦ has_right (first_values range k) ((range.first + k) ∷ []) (range.first + place) (inl (ap (λ (p : ℕ). range.first + p) last))
+      | inr other ↦ has_left (first_values range k) ((range.first + k) ∷ []) (range.first + place) (one k place (omega (arith, lt, other)))
     ]
 
 -- a value that is known is among those of its instruction
@@ -162,14 +160,15 @@ module _ (ranges : List ValueRange) (reads : Reading) (tables : Store) (packet :
         ∙ unknown_stays v none is ss fit.1
   ]
 
--- what holds of each instruction holds of each of a stage
-kept_by : (P : Step → Type 0) (b : Bool) (s : Step) (ss : List Step) → P s → Each P ss → Each P (cond b (s ∷ []) [] ++ ss)
-kept_by P true s ss p h = (p, h)
+-- what holds of each instruction of a stage
+kept_by : (P : Step → Type 0) (b : Bool) (s : Step) (ss : List Step) → (b ≡ true → P s) → Each P ss → Each P (cond b (s ∷ []) [] ++ ss)
+kept_by P true s ss p h = (p refl, h)
 kept_by P false s ss p h = h
 
-pub each_of_stage : (P : Step → Type 0) (t : ℕ) (ss : List Step) → Each P ss → Each P (of_stage t ss)
-each_of_stage P t [] h = tt
-each_of_stage P t (s ∷ ss) h = kept_by P (s.stage == t) s (of_stage t ss) h.0 (each_of_stage P t ss h.1)
+pub each_of_stage : (P : Step → Type 0) (t : ℕ) (ss : List Step) → ((s : Step) → Has ss s → s.stage ≡ t → P s) → Each P (of_stage t ss)
+each_of_stage P t [] all = tt
+each_of_stage P t (s ∷ ss) all =
+    kept_by P (s.stage == t) s (of_stage t ss) (λ e. all s (inl refl) (eqb-true s.stage t e)) (each_of_stage P t ss (λ u h. all u (inr h)))
 
 once_by : (b : Bool) (s : Step) (ss : List Step) → Each (λ (other : Step). s.instruction ≢ other.instruction) ss → AreOnce ss → AreOnce (cond b (s ∷ []) [] ++ ss)
 once_by true s ss apart once = (apart, once)
@@ -178,7 +177,8 @@ once_by false s ss apart once = once
 pub once_of_stage : (t : ℕ) (ss : List Step) → AreOnce ss → AreOnce (of_stage t ss)
 once_of_stage t [] once = tt
 once_of_stage t (s ∷ ss) once =
-    once_by (s.stage == t) s (of_stage t ss) (each_of_stage (λ (other : Step). s.instruction ≢ other.instruction) t ss once.0) (once_of_stage t ss once.1)
+    once_by (s.stage == t) s (of_stage t ss) (each_of_stage (λ (other : Step). s.instruction ≢ other.instruction) t ss
+    (λ other h at. each_has (λ (o : Step). s.instruction ≢ o.instruction) ss once.0 other h)) (once_of_stage t ss once.1)
 
 -- ## What is given
 
@@ -190,14 +190,6 @@ pub record IsGiven (ranges : List ValueRange) (ss : List Step) (reads : Reading)
   pub other : (i : ℕ) → Each (λ (s : Step). i ≢ s.instruction) ss → i ≢ value.instruction
 
 module _ (ranges : List ValueRange) (reads : Reading) (tables : Store) (packet : Packet) where
-  each_two : (P : ℕ × ℕ → Type 0) (xs ys : List (ℕ × ℕ)) → Each P xs → Each P ys → Each P (xs ++ ys)
-  each_two P [] ys h k = k
-  each_two P (x ∷ xs) ys h k = (h.0, each_two P xs ys h.1 k)
-
-  each_more : (P Q : ℕ × ℕ → Type 0) → ((p : ℕ × ℕ) → P p → Q p) → (xs : List (ℕ × ℕ)) → Each P xs → Each Q xs
-  each_more P Q go [] h = tt
-  each_more P Q go (x ∷ xs) h = (go x h.0, each_more P Q go xs h.1)
-
   first_given : (s : Step) (ss : List Step) (k : ℕ) → k ≤ (range_at ranges s.instruction).count
       → Each (IsGiven ranges (s ∷ ss) reads tables packet) (first_gives (range_at ranges s.instruction) (results reads false tables packet s.work) k)
   first_given s ss zero le = tt
@@ -223,7 +215,7 @@ module _ (ranges : List ValueRange) (reads : Reading) (tables : Store) (packet :
       let given = results reads false tables packet s.work in
       each_two (IsGiven ranges (s ∷ ss) reads tables packet) (gives range given) (stage_gives ranges ss reads tables packet)
       (first_given s ss range.count (omega arith))
-      (each_more (IsGiven ranges ss reads tables packet) (IsGiven ranges (s ∷ ss) reads tables packet)
+      (each_weaker (IsGiven ranges ss reads tables packet) (IsGiven ranges (s ∷ ss) reads tables packet)
       (λ p h. record {
         value = h.value;
         number = h.number;
@@ -235,14 +227,10 @@ module _ (ranges : List ValueRange) (reads : Reading) (tables : Store) (packet :
       (stage_gives ranges ss reads tables packet) (all_given ss once.1))
 
   -- the values that are given numbers are those that are written
-  firsts_two : (xs ys : List (ℕ × ℕ)) → map (λ (p : ℕ × ℕ). p.0) (xs ++ ys) ≡ map (λ (p : ℕ × ℕ). p.0) xs ++ map (λ (p : ℕ × ℕ). p.0) ys
-  firsts_two [] ys = refl
-  firsts_two (x ∷ xs) ys = ap (λ (rest : List ℕ). x.0 ∷ rest) (firsts_two xs ys)
-
   first_values_are : (range : ValueRange) (given : List ℕ) (k : ℕ) → map (λ (p : ℕ × ℕ). p.0) (first_gives range given k) ≡ first_values range k
   first_values_are range given zero = refl
   first_values_are range given (suc k) =
-      firsts_two (first_gives range given k) ((range.first + k, slice_index given k) ∷ [])
+      map-append (λ (p : ℕ × ℕ). p.0) (first_gives range given k) ((range.first + k, slice_index given k) ∷ [])
       ∙ ap (λ (rest : List ℕ). rest ++ (range.first + k) ∷ []) (first_values_are range given k)
 
   pub writes_are : (ss : List Step) → map (λ (p : ℕ × ℕ). p.0) (stage_gives ranges ss reads tables packet) ≡ stage_writes ranges ss
@@ -250,6 +238,22 @@ module _ (ranges : List ValueRange) (reads : Reading) (tables : Store) (packet :
   writes_are (s ∷ ss) =
       let range = range_at ranges s.instruction in
       let given = results reads false tables packet s.work in
-      firsts_two (gives range given) (stage_gives ranges ss reads tables packet)
+      map-append (λ (p : ℕ × ℕ). p.0) (gives range given) (stage_gives ranges ss reads tables packet)
       ∙ ap (λ (front : List ℕ). front ++ map (λ (p : ℕ × ℕ). p.0) (stage_gives ranges ss reads tables packet)) (first_values_are range given range.count)
       ∙ ap (λ (rest : List ℕ). values range ++ rest) (writes_are ss)
+
+  -- each value is given its number, whatever the others have
+  pub all_right : AreNumberedApart ranges → (ss : List Step) → AreOnce ss → (others : ℕ → ℕ)
+      → Each (λ (p : ℕ × ℕ). (is_among p.0 (stage_writes ranges ss) ≡ true)
+      × (p.1 ≡ cond (is_among p.0 (stage_writes ranges ss)) (stage_number ranges ss reads tables packet p.0) (others p.0)))
+      (stage_gives ranges ss reads tables packet)
+  all_right apart ss once others =
+      has_each _ (stage_gives ranges ss reads tables packet) (λ p h.
+      let g = each_has (IsGiven ranges ss reads tables packet) (stage_gives ranges ss reads tables packet) (all_given ss once) p h in
+      let there : is_among p.0 (stage_writes ranges ss) ≡ true =
+      ap (is_among p.0) (sym (writes_are ss)) ∙ has_among p.0 _ (made_has (λ (q : ℕ × ℕ). q.0) (stage_gives ranges ss reads tables packet) p h) in (
+        there,
+        sym g.is ∙ sym (number_is ranges reads tables packet apart g.value p.0 g.number ss)
+            ∙ ap (λ b. cond b (stage_number ranges ss reads tables packet p.0) (reads g.value)) there
+            ∙ sym (ap (λ b. cond b (stage_number ranges ss reads tables packet p.0) (others p.0)) there),
+      ))

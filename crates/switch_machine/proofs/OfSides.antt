@@ -1,16 +1,14 @@
 -- What holds of the passes of both sides of code.
 use Rattle.std.proofs.Common.{◌≡◌, ◌≤◌, ◌<◌, ◌^◌, ◌++◌, ℕ, suc, Bool, false, List, length, map, arith}
-use Rattle.std.specs.Prelude.{All, Contains}
-use Rattle.std.specs.List.{AllByRecursion as Each}
+use Rattle.std.specs.Prelude.{Contains}
 use Rattle.packet_fields.specs.declared.packet.Packet.{Packet}
 use Rattle.state_store.specs.Store.{Store}
 use Rattle.flat_ir.specs.declared.spans.Span.{Span}
 use Rattle.flat_ir.specs.Blocks.{Reading}
-use Rattle.flat_ir.specs.Laws.{Same}
-use Rattle.flat_ir.specs.Program.{Work, operands}
+use Rattle.flat_ir.specs.Program.{Work}
 use Rattle.flat_ir.specs.Run.{results}
 use Rattle.transfer_header.specs.Registers.{Registers, ArePlaced}
-use Rattle.transfer_header.specs.Steps.{all_written, pairs_written, AreKeptApart, AreSpansOf, Contents, IsDoneAlike, IsReady, LooksAtReadsAlone, Steps}
+use Rattle.transfer_header.specs.Steps.{AreKeptApart, AreSpansOf, Contents}
 use Rattle.switch_ir.specs.Meaning.{pass_values}
 use Rattle.switch_ir.specs.Passes.{Code}
 use Rattle.switch_ir.specs.Sound.{CanBeRun}
@@ -25,15 +23,15 @@ use Rattle.switch_machine.specs.Flights.{numbers_in}
 use Rattle.switch_machine.specs.Keeping.{begins, kept}
 use Rattle.switch_machine.specs.Kept.{KeepsTables}
 use Rattle.switch_machine.specs.Numbers.{AreHeld}
-use Rattle.switch_machine.specs.Planned.{registers_at, stage_done, BeginsWith, FitRanges}
+use Rattle.switch_machine.specs.Planned.{registers_at, stage_done, BeginsWith, FitRanges, IsPlanned}
 use Rattle.switch_machine.specs.Ranges.{AreInOrder, AreOrdered, AreOthers}
 use Rattle.switch_machine.specs.Sides.{staging}
 use Rattle.switch_machine.specs.Workplaces.{IsReadyFor}
-use Rattle.switch_machine.proofs.InRegisters.{first_is, pass_is}
+use Rattle.switch_machine.proofs.InRegisters.{first_is, pass_is, Agrees, ListsAreWritten, StepsAreAlike}
 use Rattle.switch_machine.proofs.Members.{each_has, of_contains}
-use Rattle.switch_machine.proofs.SettingUp.{last_up, set_up, set_up_by_spans, steps_fit}
+use Rattle.switch_machine.proofs.PassValues.{planned_by, steps_fit}
+use Rattle.switch_machine.proofs.SettingUp.{last_up}
 use Rattle.switch_machine.proofs.StageByStage.{ends, entered, staged}
-use Rattle.switch_machine.proofs.Writing.{place_pairs}
 
 -- the values that the pass of a side has
 abbrev pub had : Side → Code → List Written
@@ -67,12 +65,7 @@ module _ (side : Side) (code : Code) (ranges : List ValueRange) (registers : Reg
     (apart : AreKeptApart (spans_on side code) registers) (placed : ArePlaced registers)
     (few : (told : Told) → KeepsTables code told → (reads : Reading) (packet : Packet) (work : Work)
     → length (results reads false (seen_tables told) packet work) ≤ results_in code.tables work)
-    (lists : (rs : Registers) (pairs : List (ℕ × ℕ)) (numbers : Contents) → All (λ (p : ℕ × ℕ). p.1 ≡ numbers p.0) pairs
-    → pairs_written rs pairs ≡ all_written rs (map (λ (p : ℕ × ℕ). p.0) pairs) numbers)
-    (one_step : (every : Steps) (spans : List Span) (rs : Registers) (contents : Contents) (step : ℕ)
-    → LooksAtReadsAlone every → AreSpansOf every spans → IsReady spans rs contents step → IsDoneAlike every spans rs contents step)
-    (agree : (view : Store) (packet : Packet) (r r' : Reading) (work : Work) → Each (Same r r') (operands work)
-    → results r false view packet work ≡ results r' false view packet work) where
+    (lists : ListsAreWritten) (one_step : StepsAreAlike) (agree : (view : Store) (packet : Packet) → Agrees view packet) where
   order : AreInOrder (had side code)
   order = order_of side code ready.ordered
 
@@ -88,8 +81,12 @@ module _ (side : Side) (code : Code) (ranges : List ValueRange) (registers : Reg
   fit : (told : Told) → KeepsTables code told → (packet : Packet) → FitRanges ranges (staging side code).code.steps (seen_tables told) packet
   fit told safe packet =
       let p = staging side code in
-      steps_fit code.tables p.handed p.layout p.code order small stages others ranges ready.are law registers apart (seen_tables told) packet
-      (λ reads s. few told safe reads packet s.work)
+      steps_fit code.tables p.handed p.layout p.code order small stages others ranges ready.are (seen_tables told) packet (λ reads s. few told safe reads packet s.work)
+
+  planned : IsPlanned ranges (staging side code).code (kept (staging side code)) (begins ranges (staging side code)) (spans_on side code) registers
+  planned =
+      let p = staging side code in
+      planned_by code.tables p.handed p.layout p.code order small stages others ranges ready.are (kept p) (last_up p.layout p.code) law registers apart placed
 
   pub entry : (told : Told) → KeepsTables code told → (packet : Packet) (given : Reading) → BeginsWith ranges (begins ranges (staging side code)) given registers
       → IsEntered (staging side code) given (seen_tables told) packet
@@ -97,10 +94,8 @@ module _ (side : Side) (code : Code) (ranges : List ValueRange) (registers : Reg
   entry told safe packet given begin =
       let p = staging side code in
       let seen = seen_tables told in
-      let set = set_up_by_spans code.tables p.handed p.layout p.code order small stages others ranges ready.are law registers apart (kept p) (last_up p.layout p.code)
-      given seen packet placed begin (fit told safe packet) in
-      entered code.tables p.handed p.layout p.code order small stages others ranges ready.are law (kept p) given seen packet registers set.0 set.1
-      (first_is ranges p.code (kept p) given seen packet registers set.0 lists one_step (agree seen packet))
+      entered code.tables p.handed p.layout p.code order small stages others ranges ready.are law (kept p) given seen packet registers
+      (first_is ranges p.code (kept p) (begins ranges p) (spans_on side code) given seen packet registers planned begin (fit told safe packet) lists one_step (agree seen packet))
 
   pub computed : (told : Told) → KeepsTables code told → (packet : Packet) (given : Reading) → BeginsWith ranges (begins ranges (staging side code)) given registers
       → AreHeld ranges (registers_at ranges (staging side code).code (seen_tables told) packet registers (suc (staging side code).code.highest))
@@ -108,10 +103,7 @@ module _ (side : Side) (code : Code) (ranges : List ValueRange) (registers : Reg
   computed told safe packet given begin =
       let p = staging side code in
       let seen = seen_tables told in
-      pass_is ranges p.code (kept p) given seen packet registers
-      (set_up code.tables p.handed p.layout p.code order small stages others ranges ready.are law registers apart (kept p) (last_up p.layout p.code)
-      given seen packet placed begin (fit told safe packet))
-      lists one_step (agree seen packet)
+      pass_is ranges p.code (kept p) (begins ranges p) (spans_on side code) given seen packet registers planned begin (fit told safe packet) lists one_step (agree seen packet)
 
   module _ (told : Told) (safe : KeepsTables code told) (bit : Bool) (packet : Packet) (t : ℕ) where
     abbrev told_by : Told
@@ -126,7 +118,7 @@ module _ (side : Side) (code : Code) (ranges : List ValueRange) (registers : Reg
         let p = staging side code in
         let view = view_of bit told.pairs in
         staged code.tables p.handed p.layout p.code order small stages others ranges ready.are law (kept p) (last_up p.layout p.code) t registers apart placed view packet
-        (fit told_by still_safe packet) lists one_step (agree view packet) place_pairs
+        (fit told_by still_safe packet) lists one_step (agree view packet)
 
     pub last : suc t ≡ (staging side code).code.highest
         → AreHeld ranges (stage_done ranges (staging side code).code.steps (suc t) (view_of bit told.pairs) packet registers)
@@ -135,4 +127,4 @@ module _ (side : Side) (code : Code) (ranges : List ValueRange) (registers : Reg
         let p = staging side code in
         let view = view_of bit told.pairs in
         ends code.tables p.handed p.layout p.code order small stages others ranges ready.are law (kept p) (last_up p.layout p.code) t registers apart placed view packet
-        (fit told_by still_safe packet) lists one_step (agree view packet) place_pairs at
+        (fit told_by still_safe packet) lists one_step (agree view packet) at

@@ -1,8 +1,8 @@
 -- The numbers of values that stand in order.
-use Rattle.std.proofs.Common.{◌≡◌, ◌≢◌, ◌⊎◌, ℕ, suc, ◌+◌, ◌-◌, ◌^◌, ◌==◌, ◌<◌, ◌≤◌, max, min, cond, List, [], ◌∷◌, Some, None, refl, sym, ap, ◌∙◌, subst, inl, inr, arith}
+use Rattle.std.proofs.Common.{◌≡◌, ◌⊎◌, ℕ, suc, ◌+◌, ◌-◌, ◌^◌, ◌==◌, ◌<◌, ◌≤◌, max, min, cond, List, [], ◌∷◌, Some, None, refl, sym, ap, ◌∙◌, subst, inl, inr, arith}
 use Rattle.std.specs.Prelude.{nat_lt, Contains}
 use Rattle.std.specs.List.{AllByRecursion as Each}
-use Rattle.std.proofs.lemmas.Bool.{cases_eq, cases_lt, cond-true, cond-false, eq-eqb, lt-ltb, ne_eqb}
+use Rattle.std.proofs.lemmas.Bool.{cases_eq, cases_lt, cond-true, cond_both, eq-eqb, eqb-true, lt-ltb}
 use Rattle.switch_ir.specs.Spans.{Written}
 use Rattle.switch_machine.specs.declared.numbering.ValueRange.{ValueRange}
 use Rattle.switch_machine.specs.Numbers.{no_values, number_in, range_at}
@@ -44,49 +44,39 @@ module _ (had : List Written) (order : AreInOrder had) (small : (w : Written) �
   clipped i first count last = subst (λ (n : ℕ). IsLast i first n) (sym (fits i first count last)) last
 
   -- an entry more
-  one_entry : (e : Entry) → IsEntry e → (range : ValueRange) → IsRight e.instruction range → IsRight e.instruction (with_entry e range)
-  one_entry e is range (inl none) =
-      inr (clipped e.instruction e.first (max range.count e.count) (subst (λ (n : ℕ). IsLast e.instruction e.first n) (omega (arith, none)) is))
-  one_entry e is range (inr last) =
-      inr (clipped e.instruction e.first (max range.count e.count) (greater e.instruction range.first range.count e.first e.count last is))
+  joined : (e : Entry) → IsEntry e → (range : ValueRange) → IsRight e.instruction range → IsLast e.instruction e.first (max range.count e.count)
+  joined e is range (inl none) = subst (λ (n : ℕ). IsLast e.instruction e.first n) (omega (arith, none)) is
+  joined e is range (inr last) = greater e.instruction range.first range.count e.first e.count last is
+
+  abbrev with_one : Entry → (ℕ → ValueRange) → ℕ → ValueRange
+  with_one e before j = cond (j == e.instruction) (with_entry e (before j)) (before j)
+
+  next : (e : Entry) → IsEntry e → (before : ℕ → ValueRange) → ((i : ℕ) → IsRight i (before i)) → (j : ℕ) → IsRight j (with_one e before j)
+  next e is before right j =
+      cond_both (j == e.instruction) (with_entry e (before j)) (before j) (IsRight j)
+      (λ same. subst (λ k. IsRight k (with_entry e (before j))) (sym (eqb-true j e.instruction same))
+      (inr (clipped e.instruction e.first (max (before j).count e.count) (joined e is (before j) (subst (λ k. IsRight k (before j)) (eqb-true j e.instruction same) (right j))))))
+      (λ other. right j)
 
   entered_right : (es : List Entry) → Each IsEntry es → (before : ℕ → ValueRange) → ((i : ℕ) → IsRight i (before i)) → (i : ℕ) → IsRight i (entered es before i)
   entered_right [] all before right i = right i
-  entered_right (e ∷ es) all before right i =
-      entered_right es all.1 (λ j. cond (j == e.instruction) (with_entry e (before j)) (before j)) next i
-    where
-      next : (j : ℕ) → IsRight j (cond (j == e.instruction) (with_entry e (before j)) (before j))
-      next j = elim (cases_eq j e.instruction) [
-        | inl same ↦ subst (IsRight j) (sym (cond-true (j == e.instruction) (with_entry e (before j)) (before j) (eq-eqb j e.instruction same)))
-            (subst (λ k. IsRight k (with_entry e (before k))) (sym same) (one_entry e all.0 (before e.instruction) (right e.instruction)))
-        | inr other ↦ subst (IsRight j) (sym (cond-false (j == e.instruction) (with_entry e (before j)) (before j) (ne_eqb j e.instruction other))) (right j)
-      ]
+  entered_right (e ∷ es) all before right i = entered_right es all.1 (with_one e before) (next e all.0 before right) i
 
-  -- no entry makes a range smaller
+  -- no entry makes a range smaller, and each makes it large enough
+  wider : (e : Entry) → IsEntry e → (range : ValueRange) → IsRight e.instruction range
+      → (range.count ≤ (with_entry e range).count) × (e.count ≤ (with_entry e range).count)
+  wider e is range right =
+      let all = fits e.instruction e.first (max range.count e.count) (joined e is range right) in
+      (omega (arith, all), omega (arith, all))
+
   grows : (es : List Entry) → Each IsEntry es → (before : ℕ → ValueRange) → ((i : ℕ) → IsRight i (before i)) → (i : ℕ) → (before i).count ≤ (entered es before i).count
   grows [] all before right i = omega arith
-  grows (e ∷ es) all before right i =
-      omega (arith, here (cases_eq i e.instruction), grows es all.1 (λ j. cond (j == e.instruction) (with_entry e (before j)) (before j)) next i)
-    where
-      next : (j : ℕ) → IsRight j (cond (j == e.instruction) (with_entry e (before j)) (before j))
-      next j = elim (cases_eq j e.instruction) [
-        | inl same ↦ subst (IsRight j) (sym (cond-true (j == e.instruction) (with_entry e (before j)) (before j) (eq-eqb j e.instruction same)))
-            (subst (λ k. IsRight k (with_entry e (before k))) (sym same) (one_entry e all.0 (before e.instruction) (right e.instruction)))
-        | inr other ↦ subst (IsRight j) (sym (cond-false (j == e.instruction) (with_entry e (before j)) (before j) (ne_eqb j e.instruction other))) (right j)
-      ]
-
-      larger : (range : ValueRange) → IsRight e.instruction range → range.count ≤ (with_entry e range).count
-      larger range (inl none) = omega (arith, none)
-      larger range (inr last) =
-          omega (arith, fits e.instruction e.first (max range.count e.count) (greater e.instruction range.first range.count e.first e.count last all.0))
-
-      here : (i ≡ e.instruction) ⊎ (i ≢ e.instruction) → (before i).count ≤ (cond (i == e.instruction) (with_entry e (before i)) (before i)).count
-      here (inl same) =
-          subst (λ (r : ValueRange). (before i).count ≤ r.count) (sym (cond-true (i == e.instruction) (with_entry e (before i)) (before i) (eq-eqb i e.instruction same)))
-          (larger (before i) (subst (λ k. IsRight k (before i)) same (right i)))
-      here (inr other) =
-          subst (λ (r : ValueRange). (before i).count ≤ r.count) (sym (cond-false (i == e.instruction) (with_entry e (before i)) (before i) (ne_eqb i e.instruction other)))
-          (omega arith)
+  grows (e ∷ es) all before right i = omega (
+    arith,
+    cond_both (i == e.instruction) (with_entry e (before i)) (before i) (λ (r : ValueRange). (before i).count ≤ r.count)
+        (λ same. (wider e all.0 (before i) (subst (λ k. IsRight k (before i)) (eqb-true i e.instruction same) (right i))).0) (λ other. omega arith),
+    grows es all.1 (with_one e before) (next e all.0 before right) i,
+  )
 
   module _ (es : List Entry) (all : Each IsEntry es) (ranges : List ValueRange) (are : AreRanges es ranges) where
     nothing_right : (i : ℕ) → IsRight i no_values
@@ -94,12 +84,16 @@ module _ (had : List Written) (order : AreInOrder had) (small : (w : Written) �
 
     -- each range is right
     pub right_at : (i : ℕ) → IsRight i (range_at ranges i)
-    right_at i = moved (entered_right es all (λ _. no_values) nothing_right i)
-      where
-        moved : IsRight i (entered es (λ _. no_values) i) → IsRight i (range_at ranges i)
-        moved (inl none) = inl (are.count i ∙ none)
-        moved (inr last) =
-            inr (subst (λ (n : ℕ). IsLast i (range_at ranges i).first n) (sym (are.count i)) (subst (λ (n : ℕ). IsLast i n (entered es (λ _. no_values) i).count) (sym (are.first i)) last))
+    right_at i = elim (entered_right es all (λ _. no_values) nothing_right i) [
+      | inl none ↦ inl (are.count i ∙ none)
+      | inr last ↦ inr (record {
+        value = last.value;
+        there = last.there;
+        instruction = last.instruction;
+        count_is = last.count_is ∙ sym (are.count i);
+        number_is = last.number_is ∙ ap (λ (n : ℕ). n + last.value.value.result) (sym (are.first i));
+      })
+    ]
 
     -- and has room for the values of each entry
     pub has_entry : Each (λ (e : Entry). e.count ≤ (range_at ranges e.instruction).count) es
@@ -110,45 +104,23 @@ module _ (had : List Written) (order : AreInOrder had) (small : (w : Written) �
             → Each (λ (e : Entry). e.count ≤ (range_at ranges e.instruction).count) rest
         go [] those before right is = tt
         go (e ∷ rest) those before right is =
-            let after : ℕ → ValueRange = λ j. cond (j == e.instruction) (with_entry e (before j)) (before j) in (
-              omega (arith, is e.instruction, grows rest those.1 after (next e those before right) e.instruction, now e those before right),
-              go rest those.1 after (next e those before right) is,
-            )
-          where
-            next : (e : Entry) → Each IsEntry (e ∷ rest) → (before : ℕ → ValueRange) → ((i : ℕ) → IsRight i (before i))
-                → (j : ℕ) → IsRight j (cond (j == e.instruction) (with_entry e (before j)) (before j))
-            next e those before right j = elim (cases_eq j e.instruction) [
-              | inl same ↦ subst (IsRight j) (sym (cond-true (j == e.instruction) (with_entry e (before j)) (before j) (eq-eqb j e.instruction same)))
-                  (subst (λ k. IsRight k (with_entry e (before k))) (sym same) (one_entry e those.0 (before e.instruction) (right e.instruction)))
-              | inr other ↦ subst (IsRight j) (sym (cond-false (j == e.instruction) (with_entry e (before j)) (before j) (ne_eqb j e.instruction other))) (right j)
-            ]
-
-            room : (e : Entry) → IsEntry e → (range : ValueRange) → IsRight e.instruction range → e.count ≤ (with_entry e range).count
-            room e is range (inl none) =
-                omega (arith, none, fits e.instruction e.first e.count is, fits e.instruction e.first (max range.count e.count) (subst (λ (n : ℕ). IsLast e.instruction e.first n) (omega (arith, none)) is))
-            room e is range (inr last) =
-                omega (arith, fits e.instruction e.first (max range.count e.count) (greater e.instruction range.first range.count e.first e.count last is))
-
-            now : (e : Entry) → Each IsEntry (e ∷ rest) → (before : ℕ → ValueRange) → ((i : ℕ) → IsRight i (before i))
-                → e.count ≤ (cond (e.instruction == e.instruction) (with_entry e (before e.instruction)) (before e.instruction)).count
-            now e those before right =
-                subst (λ (r : ValueRange). e.count ≤ r.count)
-                (sym (cond-true (e.instruction == e.instruction) (with_entry e (before e.instruction)) (before e.instruction) (eq-eqb e.instruction e.instruction refl)))
-                (room e those.0 (before e.instruction) (right e.instruction))
+            let after = next e those.0 before right in
+            let now : e.count ≤ (with_one e before e.instruction).count =
+            subst (λ (r : ValueRange). e.count ≤ r.count)
+            (sym (cond-true (e.instruction == e.instruction) (with_entry e (before e.instruction)) (before e.instruction) (eq-eqb e.instruction e.instruction refl)))
+            (wider e those.0 (before e.instruction) (right e.instruction)).1 in
+            (omega (arith, is e.instruction, grows rest those.1 (with_one e before) after e.instruction, now), go rest those.1 (with_one e before) after is)
 
     -- a value that is had has its number
     pub has_number : (w : Written) → Contains had w → w.value.result < (range_at ranges w.value.instruction).count
         → number_in ranges w.value ≡ Some w.number
-    has_number w there lt = by_right (right_at w.value.instruction)
-      where
-        range : ValueRange
-        range = range_at ranges w.value.instruction
-
-        by_right : IsRight w.value.instruction range → number_in ranges w.value ≡ Some w.number
-        by_right (inl none) = absurd (omega (arith, none, lt))
-        by_right (inr last) =
-            cond-true (nat_lt w.value.result range.count) (Some (range.first + w.value.result)) None (lt-ltb w.value.result range.count lt)
-            ∙ ap (λ n. Some n) (omega (arith, order.same w last.value there last.there (sym last.instruction), last.number_is))
+    has_number w there lt =
+        let range = range_at ranges w.value.instruction in
+        elim (right_at w.value.instruction) [
+          | inl none ↦ absurd (omega (arith, none, lt))
+          | inr last ↦ cond-true (nat_lt w.value.result range.count) (Some (range.first + w.value.result)) None (lt-ltb w.value.result range.count lt)
+              ∙ ap (λ n. Some n) (omega (arith, order.same w last.value there last.there (sym last.instruction), last.number_is))
+        ]
 
     below : (i j : ℕ) → i < j → IsRight i (range_at ranges i) → IsRight j (range_at ranges j) → (r r' : ℕ)
         → r < (range_at ranges i).count → r' < (range_at ranges j).count → (range_at ranges i).first + r < (range_at ranges j).first + r'

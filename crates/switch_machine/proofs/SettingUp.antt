@@ -1,12 +1,10 @@
--- Registers are set up for the passes of code.
-use Rattle.std.proofs.Common.{◌≡◌, ◌≤◌, ◌<◌, ◌^◌, ◌++◌, ◌||◌, ◌==◌, ◌%◌, ◌⊎◌, if◌then◌else◌, ℕ, zero, suc, Bool, true, false, List, [], ◌∷◌, length, map, refl, sym, ap, ◌∙◌, inl, inr, arith}
-use Rattle.std.specs.Prelude.{Contains}
+-- What is kept of a pass.
+use Rattle.std.proofs.Common.{◌≡◌, ◌^◌, ◌++◌, ◌||◌, ◌==◌, ◌%◌, if◌then◌else◌, ℕ, zero, suc, Bool, true, List, [], ◌∷◌, map, refl, sym, ap, ◌∙◌, inl, inr}
 use Rattle.std.specs.List.{list_any, AllByRecursion as Each}
 use Rattle.std.proofs.lemmas.Bool.{or_left, or_right}
 use Rattle.packet_fields.specs.declared.packet.Packet.{Packet}
 use Rattle.packet_fields.specs.declared.verdict.Verdict.TheVariants.{Drop, Send}
 use Rattle.packet_fields.specs.Fields.{with_field}
-use Rattle.state_store.specs.Store.{Store}
 use Rattle.flat_ir.specs.declared.program.ValueId.{ValueId}
 use Rattle.flat_ir.specs.declared.program.Block.{Block}
 use Rattle.flat_ir.specs.declared.program.FieldValue.{FieldValue}
@@ -14,69 +12,17 @@ use Rattle.flat_ir.specs.Blocks.{Reading, block_at, is_live, line}
 use Rattle.flat_ir.specs.Laws.{Same}
 use Rattle.flat_ir.specs.Program.{Program}
 use Rattle.flat_ir.specs.WellFormed.{EachCondition}
-use Rattle.flat_ir.specs.Run.{results, with_writes}
+use Rattle.flat_ir.specs.Run.{with_writes}
 use Rattle.split_model.specs.declared.layout.Crossing.{Crossing}
 use Rattle.split_model.specs.Crossing.{is_value}
 use Rattle.split_model.specs.Crossing.{is_among as is_among_values}
-use Rattle.transfer_header.specs.Registers.{Registers, ArePlaced}
-use Rattle.transfer_header.specs.Steps.{Contents, AreKeptApart, AreSpansOf}
-use Rattle.switch_ir.specs.declared.code.Table.{Table}
 use Rattle.switch_ir.specs.Meaning.{leaves}
-use Rattle.switch_ir.specs.Passes.{PassCode, Step}
-use Rattle.switch_ir.specs.Spans.{is_condition, is_read_last, is_tested, pass_spans, results_in, written_in, GoesByStages, Written}
-use Rattle.switch_ir.specs.Spans.{steps_of as steps_by_values}
-use Rattle.switch_machine.specs.declared.numbering.ValueRange.{ValueRange}
+use Rattle.switch_ir.specs.Passes.{PassCode}
+use Rattle.switch_ir.specs.Spans.{is_condition, is_read_last, is_tested}
 use Rattle.switch_machine.specs.Keeping.{conditions, left_with, lines_of, values_in}
-use Rattle.switch_machine.specs.Numbers.{range_at}
-use Rattle.switch_machine.specs.Planned.{BeginsWith, FitRanges, IsSetUp}
-use Rattle.switch_machine.specs.Ranges.{entries, AreInOrder, AreOthers, AreRanges}
 use Rattle.switch_machine.proofs.Beginning.{same_value}
-use Rattle.switch_machine.proofs.Members.{has_any, has_each, has_left, has_made, has_parts, has_right, Has}
-use Rattle.switch_machine.proofs.PassValues.{apart, begins, begins_fresh, once, range_is, spans_mine}
-
-module _ (tables : List Table) (handed up : List Crossing) (pass : PassCode)
-    (order : AreInOrder (written_in tables handed pass)) (small : (w : Written) → Contains (written_in tables handed pass) w → suc w.number < 2 ^ 32)
-    (stages : GoesByStages (written_in tables handed pass) pass) (others : AreOthers handed (pass.given ++ pass.steps))
-    (ranges : List ValueRange) (are : AreRanges (entries tables handed pass) ranges)
-    (law : (number : ℕ → Contents → Contents) → AreSpansOf (steps_by_values tables handed up pass number) (pass_spans tables handed up pass))
-    (registers : Registers) (kept_apart : AreKeptApart (pass_spans tables handed up pass) registers) where
-  abbrev pub starts : List ℕ
-  starts = begins tables handed up pass order small stages others ranges are
-
-  pub steps_fit : (seen : Store) (packet : Packet) → ((reads : Reading) (s : Step) → length (results reads false seen packet s.work) ≤ results_in tables s.work)
-      → FitRanges ranges pass.steps seen packet
-  steps_fit seen packet few reads =
-      has_each (λ (s : Step). length (results reads false seen packet s.work) ≤ (range_at ranges s.instruction).count) pass.steps
-      (λ s h. omega (arith, few reads s, (range_is tables handed up pass order small stages others ranges are s (has_right pass.given pass.steps s h)).0))
-
-  pub given_fit : (packet : Packet) → ((reads : Reading) (s : Step) → length (results reads false [] packet s.work) ≤ results_in tables s.work)
-      → FitRanges ranges pass.given [] packet
-  given_fit packet few reads =
-      has_each (λ (s : Step). length (results reads false [] packet s.work) ≤ (range_at ranges s.instruction).count) pass.given
-      (λ s h. omega (arith, few reads s, (range_is tables handed up pass order small stages others ranges are s (has_left pass.given pass.steps s h)).0))
-
-  pub set_up : (kept : List ValueId) → Each (λ v. is_read_last up pass v ≡ true) kept → (given : Reading) (seen : Store) (packet : Packet)
-      → ArePlaced registers → BeginsWith ranges starts given registers → FitRanges ranges pass.steps seen packet
-      → IsSetUp ranges pass kept given seen packet registers
-  set_up kept last given seen packet placed begin fit = record {
-    begins = starts;
-    spans = pass_spans tables handed up pass;
-    are = λ number. spans_mine tables handed up pass order small stages others ranges are kept last number (pass_spans tables handed up pass) (law number);
-    apart = kept_apart;
-    placed = placed;
-    numbered = apart tables handed up pass order small stages others ranges are;
-    once = once tables handed up pass order small stages others ranges are;
-    fresh = begins_fresh tables handed up pass order small stages others ranges are;
-    begin = begin;
-    fit = fit;
-  }
-
-  -- by the spans of the pass
-  pub set_up_by_spans : (kept : List ValueId) → Each (λ v. is_read_last up pass v ≡ true) kept → (given : Reading) (seen : Store) (packet : Packet)
-      → ArePlaced registers → BeginsWith ranges starts given registers → FitRanges ranges pass.steps seen packet
-      → (set : IsSetUp ranges pass kept given seen packet registers) × (set.spans ≡ pass_spans tables handed up pass)
-  unfolding set_up
-  set_up_by_spans kept last given seen packet placed begin fit = (set_up kept last given seen packet placed begin fit, refl)
+use Rattle.switch_machine.proofs.Each.{each_two}
+use Rattle.switch_machine.proofs.Members.{has_any, has_each, has_made, has_parts, Has}
 
 -- ## What is kept is read last
 
@@ -121,16 +67,13 @@ module _ (up : List Crossing) (pass : PassCode) where
   tested_any : (v : ValueId) (bs : List ℕ) → Has (lines_of pass.blocks bs) v
       → list_any (λ b. list_any (is_condition pass.blocks v) (line pass.blocks b)) bs ≡ true
   tested_any v [] h = absurd h
-  tested_any v (b ∷ bs) h = go (λ later. tested_any v bs later) (has_parts (conditions pass.blocks (line pass.blocks b)) (lines_of pass.blocks bs) v h)
-    where
-      go : (Has (lines_of pass.blocks bs) v → list_any (λ k. list_any (is_condition pass.blocks v) (line pass.blocks k)) bs ≡ true)
-          → Has (conditions pass.blocks (line pass.blocks b)) v ⊎ Has (lines_of pass.blocks bs) v
-          → list_any (λ k. list_any (is_condition pass.blocks v) (line pass.blocks k)) (b ∷ bs) ≡ true
-      go rest (inl here) =
-          or_left (list_any (is_condition pass.blocks v) (line pass.blocks b)) (list_any (λ k. list_any (is_condition pass.blocks v) (line pass.blocks k)) bs)
-          (condition_any v (line pass.blocks b) here)
-      go rest (inr later) =
-          or_right (list_any (is_condition pass.blocks v) (line pass.blocks b)) (list_any (λ k. list_any (is_condition pass.blocks v) (line pass.blocks k)) bs) (rest later)
+  tested_any v (b ∷ bs) h =
+      let here = list_any (is_condition pass.blocks v) (line pass.blocks b) in
+      let later = list_any (λ k. list_any (is_condition pass.blocks v) (line pass.blocks k)) bs in
+      elim (has_parts (conditions pass.blocks (line pass.blocks b)) (lines_of pass.blocks bs) v h) [
+        | inl first ↦ or_left here later (condition_any v (line pass.blocks b) first)
+        | inr rest ↦ or_right here later (tested_any v bs rest)
+      ]
 
   tested_one : (v : ValueId) → Has (lines_of pass.blocks pass.rest) v → IsLast v
   tested_one v h =
@@ -138,15 +81,9 @@ module _ (up : List Crossing) (pass : PassCode) where
       (or_left (is_tested pass v) (leaves_by v) (tested_any v pass.rest h))
 
   pub last_up : Each IsLast (values_in up ++ (lines_of pass.blocks pass.rest ++ left_with pass))
-  last_up = has_each IsLast (values_in up ++ (lines_of pass.blocks pass.rest ++ left_with pass)) (λ v h. first v (has_parts (values_in up) (lines_of pass.blocks pass.rest ++ left_with pass) v h))
-    where
-      second : (v : ValueId) → Has (lines_of pass.blocks pass.rest) v ⊎ Has (left_with pass) v → IsLast v
-      second v (inl here) = tested_one v here
-      second v (inr there) = left_one v there
-
-      first : (v : ValueId) → Has (values_in up) v ⊎ Has (lines_of pass.blocks pass.rest ++ left_with pass) v → IsLast v
-      first v (inl here) = crossing_one v here
-      first v (inr there) = second v (has_parts (lines_of pass.blocks pass.rest) (left_with pass) v there)
+  last_up =
+      each_two IsLast (values_in up) (lines_of pass.blocks pass.rest ++ left_with pass) (has_each IsLast (values_in up) crossing_one)
+      (each_two IsLast (lines_of pass.blocks pass.rest) (left_with pass) (has_each IsLast (lines_of pass.blocks pass.rest) tested_one) (has_each IsLast (left_with pass) left_one))
 
 -- ## Readings that agree on what is kept
 

@@ -1,15 +1,17 @@
 -- The rows that lookups see of an object that keeps what was declared.
-use Rattle.std.proofs.Common.{◌≡◌, ◌≤◌, ◌+◌, ◌-◌, ℕ, Bool, true, false, cond, ◌&&◌, List, [], ◌∷◌, length, map, Option, Some, None, refl, sym, ap, ◌∙◌, subst, arith, true≢false}
+use Rattle.std.proofs.Common.{◌≡◌, ◌≤◌, ◌+◌, ◌-◌, ℕ, Bool, true, false, cond, ◌&&◌, List, [], ◌∷◌, length, map, Option, Some, None, refl, sym, ap, ◌∙◌, subst, arith}
 use Rattle.std.specs.Prelude.{T}
 use Rattle.std.specs.Ordering.{eq_by_cmp, is_eq, is_lt}
 use Rattle.std.specs.declared.cmp.Ordering.{Ordering}
 use Rattle.std.specs.declared.cmp.Ordering.TheVariants.{Less, Equal, Greater}
 use Rattle.std.specs.Cmp.{tied_itself}
-use Rattle.std.specs.FinMap.{find, is_sorted, get, entries, entries_sorted, len, contains_key, get-entries, len-entries, len-insert, len-remove}
+use Rattle.std.specs.FinMap.{find, is_sorted, get, entries, entries_sorted, len, contains_key, get-entries, len-entries, len-insert}
 use Rattle.std.specs.FinMap.Entries.{below_all}
 use Rattle.std.specs.List.{AllByRecursion as Each}
+use Rattle.std.proofs.lemmas.Bool.{cond_both}
 use Rattle.std.proofs.lemmas.Cmp.{nat_list_cmp_total}
 use Rattle.std.proofs.lemmas.Map.Lookups.{exact_bytes}
+use Rattle.std.proofs.lemmas.Map.Views.{tells_apart}
 use Rattle.std.proofs.lemmas.Option.{none-some}
 use Rattle.state_store.specs.declared.object.ObjectDecl.{ObjectDecl}
 use Rattle.state_store.specs.declared.object.Row.{Row}
@@ -19,6 +21,7 @@ use Rattle.state_store.specs.Store.{Contents, key_cmp, look, rows_from}
 use Rattle.writeback_table.specs.Pair.{Pair, seen, visible, visible_rows, with_row, with_staged}
 use Rattle.switch_ir.specs.Port.{entry_of, AreRowsOf}
 use Rattle.switch_machine.specs.Kept.{staged_fits, KeepsRows}
+use Rattle.switch_machine.proofs.KeptRows.{none_more}
 
 -- ## Entries of a map
 
@@ -35,11 +38,6 @@ less_is_other Less h = refl
 less_is_other Equal h = absurd h
 less_is_other Greater h = absurd h
 
-is_equal : (o : Ordering) → is_eq o ≡ true → o ≡ Equal
-is_equal Less e = absurd (true≢false (sym e))
-is_equal Equal e = refl
-is_equal Greater e = absurd (true≢false (sym e))
-
 abbrev Rows : Type 0
 Rows = List (List ℕ × List ℕ)
 
@@ -51,27 +49,22 @@ none_above key (e ∷ es) h =
     ∙ none_above key es (second (is_lt (key_cmp key e.0)) (below_all key_cmp key es) h)
 
 -- what is found behind an entry is found with it
-found_too : (key values : List ℕ) (e : List ℕ × List ℕ) (es : Rows) (same : Bool) → eq_by_cmp key_cmp key e.0 ≡ same
-    → T (below_all key_cmp e.0 es) → find key_cmp key es ≡ Some values → cond same (Some e.1) (find key_cmp key es) ≡ Some values
-found_too key values e es true is below found =
-    let one : key ≡ e.0 = exact_bytes key e.0 (is_equal (key_cmp key e.0) is) in
-    absurd (none-some values (sym (none_above e.0 es below) ∙ ap (λ k. find key_cmp k es) (sym one) ∙ found))
-found_too key values e es false is below found = found
+found_too : (key values : List ℕ) (e : List ℕ × List ℕ) (es : Rows) → T (below_all key_cmp e.0 es) → find key_cmp key es ≡ Some values
+    → find key_cmp key (e ∷ es) ≡ Some values
+found_too key values e es below found =
+    cond_both (eq_by_cmp key_cmp key e.0) (Some e.1) (find key_cmp key es) (λ o. o ≡ Some values)
+    (λ same. absurd (none-some values (sym (none_above e.0 es below) ∙ ap (λ k. find key_cmp k es) (sym (tells_apart exact_bytes key e.0 same)) ∙ found)))
+    (λ other. found)
 
 -- what holds of each key with its values holds of each entry
 pub each_entry : (P : List ℕ → List ℕ → Type 0) (es : Rows) → T (is_sorted key_cmp es)
     → ((key values : List ℕ) → find key_cmp key es ≡ Some values → P key values) → Each (λ (r : Row). P r.keys r.values) (rows_from es)
 each_entry P [] sorted all = tt
-each_entry P (e ∷ es) sorted all =
-    let below = first (below_all key_cmp e.0 es) (is_sorted key_cmp es) sorted in (
-      all e.0 e.1 (ap (λ b. cond b (Some e.1) (find key_cmp e.0 es)) (itself e.0)),
-      each_entry P es (second (below_all key_cmp e.0 es) (is_sorted key_cmp es) sorted)
-          (λ key values found.
-          all key values (ap (λ b. cond b (Some e.1) (find key_cmp key es)) refl ∙ found_too key values e es (eq_by_cmp key_cmp key e.0) refl below found)),
-    )
-  where
-    itself : (key : List ℕ) → eq_by_cmp key_cmp key key ≡ true
-    itself key = ap is_eq (tied_itself nat_list_cmp_total key)
+each_entry P (e ∷ es) sorted all = (
+  all e.0 e.1 (ap (λ b. cond b (Some e.1) (find key_cmp e.0 es)) (ap is_eq (tied_itself nat_list_cmp_total e.0))),
+  each_entry P es (second (below_all key_cmp e.0 es) (is_sorted key_cmp es) sorted)
+      (λ key values found. all key values (found_too key values e es (first (below_all key_cmp e.0 es) (is_sorted key_cmp es) sorted) found)),
+)
 
 pub entries_back : (es : Rows) → map entry_of (rows_from es) ≡ es
 entries_back [] = refl
@@ -83,19 +76,11 @@ count_same (e ∷ es) = omega (arith, count_same es)
 
 -- ## How many there are
 
-at_most_one : (known : Bool) (n : ℕ) → cond known n (n + 1) ≤ n + 1
-at_most_one true n = omega arith
-at_most_one false n = omega arith
-
-no_more : (known : Bool) (n : ℕ) → cond known (n - 1) n ≤ n + 1
-no_more true n = omega arith
-no_more false n = omega arith
-
 one_over : (key : List ℕ) (row : Option (List ℕ)) (rows : Contents) → len (with_row key row rows) ≤ len rows + 1
 one_over key (Some values) rows =
-    subst (λ n. n ≤ len rows + 1) (sym (len-insert nat_list_cmp_total rows key values)) (at_most_one (contains_key rows key) (len rows))
-one_over key None rows =
-    subst (λ n. n ≤ len rows + 1) (sym (len-remove nat_list_cmp_total rows key)) (no_more (contains_key rows key) (len rows))
+    subst (λ n. n ≤ len rows + 1) (sym (len-insert nat_list_cmp_total rows key values))
+    (cond_both (contains_key rows key) (len rows) (len rows + 1) (λ n. n ≤ len rows + 1) (λ e. omega arith) (λ e. omega arith))
+one_over key None rows = omega (arith, none_more rows key)
 
 all_over : (staged : List (List ℕ × Option (List ℕ))) (rows : Contents) → len (with_staged staged rows) ≤ len rows + length staged
 all_over [] rows = omega arith

@@ -1,5 +1,5 @@
 -- The numbers of a pass's values, and what its instructions read, give and write by them.
-use Rattle.std.specs.Prelude.{◌≡◌, ◌≢◌, ℕ, zero, suc, ◌+◌, ◌-◌, ◌==◌, nat_lt, Bool, false, ◌||◌}
+use Rattle.std.specs.Prelude.{◌≡◌, ◌≢◌, ℕ, zero, suc, ◌+◌, ◌-◌, ◌==◌, nat_lt, Bool, false}
 use Rattle.std.specs.Prelude.{List, [], ◌∷◌, ◌++◌, if◌then◌else◌, slice_index, slice_index_or, Option, Some, None}
 use Rattle.std.specs.List.{list_any, AllByRecursion as Each}
 use Rattle.packet_fields.specs.declared.packet.Packet.{Packet}
@@ -90,8 +90,7 @@ is_read ranges vs n = list_any (λ v. is_number (number_in ranges v) n) vs
 
 -- one of the instructions reads it
 abbrev pub stage_reads : List ValueRange → List Step → ℕ → Bool
-stage_reads ranges [] n = false
-stage_reads ranges (s ∷ ss) n = is_read ranges (operands s.work) n || stage_reads ranges ss n
+stage_reads ranges ss n = list_any (λ (s : Step). is_read ranges (operands s.work) n) ss
 
 -- no instruction stands twice
 abbrev pub AreOnce : List Step → Type 0

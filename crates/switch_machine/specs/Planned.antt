@@ -47,14 +47,12 @@ pub record BeginsWith (ranges : List ValueRange) (begins : List ℕ) (given : Re
   pub others : (v : ValueId) (n : ℕ) → number_in ranges v ≡ Some n → is_among n begins ≡ false → given v ≡ 0
   pub unknown : (v : ValueId) → number_in ranges v ≡ None → given v ≡ 0
 
--- The registers are set up for a pass of which these values are kept, and which begins with these numbers: by spans of
+-- The registers are planned for a pass of which these values are kept, and which begins with these numbers: by spans of
 -- what it reads and writes, values that are needed at one step are in registers apart.
-pub record IsSetUp
-    (ranges : List ValueRange) (pass : PassCode) (kept : List ValueId) (given : Reading) (tables : Store)
-    (packet : Packet) (registers : Registers)
+pub record IsPlanned
+    (ranges : List ValueRange) (pass : PassCode) (kept : List ValueId) (begins : List ℕ) (spans : List Span)
+    (registers : Registers)
     : Type 0 where
-  pub begins : List ℕ
-  pub spans : List Span
   pub are : (number : ℕ → Contents → Contents) → AreSpansOf (steps_of ranges pass begins kept number) spans
   pub apart : AreKeptApart spans registers
   pub placed : ArePlaced registers
@@ -62,8 +60,6 @@ pub record IsSetUp
   pub once : AreOnce pass.steps
   -- no stage writes what the pass begins with
   pub fresh : (n : ℕ) → is_among n begins ≡ true → is_among n (stage_writes ranges (of_stage 0 pass.steps)) ≡ false
-  pub begin : BeginsWith ranges begins given registers
-  pub fit : FitRanges ranges pass.steps tables packet
 
 -- the registers before a stage of a pass that began with these: each stage reads all that it reads before it writes
 unfoldable pub registers_at : List ValueRange → PassCode → Store → Packet → Registers → ℕ → Registers
