@@ -147,8 +147,9 @@ fn perform<'a, F: Files, S: SwitchPort, O: Sink>(
 }
 
 /// Does what the words after the program's name ask for, and answers how that ended. On Done, `out` has received one
-/// whole text. With every other status `err` receives one line. Only a replay calls the switch. The parts of `Promises`
-/// are what is promised of a whole call, from its cause to what it leaves on both sinks and the switch.
+/// whole text. With every other status `err` receives one line or, where writing to it fails, a first part of it or
+/// nothing. Only a replay calls the switch. The parts of `Promises` are what is promised of a whole call, from its cause
+/// to what it leaves on both sinks and the switch.
 pub fn gallium<F: Files, S: SwitchPort, O: Sink, E: Sink>(
     alloc: Global,
     words: &[String],
