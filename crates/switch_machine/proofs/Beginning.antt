@@ -20,7 +20,7 @@ use Rattle.switch_machine.specs.Planned.{AreNumberedApart, BeginsWith, FitRanges
 use Rattle.switch_machine.specs.Staged.{of_stage}
 use Rattle.switch_machine.proofs.Each.{each_weaker}
 use Rattle.switch_machine.proofs.Members.{any_has, each_has}
-use Rattle.switch_machine.proofs.Numbered.{all_right, each_of_stage, known, number_is, once_of_stage, own_is, unknown_stays, writes_are}
+use Rattle.switch_machine.proofs.Numbered.{all_right, known, number_is, once_of_stage, unknown_stays, writes_are}
 use Rattle.switch_machine.proofs.Writing.{written_one}
 
 pub same_value : (a b : ValueId) → a.instruction ≡ b.instruction → a.result ≡ b.result → is_value a b ≡ true
@@ -99,7 +99,7 @@ module _ (ranges : List ValueRange) (apart : AreNumberedApart ranges) (layout : 
 
   input_is : (v : ValueId) (n : ℕ) → number_in ranges v ≡ Some n
       → cond (is_among n (stage_writes ranges own)) (now n) 0 ≡ after_stage given 0 nothing [] packet v
-  input_is v n is = number_is ranges nothing [] packet apart v n is own ∙ own_is 0 nothing [] packet v given
+  input_is v n is = number_is ranges 0 nothing [] packet v apart n is given
 
   crosses_by : (v : ValueId) (n : ℕ) → number_in ranges v ≡ Some n → crosses layout v ≡ is_among n (numbers_in layout)
   crosses_by = crosses_is ranges apart registers layout known_all
@@ -114,9 +114,9 @@ module _ (ranges : List ValueRange) (apart : AreNumberedApart ranges) (layout : 
       (places : (n m : ℕ) → is_among n begins ≡ true → is_among m begins ≡ true → n ≢ m → place_of registers n ≢ place_of registers m) where
     content_is : (n : ℕ) → is_among n begins ≡ true → content_of after n ≡ cond (is_among n (stage_writes ranges own)) (now n) (content_of registers n)
     content_is n in_it =
-        let right = all_right ranges nothing [] packet apart own (once_of_stage 0 given once) now in
+        let right = all_right ranges nothing [] packet apart own (once_of_stage 0 given once) in
         written_one keeps n (now n) registers pairs (has n in_it) placed
-        (each_weaker _ (λ (p : ℕ × ℕ). p.0 ≡ n → p.1 ≡ now n) (λ p h same. h.1 ∙ cond-true (is_among p.0 (stage_writes ranges own)) (now p.0) (now p.0) h.0 ∙ ap now same) pairs right)
+        (each_weaker _ (λ (p : ℕ × ℕ). p.0 ≡ n → p.1 ≡ now n) (λ p h same. h.1 ∙ ap now same) pairs right)
         (each_weaker _ (λ (p : ℕ × ℕ). p.0 ≢ n → place_of registers p.0 ≢ place_of registers n)
         (λ p h other. places p.0 n (sym (begins_parts p.0) ∙ or_right (is_among p.0 (numbers_in layout)) (is_among p.0 (stage_writes ranges own)) h.0) in_it other) pairs right)
         ∙ ap (λ (ws : List ℕ). cond (is_among n ws) (now n) (content_of registers n)) (writes_are ranges nothing [] packet own)
@@ -145,6 +145,5 @@ module _ (ranges : List ValueRange) (apart : AreNumberedApart ranges) (layout : 
       unknown = λ v none.
           cond-false (crosses layout v) (handed layout (value_in registers) v) (after_stage given 0 nothing [] packet v)
           (unknown_stays_out ranges apart registers layout known_all v none)
-          ∙ sym (own_is 0 nothing [] packet v given)
-          ∙ unknown_stays ranges nothing [] packet v none refl own (each_of_stage _ 0 given (λ s h stage. each_has _ given (fit nothing) s h));
+          ∙ unknown_stays ranges 0 nothing [] packet v none refl given (fit nothing);
     }

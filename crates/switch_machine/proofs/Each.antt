@@ -15,10 +15,6 @@ each_two P [] ys h k = k
 each_two P (x ∷ xs) ys h k = (h.0, each_two P xs ys h.1 k)
 
 -- of a list that is made of another by a function
-pub each_map : {X Y : Type 0} (P : Y → Type 0) (f : X → Y) (xs : List X) → Each P (map f xs) → Each (λ x. P (f x)) xs
-each_map P f [] h = tt
-each_map P f (x ∷ xs) h = (h.0, each_map P f xs h.1)
-
 pub map_each : {X Y : Type 0} (P : Y → Type 0) (f : X → Y) (xs : List X) → Each (λ x. P (f x)) xs → Each P (map f xs)
 map_each P f [] h = tt
 map_each P f (x ∷ xs) h = (h.0, map_each P f xs h.1)

@@ -1,9 +1,10 @@
 -- A pass stage by stage, in registers.
-use Rattle.std.proofs.Common.{◌≡◌, ℕ, zero, suc, ◌==◌, ◌<◌, ◌≤◌, Bool, true, false, cond, ◌||◌, ◌&&◌, ◌⊎◌, List, [], ◌∷◌, ◌++◌, map, Option, Some, None, refl, sym, ap, ◌∙◌, subst, inl, inr, arith, slice_index, slice_set}
+use Rattle.std.proofs.Common.{◌≡◌, ℕ, zero, suc, ◌==◌, ◌<◌, ◌≤◌, Bool, true, false, cond, ◌||◌, ◌&&◌, ◌⊎◌, List, [], ◌∷◌, ◌++◌, map, Option, Some, None, refl, sym, ap, ◌∙◌, subst, inl, inr, arith}
 use Rattle.std.specs.Prelude.{nat_le, All, Contains}
 use Rattle.std.specs.List.{AllByRecursion as Each}
-use Rattle.std.proofs.lemmas.Bool.{cases_eq, cond-false, eq-eqb, ne_eqb, or_cases, or_left, or_parts, or_right, and_from, le-leb, true≢false}
-use Rattle.std.proofs.lemmas.List.Elements.{All-contains}
+use Rattle.std.proofs.lemmas.Bool.{cases_eq, cond-true, cond-false, eq-eqb, ne_eqb, or_cases, or_left, or_parts, or_right, and_from, le-leb, true≢false}
+use Rattle.std.proofs.lemmas.List.{set-get_or}
+use Rattle.std.proofs.lemmas.List.Elements.{All-contains, All-from_recursion}
 use Rattle.std.proofs.lemmas.List.Folds.{list_any-append}
 use Rattle.std.proofs.lemmas.List.Sums.{sum_by-cons}
 use Rattle.packet_fields.specs.declared.packet.Packet.{Packet}
@@ -25,9 +26,9 @@ use Rattle.switch_machine.specs.declared.numbering.ValueRange.{ValueRange}
 use Rattle.switch_machine.specs.Numbers.{AreHeld, content_at, gives, is_number, is_read, number_in, range_at, reads_by, stage_gives, stage_number, stage_reads, stage_writes}
 use Rattle.switch_machine.specs.Planned.{first_writes, registers_at, stage_done, steps_of, BeginsWith, FitRanges, IsPlanned}
 use Rattle.switch_machine.specs.Staged.{of_stage}
-use Rattle.switch_machine.proofs.Each.{each_at}
-use Rattle.switch_machine.proofs.Members.{each_has, has_among, has_any, has_each}
-use Rattle.switch_machine.proofs.Numbered.{all_right, each_of_stage, number_is, once_of_stage, own_is, unknown_stays, writes_are}
+use Rattle.switch_machine.proofs.Each.{each_weaker}
+use Rattle.switch_machine.proofs.Members.{has_among, has_any, has_each}
+use Rattle.switch_machine.proofs.Numbered.{all_right, number_is, once_of_stage, unknown_stays, writes_are}
 
 -- ## Spans of values
 
@@ -58,14 +59,9 @@ has_span (first ∷ spans) value some = elim (cases_eq first.value value) [
 
 -- ## Writes that change nothing
 
-set_own : (numbers : List ℕ) (place : ℕ) → slice_set numbers place (slice_index numbers place) ≡ numbers
-set_own [] place = refl
-set_own (n ∷ ns) zero = refl
-set_own (n ∷ ns) (suc place) = ap (λ (rest : List ℕ). n ∷ rest) (set_own ns place)
-
 own_by : (numbers : List ℕ) (place : Option ℕ) → set_by numbers place (number_by numbers place) ≡ numbers
 own_by numbers None = refl
-own_by numbers (Some place) = set_own numbers place
+own_by numbers (Some place) = set-get_or numbers place 0
 
 own_written : (registers : Registers) (value : ℕ) → written registers value (content_of registers value) ≡ registers
 own_written registers value =
@@ -200,10 +196,11 @@ module _ (ranges : List ValueRange) (pass : PassCode) (kept : List ValueId) (beg
       written_is : after ≡ registers_after (steps number) registers t
       written_is =
           let numbers = number t (content_of registers) in
-          let right = all_right ranges reads view packet at.planned.numbered own (once_of_stage t pass.steps at.planned.once) (content_of registers) in
+          let right = all_right ranges reads view packet at.planned.numbered own (once_of_stage t pass.steps at.planned.once) in
           ap (pairs_written registers)
           (gives_same own (λ n e. or_left (stage_reads ranges own n) ((t == suc pass.highest) && is_read ranges kept n) e))
-          ∙ lists registers pairs numbers (λ k d lt. (each_at _ pairs k d right lt).1)
+          ∙ lists registers pairs numbers (All-from_recursion _ pairs (each_weaker _ (λ (p : ℕ × ℕ). p.1 ≡ numbers p.0)
+          (λ p h. h.1 ∙ sym (cond-true (is_among p.0 (stage_writes ranges own)) (given p.0) (content_of registers p.0) h.0)) pairs right))
           ∙ ap (λ (ws : List ℕ). all_written registers ws numbers) (writes_are ranges reads view packet own)
           ∙ sym (own_first registers numbers (first_writes begins t) (stage_writes ranges own)
           (has_each _ (first_writes begins t) (λ n h.
@@ -223,7 +220,7 @@ module _ (ranges : List ValueRange) (pass : PassCode) (kept : List ValueId) (beg
       -- what the stage leaves of a value with a number
       left_is : (v : ValueId) (n : ℕ) → number_in ranges v ≡ Some n
           → cond (is_among n (stage_writes ranges own)) (given n) (reads v) ≡ after_stage pass.steps t reads view packet v
-      left_is v n is = number_is ranges reads view packet at.planned.numbered v n is own ∙ own_is t reads view packet v pass.steps
+      left_is v n is = number_is ranges t reads view packet v at.planned.numbered n is pass.steps
 
       value_after : (span : Span) → Contains spans span → span.from ≤ t → t < span.to → (v : ValueId) → number_in ranges v ≡ Some span.value
           → content_of after span.value ≡ after_stage pass.steps t reads view packet v
@@ -255,10 +252,7 @@ module _ (ranges : List ValueRange) (pass : PassCode) (kept : List ValueId) (beg
           once = at.planned.once;
           fresh = at.planned.fresh;
         };
-        unknown = λ v none.
-            sym (own_is t reads view packet v pass.steps)
-            ∙ unknown_stays ranges reads view packet v none (at.unknown v none) own
-            (each_of_stage _ t pass.steps (λ s h stage. each_has _ pass.steps (fit reads) s h));
+        unknown = λ v none. unknown_stays ranges t reads view packet v none (at.unknown v none) pass.steps (fit reads);
         nowhere = λ v n is nowhere.
             sym (left_is v n is)
             ∙ cond-false (is_among n (stage_writes ranges own)) (given n) (reads v)

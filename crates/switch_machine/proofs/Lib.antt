@@ -25,9 +25,7 @@ mod Placing
 mod ReadyStages
 mod SettingUp
 mod StageByStage
-mod StageLists
 mod StageRegisters
-mod Stepping
 mod TableRows
 mod Telling
 mod VisibleRows

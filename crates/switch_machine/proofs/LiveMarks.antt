@@ -1,13 +1,9 @@
 -- Marks of blocks that are live.
-use Rattle.std.proofs.Common.{◌≡◌, ℕ, zero, suc, ◌+◌, ◌<◌, ◌≤◌, Bool, true, false, ◌&&◌, List, [], ◌∷◌, length, get_or, set, get_or-set_other, get_or-set_same, refl, sym, ap, ◌∙◌, subst, arith, ⊎_elim}
+use Rattle.std.proofs.Common.{◌≡◌, ℕ, suc, ◌+◌, ◌<◌, ◌≤◌, Bool, true, false, ◌&&◌, List, length, get_or, set, get_or-set_other, get_or-set_same, sym, ap, ◌∙◌, subst, arith, ⊎_elim}
 use Rattle.std.proofs.lemmas.Bool.{cases_lt}
+use Rattle.std.proofs.lemmas.List.{get_or_default}
 use Rattle.flat_ir.specs.declared.program.Block.{Block}
 use Rattle.flat_ir.specs.Blocks.{Reading, block_at, holds, is_live, is_on, same, HasLowParents}
-
-any_block : (blocks : List Block) (k : ℕ) (d e : Block) → k < length blocks → get_or blocks k d ≡ get_or blocks k e
-any_block [] k d e lt = absurd (omega (arith, lt))
-any_block (b ∷ bs) zero d e lt = refl
-any_block (b ∷ bs) (suc k) d e lt = any_block bs k d e (omega (arith, lt))
 
 -- one block more has a mark
 pub one_more_live : (blocks : List Block) (reads : Reading) (k : ℕ) (marks after : List Bool) (d : Block) (live : Bool)
@@ -31,7 +27,7 @@ one_more_live blocks reads k marks after d live low law within count more own so
     (cases_lt b (suc k))
   where
     here : block_at blocks k ≡ get_or blocks k d
-    here = any_block blocks k (record { parent = 0; cond = record { instruction = 0; result = 0 }; polarity = true }) d within
+    here = get_or_default blocks k (record { parent = 0; cond = record { instruction = 0; result = 0 }; polarity = true }) d within
 
     parent : (get_or blocks k d).parent ≤ k
     parent = subst (λ (x : Block). x.parent ≤ k) here (low k within)

@@ -4,6 +4,7 @@ use Rattle.std.specs.Prelude.{Contains}
 use Rattle.std.specs.List.{AllPairs, list_any, filter, AllByRecursion as Each}
 use Rattle.std.proofs.lemmas.Bool.{or_cases, or_left, or_right, eqb-true, eq-eqb, true≢false}
 use Rattle.std.proofs.lemmas.List.Elements.{All-contains, All-filter, All-from_recursion, filter_passes, recursion_from_All}
+use Rattle.switch_machine.specs.Numbers.{Pairs}
 
 -- it is one of them
 abbrev pub Has : {X : Type 0} → List X → X → Type 0
@@ -99,10 +100,6 @@ filter_has p xs x h = (
 )
 
 -- ## Pairs
-
-abbrev pub Pairs : {X : Type 0} → (X → X → Type 0) → List X → Type 0
-Pairs P [] = Unit {0}
-Pairs P (x ∷ xs) = Each (P x) xs × Pairs P xs
 
 pub to_pairs : {X : Type 0} (P : X → X → Type 0) (xs : List X) → AllPairs P xs → Pairs P xs
 to_pairs P [] all = tt

@@ -1,9 +1,9 @@
 -- The values of a pass: what it reads and writes by the ranges of their numbers is what it reads and writes.
 use Rattle.std.proofs.Common.{◌≡◌, ◌≢◌, ◌⊎◌, ℕ, zero, suc, ◌+◌, ◌-◌, ◌^◌, ◌==◌, ◌<◌, ◌≤◌, ◌&&◌, Bool, true, false, cond, List, [], ◌∷◌, ◌++◌, length, map, append_assoc, Some, refl, sym, ap, ◌∙◌, subst, inl, inr, arith}
 use Rattle.std.specs.Prelude.{nat_le, Contains}
-use Rattle.std.specs.List.{list_any, filter, AllByRecursion as Each}
-use Rattle.std.proofs.lemmas.Bool.{cases_eq, eq-eqb, eqb-true, ne_eqb, and_from, and_parts, or_left, or_right, or_cases, false_from_ne_true, le-leb}
-use Rattle.std.proofs.lemmas.List.{append-nil, map-append}
+use Rattle.std.specs.List.{list_any, filter, range_with_len, AllByRecursion as Each}
+use Rattle.std.proofs.lemmas.Bool.{cases_eq, cond_both, eq-eqb, eqb-true, ne_eqb, and_from, and_parts, or_left, or_right, or_cases, false_from_ne_true, le-leb}
+use Rattle.std.proofs.lemmas.List.{map-append}
 use Rattle.std.proofs.lemmas.List.Elements.{All-weaker, All-contains, filter-append}
 use Rattle.std.proofs.lemmas.List.Folds.{list_any-append}
 use Rattle.packet_fields.specs.declared.packet.Packet.{Packet}
@@ -26,15 +26,15 @@ use Rattle.switch_ir.specs.Spans.{handed_in, is_read_at, is_read_last, pass_span
 use Rattle.switch_ir.specs.Spans.{steps_of as steps_by_values}
 use Rattle.switch_machine.specs.declared.numbering.ValueRange.{ValueRange}
 use Rattle.switch_machine.specs.Keeping.{numbers_in}
-use Rattle.switch_machine.specs.Numbers.{first_values, is_number, is_read, number_in, range_at, stage_reads, stage_writes, AreOnce}
+use Rattle.switch_machine.specs.Numbers.{is_number, is_read, number_in, range_at, stage_reads, stage_writes, AreOnce, Pairs}
 use Rattle.switch_machine.specs.Planned.{first_writes, steps_of, AreNumberedApart, FitRanges, IsPlanned}
 use Rattle.switch_machine.specs.Ranges.{crossing_entry, entries, step_entry, AreInOrder, AreOthers, AreRanges, Entry}
 use Rattle.switch_machine.specs.Staged.{of_stage}
 use Rattle.switch_machine.proofs.Beginning.{is_the_number, same_value, value_same}
 use Rattle.switch_machine.proofs.Each.{each_two, map_each}
 use Rattle.switch_machine.proofs.InRegisters.{has_span, HasSpan}
-use Rattle.switch_machine.proofs.Members.{any_has, among_has, each_has, filter_has, has_any, has_each, has_left, has_made, has_parts, has_right, made_has, of_contains, pairs_between, pairs_left, pairs_right, to_contains, to_pairs, Has, Pairs}
-use Rattle.switch_machine.proofs.Numbered.{each_of_stage, known}
+use Rattle.switch_machine.proofs.Members.{any_has, among_has, each_has, filter_has, has_any, has_each, has_left, has_made, has_parts, has_right, made_has, of_contains, pairs_between, pairs_left, pairs_right, to_contains, to_pairs, Has, IsMade}
+use Rattle.switch_machine.proofs.Numbered.{counted_more, each_of_stage, known}
 use Rattle.switch_machine.proofs.Ordered.{has_entry, has_number, numbered_apart, right_at, IsLast}
 
 some_results : (tables : List Table) (work : Work) → 0 < results_in tables work
@@ -111,6 +111,9 @@ written_append tables (x ∷ xs) ys =
 abbrev Apart : Written → Written → Type 0
 Apart a b = a.number ≢ b.number
 
+abbrev Differ : Step → Step → Type 0
+Differ s other = s.instruction ≢ other.instruction
+
 -- of two instructions that are one the first values have one number
 abbrev OneFirst : List Step → Type 0
 OneFirst ss = (s other : Step) → Has ss s → Has ss other → s.instruction ≡ other.instruction → s.first ≡ other.first
@@ -133,17 +136,6 @@ same_step (t ∷ ss) once s other (inl a) (inr b) is =
 same_step (t ∷ ss) once s other (inr a) (inl b) is =
     absurd (each_has (λ (o : Step). t.instruction ≢ o.instruction) ss once.0 s a (ap (λ (u : Step). u.instruction) b ∙ sym is))
 same_step (t ∷ ss) once s other (inr a) (inr b) is = same_step ss once.1 s other a b is
-
-once_left : (xs ys : List Step) → AreOnce (xs ++ ys) → AreOnce xs
-once_left [] ys once = tt
-once_left (x ∷ xs) ys once = (
-  has_each (λ (o : Step). x.instruction ≢ o.instruction) xs (λ o h. each_has (λ (u : Step). x.instruction ≢ u.instruction) (xs ++ ys) once.0 o (has_left xs ys o h)),
-  once_left xs ys once.1,
-)
-
-once_right : (xs ys : List Step) → AreOnce (xs ++ ys) → AreOnce ys
-once_right [] ys once = once
-once_right (x ∷ xs) ys once = once_right xs ys once.1
 
 -- ## What a stage writes
 
@@ -173,20 +165,17 @@ writes_two t xs ys =
     ap (map (λ (w : Written). w.number)) (filter-append test xs ys) ∙ map-append (λ (w : Written). w.number) (filter test xs) (filter test ys)
 
 -- those of an instruction, if it is of the stage
-results_at : (s : Step) (range : ValueRange) (t n : ℕ) (b : Bool) → (s.stage == t) ≡ b → range.first ≡ s.first
-    → writes_at (results_of s n) t ≡ cond b (first_values range n) []
-results_at s range t zero true e first = refl
-results_at s range t zero false e first = refl
-results_at s range t (suc n) true e first =
+one_later : (b : Bool) (s : Step) (n : ℕ)
+    → cond b (range_with_len s.first n) [] ++ map (λ (w : Written). w.number) (cond b (value_at s n ∷ []) []) ≡ cond b (range_with_len s.first (suc n)) []
+one_later true s n = sym (counted_more s.first n (s.first + n) refl)
+one_later false s n = refl
+
+results_at : (s : Step) (t n : ℕ) → writes_at (results_of s n) t ≡ cond (s.stage == t) (range_with_len s.first n) []
+results_at s t zero = cond_both (s.stage == t) [] [] (λ (ns : List ℕ). [] ≡ ns) (λ here. refl) (λ other. refl)
+results_at s t (suc n) =
     writes_two t (results_of s n) (value_at s n ∷ [])
-    ∙ ap (λ c. writes_at (results_of s n) t ++ map (λ (w : Written). w.number) (cond c (value_at s n ∷ []) [])) e
-    ∙ ap (λ (ns : List ℕ). ns ++ (s.first + n) ∷ []) (results_at s range t n true e first)
-    ∙ ap (λ m. first_values range n ++ (m + n) ∷ []) (sym first)
-results_at s range t (suc n) false e first =
-    writes_two t (results_of s n) (value_at s n ∷ [])
-    ∙ ap (λ c. writes_at (results_of s n) t ++ map (λ (w : Written). w.number) (cond c (value_at s n ∷ []) [])) e
-    ∙ append-nil (writes_at (results_of s n) t)
-    ∙ results_at s range t n false e first
+    ∙ ap (λ (ns : List ℕ). ns ++ map (λ (w : Written). w.number) (cond (s.stage == t) (value_at s n ∷ []) [])) (results_at s t n)
+    ∙ one_later (s.stage == t) s n
 
 -- what is handed is written at first, and nothing of it later
 handed_at : (handed : List Crossing) → writes_at (handed_in handed) 0 ≡ numbers_in handed
@@ -238,8 +227,12 @@ module _ (tables : List Table) (handed up : List Crossing) (pass : PassCode)
   has_all s k h lt =
       has_right (handed_in handed) computed (value_at s k) (subst (λ (ws : List Written). Has ws (value_at s k)) all_computed (has_written tables all_steps s k h lt))
 
-  of_computed : (w : Written) → Has computed w → IsWrittenBy tables all_steps w
-  of_computed w h = written_of tables all_steps w (subst (λ (ws : List Written). Has ws w) (sym all_computed) h)
+  -- a value is handed in, or of an instruction
+  had_cases : (w : Written) → Has had w → IsMade handed_value handed w ⊎ IsWrittenBy tables all_steps w
+  had_cases w h = elim (has_parts (handed_in handed) computed w h) [
+    | inl there ↦ inl (has_made handed_value handed w there)
+    | inr there ↦ inr (written_of tables all_steps w (subst (λ (ws : List Written). Has ws w) (sym all_computed) there))
+  ]
 
   -- a value that it begins with is there at first, and others are of its instructions
   pub first_at : (w : Written) → Has front w → w.stage ≡ 0
@@ -273,10 +266,10 @@ module _ (tables : List Table) (handed up : List Crossing) (pass : PassCode)
   all_once = once_of tables all_steps (subst (Pairs Apart) (sym all_computed) (pairs_right Apart (handed_in handed) computed pairs)) one_first
 
   pub once : AreOnce pass.steps
-  once = once_right pass.given pass.steps all_once
+  once = pairs_right Differ pass.given pass.steps all_once
 
   pub given_once : AreOnce pass.given
-  given_once = once_left pass.given pass.steps all_once
+  given_once = pairs_left Differ pass.given pass.steps all_once
 
   -- ---- entries
   crossing_right : (c : Crossing) → Has handed c → IsLast had order small c.value.instruction (c.number - c.value.result) (suc c.value.result)
@@ -319,8 +312,7 @@ module _ (tables : List Table) (handed up : List Crossing) (pass : PassCode)
 
   -- each range has room for the values of an entry
   enough : (e : Entry) → Has (entries tables handed pass) e → e.count ≤ (range_at ranges e.instruction).count
-  enough = each_has (λ (e : Entry). e.count ≤ (range_at ranges e.instruction).count) (entries tables handed pass)
-      (has_entry had order small (entries tables handed pass) all_right ranges are)
+  enough = has_entry had order small (entries tables handed pass) all_right ranges are
 
   enough_handed : (c : Crossing) → Has handed c → c.value.result < (range_at ranges c.value.instruction).count
   enough_handed c h =
@@ -339,15 +331,11 @@ module _ (tables : List Table) (handed up : List Crossing) (pass : PassCode)
   pub range_is : (s : Step) → Has all_steps s → ((range_at ranges s.instruction).count ≡ results_in tables s.work) × ((range_at ranges s.instruction).first ≡ s.first)
   range_is s h = elim (right_at had order small (entries tables handed pass) all_right ranges are s.instruction) [
     | inl none ↦ absurd (omega (arith, none, enough_step s h, some_results tables s.work))
-    | inr last ↦ elim (has_parts (handed_in handed) computed last.value (of_contains had last.value last.there)) [
-      | inl there ↦ (
-          let m = has_made handed_value handed last.value there in
-          absurd (each_has (λ (u : Step). m.from.value.instruction ≢ u.instruction) all_steps
+    | inr last ↦ elim (had_cases last.value (of_contains had last.value last.there)) [
+      | inl m ↦ absurd (each_has (λ (u : Step). m.from.value.instruction ≢ u.instruction) all_steps
           (each_has (λ (c : Crossing). Each (λ (u : Step). c.value.instruction ≢ u.instruction) all_steps) handed others m.from m.there) s h
           (ap (λ (w : Written). w.value.instruction) m.is ∙ last.instruction))
-          )
-      | inr there ↦ (
-          let b = of_computed last.value there in
+      | inr b ↦ (
           let same : b.step ≡ s = same_step all_steps all_once b.step s b.there h (sym b.is.instruction ∙ last.instruction) in (
             omega (arith, enough_step s h, last.count_is, b.is.result, ap (λ (u : Step). results_in tables u.work) same),
             omega (arith, last.number_is, b.is.number, ap (λ (u : Step). u.first) same),
@@ -359,15 +347,9 @@ module _ (tables : List Table) (handed up : List Crossing) (pass : PassCode)
   -- each value has its number
   pub has_its_number : (w : Written) → Has had w → number_in ranges w.value ≡ Some w.number
   has_its_number w h =
-      has_number had order small (entries tables handed pass) all_right ranges are w (to_contains had w h) (elim (has_parts (handed_in handed) computed w h) [
-        | inl there ↦ (
-            let m = has_made handed_value handed w there in
-            subst (λ (u : Written). u.value.result < (range_at ranges u.value.instruction).count) m.is (enough_handed m.from m.there)
-            )
-        | inr there ↦ (
-            let b = of_computed w there in
-            omega (arith, b.is.result, (range_is b.step b.there).0, ap (λ i. (range_at ranges i).count) b.is.instruction)
-            )
+      has_number had order small (entries tables handed pass) all_right ranges are w (to_contains had w h) (elim (had_cases w h) [
+        | inl m ↦ subst (λ (u : Written). u.value.result < (range_at ranges u.value.instruction).count) m.is (enough_handed m.from m.there)
+        | inr b ↦ omega (arith, b.is.result, (range_is b.step b.there).0, ap (λ i. (range_at ranges i).count) b.is.instruction)
       ])
 
   pub same_by_number : (w : Written) → Has had w → (v : ValueId) → number_in ranges v ≡ Some w.number → w.value ≡ v
@@ -407,19 +389,19 @@ module _ (tables : List Table) (handed up : List Crossing) (pass : PassCode)
   stage_is (s ∷ ss) among t =
       writes_two t (results_of s n) (written_by tables ss)
       ∙ ap (λ (ns : List ℕ). writes_at (results_of s n) t ++ ns) (stage_is ss (λ u h. among u (inr h)) t)
-      ∙ one (s.stage == t) refl
+      ∙ ap (λ (ns : List ℕ). ns ++ stage_writes ranges (of_stage t ss)) (results_at s t n)
+      ∙ one (s.stage == t)
     where
       n : ℕ
       n = results_in tables s.work
 
-      one : (b : Bool) → (s.stage == t) ≡ b → writes_at (results_of s n) t ++ stage_writes ranges (of_stage t ss) ≡ stage_writes ranges (cond b (s ∷ []) [] ++ of_stage t ss)
-      one true e =
+      one : (b : Bool) → cond b (range_with_len s.first n) [] ++ stage_writes ranges (of_stage t ss) ≡ stage_writes ranges (cond b (s ∷ []) [] ++ of_stage t ss)
+      one true =
           let range = range_at ranges s.instruction in
-          let r = range_is s (among s (inl refl)) in
-          ap (λ (ns : List ℕ). ns ++ stage_writes ranges (of_stage t ss)) (results_at s range t n true e r.1 ∙ ap (first_values range) (sym r.0))
-      one false e =
-          ap (λ (ns : List ℕ). ns ++ stage_writes ranges (of_stage t ss))
-          (results_at s (record { first = s.first; count = n }) t n false e refl)
+          let is = range_is s (among s (inl refl)) in
+          ap (λ m. range_with_len m n ++ stage_writes ranges (of_stage t ss)) (sym is.1)
+          ∙ ap (λ k. range_with_len range.first k ++ stage_writes ranges (of_stage t ss)) (sym is.0)
+      one false = refl
 
   abbrev pub begins : List ℕ
   begins = numbers_in handed ++ stage_writes ranges (of_stage 0 pass.given)

@@ -1,8 +1,9 @@
 -- Instructions by place, one after the other.
-use Rattle.std.proofs.Common.{◌≡◌, ◌∙◌, ◌<◌, ◌+◌, ◌++◌, ℕ, zero, suc, false, List, [], ◌∷◌, length, map, drop, refl, sym, ap, subst, add-one, get_or}
+use Rattle.std.proofs.Common.{◌≡◌, ◌∙◌, ◌<◌, ◌+◌, ◌++◌, ℕ, zero, suc, false, List, [], ◌∷◌, length, map, drop, refl, sym, ap, subst, add-one, arith, get_or}
 use Rattle.std.specs.List.{AllByRecursion as Each}
 use Rattle.std.specs.Prelude.{slice_index, slice_index_or}
-use Rattle.std.proofs.lemmas.List.{length-set}
+use Rattle.std.proofs.lemmas.List.{length-map, length-set}
+use Rattle.std.proofs.Math.ListN.{get_or-map}
 use Rattle.packet_fields.specs.declared.packet.Packet.{Packet}
 use Rattle.state_store.specs.Store.{Store}
 use Rattle.flat_ir.specs.Blocks.{Reading}
@@ -12,7 +13,7 @@ use Rattle.flat_ir.specs.Run.{results}
 use Rattle.transfer_header.specs.Registers.{Registers, placed}
 use Rattle.switch_machine.specs.declared.ready.ReadyStep.{ReadyStep}
 use Rattle.switch_machine.specs.Ready.{all_placed, first_placed, placed_at, placed_gives, places_of, reads_at, ready_at, ready_gives, ready_of, CanReady}
-use Rattle.switch_machine.proofs.Each.{each_at, each_map}
+use Rattle.switch_machine.proofs.Each.{each_at}
 use Rattle.switch_machine.proofs.Lists.{ahead}
 
 -- numbers that are put behind others
@@ -35,8 +36,8 @@ put_more places given k start before after place number is more here so =
 pub ready_can : (steps : List ReadyStep) (i : ℕ) (s : ReadyStep) → Each CanReady (map ready_of steps) → i < length steps → s ≡ get_or steps i s
     → CanRun (work_of s.kind)
 ready_can steps i s can lt is =
-    subst (λ (one : ReadyStep). CanRun (work_of one.kind)) (sym is)
-    (each_at (λ (one : ReadyStep). CanReady (ready_of one)) steps i s (each_map CanReady ready_of steps can) lt)
+    subst CanReady (get_or-map ready_of steps i s ∙ ap ready_of (sym is))
+    (each_at CanReady (map ready_of steps) i (ready_of s) can (omega (arith, lt, length-map steps ready_of)))
 
 -- one instruction more is computed
 pub ready_more : (reads : Reading) (tables : Store) (packet : Packet) (steps : List ReadyStep) (i : ℕ) (s : ReadyStep) (before after all : Registers)
@@ -53,22 +54,6 @@ ready_more reads tables packet steps i s before after all lt is more so =
     ∙ so
 
 -- ## Stages
-
-pub none_placed : (stages : List (List ReadyStep)) (tables : Store) (packet : Packet) (start : Registers) → start ≡ placed_at stages tables packet start 0
-unfolding placed_at
-none_placed stages tables packet start = refl
-
--- once a stage is written, the registers are those before the next
-pub stage_more : (stages : List (List ReadyStep)) (tables : Store) (packet : Packet) (start : Registers) (t : ℕ) (own : List ReadyStep)
-    → own ≡ slice_index_or stages t [] → (registers after : Registers) → registers ≡ placed_at stages tables packet start t
-    → after ≡ all_placed registers (ready_gives (map ready_of own) (reads_at registers.numbers) tables packet)
-    → after ≡ placed_at stages tables packet start (t + 1)
-unfolding placed_at
-stage_more stages tables packet start t own is registers after before written =
-    written
-    ∙ ap (λ (ss : List ReadyStep). all_placed registers (ready_gives (map ready_of ss) (reads_at registers.numbers) tables packet)) is
-    ∙ ap (λ (rs : Registers). all_placed rs (ready_gives (ready_at stages t) (reads_at rs.numbers) tables packet)) before
-    ∙ ap (placed_at stages tables packet start) (sym (add-one t))
 
 pub can_of_stage : (stages : List (List ReadyStep)) (t : ℕ) (own : List ReadyStep) → own ≡ slice_index_or stages t []
     → Each CanReady (ready_at stages t) → Each CanReady (map ready_of own)
@@ -89,21 +74,36 @@ plan_after before after pairs is = ap (λ (rs : Registers). rs.plan) is ∙ plan
 pub count_after : (before after : Registers) (pairs : List (ℕ × ℕ)) → after ≡ all_placed before pairs → length after.numbers ≡ length before.numbers
 count_after before after pairs is = ap (λ (rs : Registers). length rs.numbers) is ∙ count_placed before pairs
 
-pub plan_placed_at : (stages : List (List ReadyStep)) (tables : Store) (packet : Packet) (start : Registers) (t : ℕ)
-    → (placed_at stages tables packet start t).plan ≡ start.plan
-unfolding placed_at
-plan_placed_at stages tables packet start zero = refl
-plan_placed_at stages tables packet start (suc t) =
-    let before = placed_at stages tables packet start t in
-    plan_placed before (ready_gives (ready_at stages t) (reads_at before.numbers) tables packet) ∙ plan_placed_at stages tables packet start t
+module _ (stages : List (List ReadyStep)) (tables : Store) (packet : Packet) (start : Registers) where
+  pub none_placed : start ≡ placed_at stages tables packet start 0
+  unfolding placed_at
+  none_placed = refl
 
-pub count_placed_at : (stages : List (List ReadyStep)) (tables : Store) (packet : Packet) (start : Registers) (t : ℕ)
-    → length (placed_at stages tables packet start t).numbers ≡ length start.numbers
-unfolding placed_at
-count_placed_at stages tables packet start zero = refl
-count_placed_at stages tables packet start (suc t) =
-    let before = placed_at stages tables packet start t in
-    count_placed before (ready_gives (ready_at stages t) (reads_at before.numbers) tables packet) ∙ count_placed_at stages tables packet start t
+  -- once a stage is written, the registers are those before the next
+  pub stage_more : (t : ℕ) (own : List ReadyStep) → own ≡ slice_index_or stages t [] → (registers after : Registers)
+      → registers ≡ placed_at stages tables packet start t
+      → after ≡ all_placed registers (ready_gives (map ready_of own) (reads_at registers.numbers) tables packet)
+      → after ≡ placed_at stages tables packet start (t + 1)
+  unfolding placed_at
+  stage_more t own is registers after before written =
+      written
+      ∙ ap (λ (ss : List ReadyStep). all_placed registers (ready_gives (map ready_of ss) (reads_at registers.numbers) tables packet)) is
+      ∙ ap (λ (rs : Registers). all_placed rs (ready_gives (ready_at stages t) (reads_at rs.numbers) tables packet)) before
+      ∙ ap (placed_at stages tables packet start) (sym (add-one t))
+
+  pub plan_placed_at : (t : ℕ) → (placed_at stages tables packet start t).plan ≡ start.plan
+  unfolding placed_at
+  plan_placed_at zero = refl
+  plan_placed_at (suc t) =
+      let before = placed_at stages tables packet start t in
+      plan_placed before (ready_gives (ready_at stages t) (reads_at before.numbers) tables packet) ∙ plan_placed_at t
+
+  pub count_placed_at : (t : ℕ) → length (placed_at stages tables packet start t).numbers ≡ length start.numbers
+  unfolding placed_at
+  count_placed_at zero = refl
+  count_placed_at (suc t) =
+      let before = placed_at stages tables packet start t in
+      count_placed before (ready_gives (ready_at stages t) (reads_at before.numbers) tables packet) ∙ count_placed_at t
 
 -- the numbers that are left hang on the numbers alone
 pub numbers_placed : (one other : Registers) (pairs : List (ℕ × ℕ)) → one.numbers ≡ other.numbers → (all_placed one pairs).numbers ≡ (all_placed other pairs).numbers

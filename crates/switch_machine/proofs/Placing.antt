@@ -1,7 +1,6 @@
 -- Numbers that are read and written by place.
 use Rattle.std.proofs.Common.{◌≡◌, ◌∙◌, ◌≤◌, ◌<◌, ◌^◌, ℕ, zero, suc, List, [], ◌∷◌, Option, Some, None, length, refl, sym, ap, arith}
 use Rattle.std.proofs.lemmas.List.{get_or_past, set_past}
-use Rattle.std.specs.List.{AllByRecursion as Each}
 use Rattle.std.specs.Prelude.{slice_index, slice_set, unwrap_or}
 use Rattle.packet_fields.specs.declared.packet.Packet.{Packet}
 use Rattle.state_store.specs.Store.{Store}
@@ -11,14 +10,14 @@ use Rattle.flat_ir.specs.Plan.{RegisterPlan, register_of}
 use Rattle.transfer_header.specs.Registers.{Registers, content_of, number_by, place_by, place_of, placed, set_by, written}
 use Rattle.transfer_header.specs.Steps.{pairs_written}
 use Rattle.switch_ir.specs.Code.{PassCode, Step}
-use Rattle.switch_ir.specs.Sound.{CanStep}
 use Rattle.switch_machine.specs.declared.numbering.ValueRange.{ValueRange}
 use Rattle.switch_machine.specs.declared.ready.ReadyStep.{ReadyStep}
 use Rattle.switch_machine.specs.Numbers.{content_at, number_in, reads_by, stage_gives}
 use Rattle.switch_machine.specs.Planned.{registers_at, stage_done}
-use Rattle.switch_machine.specs.Ready.{all_placed, by_place, known_place, no_place, place_in, place_name, placed_at, reads_at, ready_at, ready_gives, AreReady, CanReady}
+use Rattle.switch_machine.specs.Ready.{all_placed, by_place, known_place, no_place, place_in, place_name, placed_at, reads_at, ready_at, ready_gives, AreReady}
 use Rattle.switch_machine.specs.Staged.{of_stage}
-use Rattle.switch_machine.proofs.Writing.{plan_pairs, size_by, size_pairs}
+use Rattle.switch_machine.proofs.PlacedSteps.{count_placed_at, plan_placed_at}
+use Rattle.switch_machine.proofs.Writing.{size_by}
 
 -- ## One value
 
@@ -57,61 +56,34 @@ all_is plan (p ∷ ps) registers planned few =
 
 -- ## Stages
 
--- what a stage gives is written by place as by number
-pub stage_is : (ranges : List ValueRange) (plan : RegisterPlan) (steps : List Step) (highest : ℕ) (stages : List (List ReadyStep))
-    (reads : Reading) (tables : Store) (packet : Packet) (registers : Registers) (t : ℕ) → AreReady ranges plan steps highest stages
-    → registers.plan ≡ Some plan → length registers.numbers < 2 ^ 32 → t ≤ highest
-    → all_placed registers (ready_gives (ready_at stages t) reads tables packet)
-    ≡ pairs_written registers (stage_gives ranges (of_stage t steps) (λ v. reads (place_name ranges plan v)) tables packet)
-stage_is ranges plan steps highest stages reads tables packet registers t are planned few le =
-    ap (all_placed registers) (are.gives t le reads tables packet)
-    ∙ all_is plan (stage_gives ranges (of_stage t steps) (λ v. reads (place_name ranges plan v)) tables packet) registers planned few
+module _ (ranges : List ValueRange) (plan : RegisterPlan) (steps : List Step) (highest : ℕ) (stages : List (List ReadyStep))
+    (are : AreReady ranges plan steps highest stages) (tables : Store) (packet : Packet) where
+  module _ (registers : Registers) (planned : registers.plan ≡ Some plan) (few : length registers.numbers < 2 ^ 32) (t : ℕ) (le : t ≤ highest) where
+    -- what a stage gives is written by place as by number
+    pub stage_is : (reads : Reading) → all_placed registers (ready_gives (ready_at stages t) reads tables packet)
+        ≡ pairs_written registers (stage_gives ranges (of_stage t steps) (λ v. reads (place_name ranges plan v)) tables packet)
+    stage_is reads =
+        ap (all_placed registers) (are.gives t le reads tables packet)
+        ∙ all_is plan (stage_gives ranges (of_stage t steps) (λ v. reads (place_name ranges plan v)) tables packet) registers planned few
 
--- from the numbers that were there before it
-pub one_is : (ranges : List ValueRange) (plan : RegisterPlan) (steps : List Step) (highest : ℕ) (stages : List (List ReadyStep))
-    (tables : Store) (packet : Packet) (registers : Registers) (t : ℕ) → AreReady ranges plan steps highest stages
-    → registers.plan ≡ Some plan → length registers.numbers < 2 ^ 32 → t ≤ highest
-    → all_placed registers (ready_gives (ready_at stages t) (reads_at registers.numbers) tables packet) ≡ stage_done ranges steps t tables packet registers
-one_is ranges plan steps highest stages tables packet registers t are planned few le =
-    stage_is ranges plan steps highest stages (reads_at registers.numbers) tables packet registers t are planned few le
-    ∙ ap (λ (reads : Reading). pairs_written registers (stage_gives ranges (of_stage t steps) reads tables packet)) (reads_same plan registers planned few ranges)
+    -- from the numbers that were there before it
+    pub one_is : all_placed registers (ready_gives (ready_at stages t) (reads_at registers.numbers) tables packet) ≡ stage_done ranges steps t tables packet registers
+    one_is =
+        stage_is (reads_at registers.numbers)
+        ∙ ap (λ (reads : Reading). pairs_written registers (stage_gives ranges (of_stage t steps) reads tables packet)) (reads_same plan registers planned few ranges)
 
+-- the registers are the same before each stage
 module _ (ranges : List ValueRange) (plan : RegisterPlan) (pass : PassCode) (stages : List (List ReadyStep))
-    (are : AreReady ranges plan pass.steps pass.highest stages) (tables : Store) (packet : Packet) where
-  module _ (start : Registers) (planned : start.plan ≡ Some plan) (few : length start.numbers < 2 ^ 32) where
-    plan_at : (t : ℕ) → (registers_at ranges pass tables packet start t).plan ≡ Some plan
-    unfolding registers_at
-    plan_at zero = planned
-    plan_at (suc t) =
-        let before = registers_at ranges pass tables packet start t in
-        plan_pairs before (stage_gives ranges (of_stage t pass.steps) (reads_by ranges (content_of before)) tables packet) ∙ plan_at t
+    (are : AreReady ranges plan pass.steps pass.highest stages) (tables : Store) (packet : Packet)
+    (start : Registers) (planned : start.plan ≡ Some plan) (few : length start.numbers < 2 ^ 32) where
+  stages_are : (t : ℕ) → t ≤ suc pass.highest → placed_at stages tables packet start t ≡ registers_at ranges pass tables packet start t
+  unfolding placed_at registers_at
+  stages_are zero le = refl
+  stages_are (suc t) le =
+      one_is ranges plan pass.steps pass.highest stages are tables packet (placed_at stages tables packet start t)
+      (plan_placed_at stages tables packet start t ∙ planned) (omega (arith, few, count_placed_at stages tables packet start t)) t (omega (arith, le))
+      ∙ ap (stage_done ranges pass.steps t tables packet) (stages_are t (omega (arith, le)))
 
-    few_at : (t : ℕ) → length (registers_at ranges pass tables packet start t).numbers < 2 ^ 32
-    unfolding registers_at
-    few_at zero = few
-    few_at (suc t) =
-        let before = registers_at ranges pass tables packet start t in
-        omega (arith, few_at t, size_pairs before (stage_gives ranges (of_stage t pass.steps) (reads_by ranges (content_of before)) tables packet))
-
-    -- the registers are the same before each stage
-    pub stages_are : (t : ℕ) → t ≤ suc pass.highest → placed_at stages tables packet start t ≡ registers_at ranges pass tables packet start t
-    unfolding placed_at registers_at
-    stages_are zero le = refl
-    stages_are (suc t) le =
-        let before = registers_at ranges pass tables packet start t in
-        ap (λ (rs : Registers). all_placed rs (ready_gives (ready_at stages t) (reads_at rs.numbers) tables packet)) (stages_are t (omega (arith, le)))
-        ∙ stage_is ranges plan pass.steps pass.highest stages (reads_at before.numbers) tables packet before t are (plan_at t) (few_at t) (omega (arith, le))
-        ∙ ap (λ (reads : Reading). pairs_written before (stage_gives ranges (of_stage t pass.steps) reads tables packet)) (reads_same plan before (plan_at t) (few_at t) ranges)
-
--- and after the last
-pub pass_is : (ranges : List ValueRange) (plan : RegisterPlan) (pass : PassCode) (stages : List (List ReadyStep)) (tables : Store) (packet : Packet)
-    (start : Registers) → AreReady ranges plan pass.steps pass.highest stages → start.plan ≡ Some plan → length start.numbers < 2 ^ 32
-    → placed_at stages tables packet start (length stages) ≡ registers_at ranges pass tables packet start (suc pass.highest)
-pass_is ranges plan pass stages tables packet start are planned few =
-    ap (placed_at stages tables packet start) are.count
-    ∙ stages_are ranges plan pass stages are tables packet start planned few (suc pass.highest) (omega arith)
-
--- each stage can be computed
-pub stage_can : (ranges : List ValueRange) (plan : RegisterPlan) (steps : List Step) (highest : ℕ) (stages : List (List ReadyStep)) (t : ℕ)
-    → AreReady ranges plan steps highest stages → Each CanStep steps → t < length stages → Each CanReady (ready_at stages t)
-stage_can ranges plan steps highest stages t are can lt = are.can can t (omega (arith, lt, are.count))
+  -- and after the last
+  pub pass_is : placed_at stages tables packet start (length stages) ≡ registers_at ranges pass tables packet start (suc pass.highest)
+  pass_is = ap (placed_at stages tables packet start) are.count ∙ stages_are (suc pass.highest) (omega arith)

@@ -1,8 +1,8 @@
 -- A pass whose stages are taken one by one, in its registers.
-use Rattle.std.proofs.Common.{◌≡◌, ℕ, suc, ◌==◌, ◌<◌, ◌≤◌, ◌^◌, Bool, true, false, cond, ◌||◌, ◌&&◌, List, [], ◌∷◌, ◌++◌, Some, None, IsSome, unwrap_or, refl, sym, ap, ◌∙◌, subst, inl, inr, arith, slice_index}
+use Rattle.std.proofs.Common.{◌≡◌, ℕ, suc, ◌==◌, ◌<◌, ◌≤◌, ◌^◌, Bool, true, false, cond, ◌&&◌, List, [], ◌∷◌, ◌++◌, Some, None, IsSome, unwrap_or, refl, sym, ap, ◌∙◌, subst, inl, inr, arith, slice_index}
 use Rattle.std.specs.Prelude.{nat_le, Contains}
 use Rattle.std.specs.List.{AllByRecursion as Each}
-use Rattle.std.proofs.lemmas.Bool.{cases_Bool, cases_eq, and_from, and_parts, cond-false, eq-eqb, leb-true, le-leb, lt-ltb, ltb-true, or_left, true≢false}
+use Rattle.std.proofs.lemmas.Bool.{cases_eq, and_from, and_parts, cond-false, eq-eqb, leb-true, le-leb, lt-ltb, ltb-true, or_parts, true≢false}
 use Rattle.std.proofs.lemmas.Option.{same_Some, none-some}
 use Rattle.packet_fields.specs.declared.packet.Packet.{Packet}
 use Rattle.state_store.specs.Store.{Store}
@@ -35,11 +35,10 @@ use Rattle.switch_machine.proofs.PassValues.{begins, first_at, had_parts, has_it
 stays : (ss : List Step) (t : ℕ) (reads : Reading) (tables : Store) (packet : Packet) (v : ValueId) → is_of_stage ss t v ≡ false
     → after_stage ss t reads tables packet v ≡ reads v
 stays [] t reads tables packet v e = refl
-stays (s ∷ ss) t reads tables packet v e = elim (cases_Bool (is_step s t v)) [
-  | inl here ↦ absurd (true≢false (sym (or_left (is_step s t v) (is_of_stage ss t v) here) ∙ e))
-  | inr other ↦ cond-false (is_step s t v) (slice_index (results reads false tables packet s.work) v.result) (after_stage ss t reads tables packet v) other
-      ∙ stays ss t reads tables packet v (sym (ap (λ b. b || is_of_stage ss t v) other) ∙ e)
-]
+stays (s ∷ ss) t reads tables packet v e =
+    let parts = or_parts (is_step s t v) (is_of_stage ss t v) e in
+    cond-false (is_step s t v) (slice_index (results reads false tables packet s.work) v.result) (after_stage ss t reads tables packet v) parts.0
+    ∙ stays ss t reads tables packet v parts.1
 
 -- ## What is told
 

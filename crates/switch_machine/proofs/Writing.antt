@@ -20,14 +20,6 @@ placed_written : (registers : Registers) (value to : ℕ) → ArePlaced register
 placed_written registers value to placed v p e =
     omega (arith, placed v p (sym (places_written registers value to v) ∙ e), size_by registers.numbers (place_of registers value) to)
 
-pub plan_pairs : (registers : Registers) (pairs : List (ℕ × ℕ)) → (pairs_written registers pairs).plan ≡ registers.plan
-plan_pairs registers [] = refl
-plan_pairs registers (p ∷ ps) = plan_pairs (written registers p.0 p.1) ps
-
-pub size_pairs : (registers : Registers) (pairs : List (ℕ × ℕ)) → length (pairs_written registers pairs).numbers ≡ length registers.numbers
-size_pairs registers [] = refl
-size_pairs registers (p ∷ ps) = size_pairs (written registers p.0 p.1) ps ∙ size_by registers.numbers (place_of registers p.0) p.1
-
 -- ## What a value has then
 
 itself_by : (numbers : List ℕ) (place : Option ℕ) (to : ℕ) → IsSome place → ((p : ℕ) → place ≡ Some p → p < length numbers) → number_by (set_by numbers place to) place ≡ to

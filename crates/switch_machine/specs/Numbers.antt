@@ -1,7 +1,7 @@
 -- The numbers of a pass's values, and what its instructions read, give and write by them.
 use Rattle.std.specs.Prelude.{◌≡◌, ◌≢◌, ℕ, zero, suc, ◌+◌, ◌-◌, ◌==◌, nat_lt, Bool, false}
 use Rattle.std.specs.Prelude.{List, [], ◌∷◌, ◌++◌, if◌then◌else◌, slice_index, slice_index_or, Option, Some, None}
-use Rattle.std.specs.List.{list_any, AllByRecursion as Each}
+use Rattle.std.specs.List.{list_any, range_with_len, AllByRecursion as Each}
 use Rattle.packet_fields.specs.declared.packet.Packet.{Packet}
 use Rattle.state_store.specs.Store.{Store}
 use Rattle.flat_ir.specs.declared.program.ValueId.{ValueId}
@@ -48,16 +48,12 @@ abbrev pub first_gives : ValueRange → List ℕ → ℕ → List (ℕ × ℕ)
 first_gives range given zero = []
 first_gives range given (suc k) = first_gives range given k ++ (range.first + k, slice_index given k) ∷ []
 
-abbrev pub first_values : ValueRange → ℕ → List ℕ
-first_values range zero = []
-first_values range (suc k) = first_values range k ++ (range.first + k) ∷ []
-
 -- what is given to all of its values
 abbrev pub gives : ValueRange → List ℕ → List (ℕ × ℕ)
 gives range given = first_gives range given range.count
 
 abbrev pub values : ValueRange → List ℕ
-values range = first_values range range.count
+values range = range_with_len range.first range.count
 
 -- ## What instructions of one stage give, all from the same numbers
 
@@ -92,7 +88,11 @@ is_read ranges vs n = list_any (λ v. is_number (number_in ranges v) n) vs
 abbrev pub stage_reads : List ValueRange → List Step → ℕ → Bool
 stage_reads ranges ss n = list_any (λ (s : Step). is_read ranges (operands s.work) n) ss
 
+-- each two of them are so, the first before the second
+abbrev pub Pairs : {X : Type 0} → (X → X → Type 0) → List X → Type 0
+Pairs P [] = Unit {0}
+Pairs P (x ∷ xs) = Each (P x) xs × Pairs P xs
+
 -- no instruction stands twice
 abbrev pub AreOnce : List Step → Type 0
-AreOnce [] = Unit {0}
-AreOnce (s ∷ ss) = Each (λ (other : Step). s.instruction ≢ other.instruction) ss × AreOnce ss
+AreOnce steps = Pairs (λ (s other : Step). s.instruction ≢ other.instruction) steps

@@ -61,15 +61,13 @@ pub record IsPlanned
   -- no stage writes what the pass begins with
   pub fresh : (n : ℕ) → is_among n begins ≡ true → is_among n (stage_writes ranges (of_stage 0 pass.steps)) ≡ false
 
--- the registers before a stage of a pass that began with these: each stage reads all that it reads before it writes
-unfoldable pub registers_at : List ValueRange → PassCode → Store → Packet → Registers → ℕ → Registers
-registers_at ranges pass tables packet start zero = start
-registers_at ranges pass tables packet start (suc t) =
-    pairs_written (registers_at ranges pass tables packet start t)
-    (stage_gives ranges (of_stage t pass.steps) (reads_by ranges (content_of (registers_at ranges pass tables packet start t)))
-    tables packet)
-
 -- the registers once a stage is done: it reads all that it reads before it writes
 abbrev pub stage_done : List ValueRange → List Step → ℕ → Store → Packet → Registers → Registers
 stage_done ranges steps t tables packet registers =
     pairs_written registers (stage_gives ranges (of_stage t steps) (reads_by ranges (content_of registers)) tables packet)
+
+-- the registers before a stage of a pass that began with these
+unfoldable pub registers_at : List ValueRange → PassCode → Store → Packet → Registers → ℕ → Registers
+registers_at ranges pass tables packet start zero = start
+registers_at ranges pass tables packet start (suc t) =
+    stage_done ranges pass.steps t tables packet (registers_at ranges pass tables packet start t)

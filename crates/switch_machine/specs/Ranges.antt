@@ -51,13 +51,6 @@ pub record AreRanges (es : List Entry) (ranges : List ValueRange) : Type 0 where
   pub first : (i : ℕ) → (range_at ranges i).first ≡ (entered es (λ _. no_values) i).first
   pub count : (i : ℕ) → (range_at ranges i).count ≡ (entered es (λ _. no_values) i).count
 
--- each instruction has a lower number
-abbrev pub AreBelow : ℕ → List Step → Type 0
-AreBelow n steps = Each (λ (s : Step). s.instruction < n) steps
-
-abbrev pub AreCrossingsBelow : ℕ → List Crossing → Type 0
-AreCrossingsBelow n crossings = Each (λ (c : Crossing). c.value.instruction < n) crossings
-
 -- The values of an instruction stand one behind the other, and behind those of all lower instructions.
 pub record AreInOrder (had : List Written) : Type 0 where
   pub within : (w : Written) → Contains had w → w.value.result ≤ w.number

@@ -1,15 +1,14 @@
 //! The numbers of a pass's values.
-ghost use Rattle.std.specs.Prelude.{◌≡◌, ◌==◌, ◌<◌, ◌≤◌, ◌+◌, ◌-◌, ◌^◌, ℕ, [], length, map, max, IfOk, if◌then◌else◌, suc};
-ghost use Rattle.std.specs.Prelude.{unwrap_or};
+ghost use Rattle.std.specs.Prelude.{◌≡◌, ◌==◌, ◌<◌, ◌≤◌, ◌+◌, ◌-◌, ◌^◌, ℕ, [], length, map, max, IfOk, OnOk};
+ghost use Rattle.std.specs.Prelude.{if◌then◌else◌, suc, unwrap_or};
 ghost use Rattle.std.specs.Option.{option_map};
 ghost use Rattle.state_store.specs.declared.object.ObjectDecl.{ObjectDecl as Declared};
 ghost use Rattle.flat_ir.specs.Program.{work_of};
 ghost use Rattle.switch_ir.specs.Code.{pass_of, pass_step_of};
 ghost use Rattle.switch_ir.specs.Spans.{results_in};
 ghost use Rattle.switch_ir.specs.Tables.{declared_at};
-ghost use Rattle.switch_machine.specs.Numbers.{no_values, number_in, range_at};
-ghost use Rattle.switch_machine.specs.Ranges.{crossing_entry, entered, entries, from_first, step_entry, with_entry};
-ghost use Rattle.switch_machine.specs.Ranges.{AreBelow, AreCrossingsBelow, AreRanges};
+ghost use Rattle.switch_machine.specs.Numbers.{number_in, range_at};
+ghost use Rattle.switch_machine.specs.Ranges.{crossing_entry, entered, entries, from_first, step_entry, with_entry, AreRanges};
 
 use flat_ir::{InstrKind, ValueId};
 use gal_io::NoMemory;
@@ -92,96 +91,63 @@ impl Numbering {
     ) -> Result<Numbering, NoMemory>
         ensures { IfOk result (AreRanges (entries tables.now handed.now (pass_of pass.now))) }
     {
-        let given = pass.given.as_slice();
-        let steps = pass.steps.as_slice();
-        let mut numbering = Numbering::new(alloc, above_all(handed, given, steps))?;
-        numbering.put_crossings(handed);
-        numbering.put_steps(tables, given);
-        numbering.put_steps(tables, steps);
+        let mut numbering = Numbering {
+            items: Vec::new(alloc),
+        };
+        numbering.put_crossings(handed)?;
+        numbering.put_steps(tables, pass.given.as_slice())?;
+        numbering.put_steps(tables, pass.steps.as_slice())?;
         Ok(numbering)
     }
 
-    // Of so many instructions, without values.
-    fn new(alloc: Global, count: usize) -> Result<Numbering, NoMemory>
-        ensures ranges { IfOk result (λ numbering. (i : ℕ) → range_at numbering i ≡ no_values) }
-        ensures count { IfOk result (λ numbering. length numbering ≡ count) }
+    // There is a range for an instruction: one without values, where there was none.
+    fn reach(&mut self, instruction: u32) -> Result<(), NoMemory>
+        ensures ranges { OnOk result ((i : ℕ) → range_at self.new i ≡ range_at self.old i) }
+        ensures reached { OnOk result (instruction < length self.new) }
     {
-        let items = vec![in alloc; ValueRange::from_first(0, 0); count]?;
-        Ok(Numbering { items })
+        let count = instruction as usize + 1;
+        if self.items.len() < count {
+            self.items.resize(count, ValueRange::from_first(0, 0))?;
+        }
+        Ok(())
     }
 
     // Notes that so many values of an instruction stand from the first on. There may be more.
-    fn put(&mut self, instruction: u32, first: u32, count: u32)
-        requires { instruction < length self.old }
-        ensures ranges { (i : ℕ) → range_at self.new i ≡ (if i == instruction
-            then from_first first (max (range_at self.old i).count count) else range_at self.old i) }
-        ensures count { length self.new ≡ length self.old }
+    fn put(&mut self, instruction: u32, first: u32, count: u32) -> Result<(), NoMemory>
+        ensures { OnOk result ((i : ℕ) → range_at self.new i ≡ (if i == instruction
+            then from_first first (max (range_at self.old i).count count) else range_at self.old i)) }
     {
+        self.reach(instruction)?;
         let place = instruction as usize;
         let known = self.items[place].count;
         self.items[place] = ValueRange::from_first(first, known.max(count));
+        Ok(())
     }
 
     // Notes where the values of some instructions stand.
-    fn put_steps(&mut self, tables: &[Table], steps: &[PassStep])
-        requires { AreBelow (length self.old) (map pass_step_of steps.now) }
-        ensures ranges { (i : ℕ) → range_at self.new i
-            ≡ entered (map (step_entry tables.now) (map pass_step_of steps.now)) (range_at self.old) i }
-        ensures count { length self.new ≡ length self.old }
+    fn put_steps(&mut self, tables: &[Table], steps: &[PassStep]) -> Result<(), NoMemory>
+        ensures { OnOk result ((i : ℕ) → range_at self.new i
+            ≡ entered (map (step_entry tables.now) (map pass_step_of steps.now)) (range_at self.old) i) }
     {
         for step in steps {
             let count = value_count(tables, &step.kind);
-            self.put(step.instruction, step.first, count);
+            self.put(step.instruction, step.first, count)?;
         }
+        Ok(())
     }
 
     // Notes where values stand that are handed in.
-    fn put_crossings(&mut self, crossings: &[Crossing])
-        requires { AreCrossingsBelow (length self.old) crossings.now }
-        ensures ranges { (i : ℕ) → range_at self.new i
-            ≡ entered (map crossing_entry crossings.now) (range_at self.old) i }
-        ensures count { length self.new ≡ length self.old }
+    fn put_crossings(&mut self, crossings: &[Crossing]) -> Result<(), NoMemory>
+        ensures { OnOk result ((i : ℕ) → range_at self.new i
+            ≡ entered (map crossing_entry crossings.now) (range_at self.old) i) }
     {
         for crossing in crossings {
             let place = crossing.value.result;
             let first = crossing.number.saturating_sub(place);
-            self.put(crossing.value.instruction, first, place.saturating_add(1));
+            self.put(crossing.value.instruction, first, place.saturating_add(1))?;
         }
+        Ok(())
     }
-}
-
-// A number above that of each instruction.
-fn above_steps(steps: &[PassStep]) -> usize
-    ensures { AreBelow result (map pass_step_of steps.now) }
-{
-    let mut count = 0;
-    for step in steps {
-        count = (step.instruction as usize + 1).max(count);
-    }
-    count
-}
-
-// A number above that of each instruction of which a value is handed in.
-fn above_crossings(crossings: &[Crossing]) -> usize
-    ensures { AreCrossingsBelow result crossings.now }
-{
-    let mut count = 0;
-    for crossing in crossings {
-        count = (crossing.value.instruction as usize + 1).max(count);
-    }
-    count
-}
-
-// A number above that of each instruction of a pass.
-fn above_all(handed: &[Crossing], given: &[PassStep], steps: &[PassStep]) -> usize
-    ensures handed { AreCrossingsBelow result handed.now }
-    ensures given { AreBelow result (map pass_step_of given.now) }
-    ensures steps { AreBelow result (map pass_step_of steps.now) }
-{
-    let first = above_crossings(handed);
-    let second = above_steps(given);
-    let third = above_steps(steps);
-    first.max(second).max(third)
 }
 
 // How many values a row of an object has, if it is looked up.

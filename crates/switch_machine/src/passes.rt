@@ -18,25 +18,6 @@ use flat_ir::{
 };
 use transfer_header::Regs;
 
-/// Numbers that are read by place.
-#[derive(Clone, Copy)]
-pub(crate) struct Placed<'a> {
-    pub items: &'a [u64],
-}
-
-impl Numbers for Placed<'_> {
-    ghost reads = { λ numbers. reads_at numbers.items.now };
-
-    fn number(&self, value: ValueId) -> u64 {
-        let place = value.instruction as usize;
-        if place < self.items.len() {
-            self.items[place]
-        } else {
-            0
-        }
-    }
-}
-
 // The numbers that stand in registers, read by place.
 #[derive(Clone, Copy)]
 struct Standing<'a> {
@@ -329,9 +310,7 @@ pub(crate) fn run_stage<L: Lookup>(
         run_directly(stage.steps(), tables, arrival, registers);
         return;
     }
-    let numbers = Placed {
-        items: registers.as_slice(),
-    };
+    let numbers = Standing { registers };
     collect(stage.steps(), &numbers, tables, arrival, results);
     put_all(stage.targets(), results.as_slice(), registers);
 }

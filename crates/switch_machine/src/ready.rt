@@ -5,7 +5,7 @@ ghost use Rattle.switch_machine.specs.Ready.{place_in, place_name, places_in, pl
 ghost use Rattle.switch_machine.specs.Ready.{AreReady, HoldResults, IsDirect};
 
 use crate::numbering::{Numbering, ValueRange};
-use crate::stages::Stages;
+use crate::stages::stages_of;
 use crate::written::Written;
 use flat_ir::{InstrKind, RegPlan, Renaming, ValueId};
 use gal_io::NoMemory;
@@ -138,9 +138,9 @@ impl ReadyStages {
     ) -> Result<ReadyStages, NoMemory>
         ensures { IfOk result (AreReady numbering.now plan.now (map pass_step_of steps.now) highest) }
     {
-        let lists = Stages::of(alloc, steps, highest)?;
+        let lists = stages_of(alloc, steps, highest)?;
         let resolved = Resolved { numbering, plan };
-        resolved.stages(alloc, &lists)
+        resolved.stages(alloc, lists.as_slice())
     }
 
     /// How many stages there are.
@@ -254,11 +254,10 @@ impl Resolved<'_> {
     }
 
     // Each stage by place.
-    fn stages(&self, alloc: Global, stages: &Stages) -> Result<ReadyStages, NoMemory>
+    fn stages(&self, alloc: Global, stages: &[Steps]) -> Result<ReadyStages, NoMemory>
         ensures { IfOk result (λ made. map (map ready_of) made
             ≡ map (λ own. map (resolved self.now.numbering.now self.now.plan.now) (map pass_step_of own)) stages.now) }
     {
-        let stages = stages.as_slice();
         let mut written = Written::new(alloc, self.plan.count())?;
         let mut items = Vec::with_capacity(alloc, stages.len())?;
         for steps in stages {

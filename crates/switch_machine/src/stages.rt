@@ -6,41 +6,17 @@ ghost use Rattle.switch_machine.specs.Staged.{stage_at, AreStages};
 
 use gal_io::NoMemory;
 use std::alloc::Global;
-use std::marker::Model;
 use switch_ir::{PassStep, Steps};
 
-/// The instructions of a pass, in a list for each stage.
-#[derive(Debug, Drop)]
-pub(crate) struct Stages {
-    items: Vec<Steps>,
-}
-
-impl Model for Stages {
-    ghost use Rattle.std.specs.Prelude.{List};
-    ghost use Rattle.switch_ir.specs.declared.code.PassStep.{PassStep};
-
-    ghost Value = { List (List PassStep) };
-
-    ghost view = { λ stages. stages.items.items };
-}
-
-impl Stages {
-    /// The stages of some instructions, up to the highest.
-    pub fn of(alloc: Global, steps: &Steps, highest: u32) -> Result<Stages, NoMemory>
-        ensures { IfOk result (λ stages. AreStages (map pass_step_of steps.now) highest stages) }
-    {
-        let mut stages = empty_stages(alloc, highest as usize + 1)?;
-        for step in steps.as_slice() {
-            place(alloc, &mut stages, step)?;
-        }
-        Ok(Stages { items: stages })
+/// The instructions of a pass, in a list for each stage up to the highest.
+pub(crate) fn stages_of(alloc: Global, steps: &Steps, highest: u32) -> Result<Vec<Steps>, NoMemory>
+    ensures { IfOk result (λ stages. AreStages (map pass_step_of steps.now) highest stages.items) }
+{
+    let mut stages = empty_stages(alloc, highest as usize + 1)?;
+    for step in steps.as_slice() {
+        place(alloc, &mut stages, step)?;
     }
-
-    pub fn as_slice(&self) -> &[Steps]
-        ensures { result.now ≡ self.now }
-    {
-        self.items.as_slice()
-    }
+    Ok(stages)
 }
 
 // So many stages without instructions.

@@ -1,4 +1,4 @@
-use Rattle.std.proofs.Common.{◌∙◌, ◌++◌, List, ℕ, ap, arith, map}
+use Rattle.std.proofs.Common.{◌∙◌, arith, map}
 use Rattle.flat_ir.specs.Registers.{packet_of}
 use Rattle.switch_machine.specs.Ready.{only_numbers, ready_gives, ready_of}
 use Rattle.switch_machine.proofs.PlacedSteps.{ready_can}
@@ -8,15 +8,6 @@ use Rattle.switch_machine.proofs.passes.collect.Goals as goal
 pub collect-requires-clause-can : goal.collect-requires-clause-can
 collect-requires-clause-can g c =
     ready_can c.args.steps.now c.loop-step.step-index c.step-item.result c.requires.can c.loop-step-test.true c.step-item.is
-
-pub loop-step-init : goal.loop-step-init
-loop-step-init g c =
-    let all = only_numbers (ready_gives (map ready_of c.args.steps.now) (g.G.Numbers.reads c.args.numbers.now) (g.L.Lookup.seen c.args.tables.now) (packet_of c.args.arrival.now)) in
-    record {
-      items = ap (λ (ns : List ℕ). ns ++ all) c.clear.ensures.items;
-      room = omega (arith, c.clear.ensures.len, c.clear.ensures.capacity, c.requires.room);
-      capacity = c.clear.ensures.capacity;
-    }
 
 pub collect-requires-clause-room : goal.collect-requires-clause-room
 collect-requires-clause-room g c = omega (arith, c.loop-step.invariant.room, room_more c.args.steps.now c.loop-step.step-index c.step-item.result c.loop-step-test.true c.step-item.is)

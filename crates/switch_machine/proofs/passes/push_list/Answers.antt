@@ -1,10 +1,7 @@
-use Rattle.std.proofs.Common.{◌∙◌, arith, append-nil, sym}
+use Rattle.std.proofs.Common.{◌∙◌, arith}
 use Rattle.flat_ir.specs.Registers.{results_of}
 use Rattle.switch_machine.proofs.Waiting.{push_more}
 use Rattle.switch_machine.proofs.passes.push_list.Goals as goal
-
-pub loop-index-init : goal.loop-index-init
-loop-index-init c = record { items = sym (append-nil c.args.results.now.items); len = omega arith; capacity = omega arith }
 
 pub loop-index-preserved : goal.loop-index-preserved
 loop-index-preserved c = record {

@@ -1,10 +1,7 @@
-use Rattle.std.proofs.Common.{◌++◌, List, ℕ, ap, map}
+use Rattle.std.proofs.Common.{map}
 use Rattle.switch_machine.specs.Ready.{ready_of, targets_of}
 use Rattle.switch_machine.proofs.Waiting.{targets_all, targets_more}
 use Rattle.switch_machine.proofs.ready.targets.Goals as goal
-
-pub loop-step-init : goal.loop-step-init
-loop-step-init c = ap (λ (ps : List ℕ). ps ++ targets_of (map ready_of c.args.steps.now)) c.new-targets.ensures.items
 
 pub loop-step-preserved : goal.loop-step-preserved
 loop-step-preserved c =

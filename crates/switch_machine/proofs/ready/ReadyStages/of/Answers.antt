@@ -1,4 +1,4 @@
-use Rattle.std.proofs.Common.{◌≡◌, List, map}
+use Rattle.std.proofs.Common.{◌≡◌, ◌∙◌, List, ap, map}
 use Rattle.switch_ir.specs.declared.code.PassStep.{PassStep}
 use Rattle.switch_ir.specs.Code.{pass_step_of}
 use Rattle.switch_machine.specs.declared.ready.ReadyStep.{ReadyStep}
@@ -12,7 +12,8 @@ returns c =
     let ranges = c.args.numbering.now in
     let plan = c.args.plan.now in
     let steps = map pass_step_of c.args.steps.now in
-    let lists = c.in_ok-lists.lists in
-    ok_weaker (λ (made : List (List ReadyStep)). map (map ready_of) made ≡ map (λ (own : List PassStep). map (resolved ranges plan) (map pass_step_of own)) lists)
+    let by_list : List (List PassStep) → _ = map (λ own. map (resolved ranges plan) (map pass_step_of own)) in
+    ok_weaker (λ (made : List (List ReadyStep)). map (map ready_of) made ≡ by_list c.as_slice.result.now)
     (AreReady ranges plan steps c.args.highest) c.stages.result
-    (λ made same. are_ready ranges plan steps c.args.highest lists made c.in_ok-lists.ensures same) c.stages.ensures
+    (λ made same. are_ready ranges plan steps c.args.highest c.in_ok-lists.lists.items made c.in_ok-lists.ensures (same ∙ ap by_list c.as_slice.ensures.value))
+    c.stages.ensures

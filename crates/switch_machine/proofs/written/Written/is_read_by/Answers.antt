@@ -5,9 +5,6 @@ use Rattle.transfer_header.specs.Steps.{is_among}
 use Rattle.switch_machine.proofs.WrittenPlaces.{read_all, read_more}
 use Rattle.switch_machine.proofs.written.Written.is_read_by.Goals as goal
 
-pub loop-place-init : goal.loop-place-init
-loop-place-init c = λ places marks k v lt is. absurd (omega (arith, lt))
-
 pub loop-place-preserved : goal.loop-place-preserved
 loop-place-preserved c = λ places marks.
     read_more (λ (v : ValueId). is_among v.instruction places ≡ false) (operands (work_of c.args.kind.now)) c.loop-place.place c.operand.result

@@ -1,11 +1,8 @@
-use Rattle.std.proofs.Common.{◌++◌, List, ℕ, append-nil, arith, refl, subst, sym}
+use Rattle.std.proofs.Common.{◌++◌, List, ℕ, arith, refl, subst}
 use Rattle.std.proofs.lemmas.List.{take_all}
 use Rattle.switch_machine.specs.Written.{Marks}
 use Rattle.switch_machine.proofs.WrittenPlaces.{list_more}
 use Rattle.switch_machine.proofs.written.Written.put_list.Goals as goal
-
-pub loop-place-init : goal.loop-place-init
-loop-place-init c = λ given marks. subst (λ (ps : List ℕ). Marks ps c.args.self.now) (sym (append-nil given)) marks
 
 pub loop-place-preserved : goal.loop-place-preserved
 loop-place-preserved c =

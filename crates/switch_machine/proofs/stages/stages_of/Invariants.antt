@@ -1,7 +1,7 @@
 use Rattle.std.proofs.Common.{◌≡◌, ℕ, ◌<◌, ◌+◌, ◌++◌, length, map, drop}
 use Rattle.switch_ir.specs.Code.{pass_step_of}
 use Rattle.switch_machine.specs.Staged.{of_stage, stage_at}
-use Rattle.switch_machine.proofs.stages.Stages.of.Given as goal
+use Rattle.switch_machine.proofs.stages.stages_of.Given as goal
 
 abbrev pub invariant-loop-step : goal.invariant-loop-step
 invariant-loop-step l = record {
