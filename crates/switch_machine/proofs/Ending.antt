@@ -1,7 +1,8 @@
 -- What becomes of packets at both sides, once their passes are computed.
-use Rattle.std.proofs.Common.{◌≡◌, ◌∙◌, ◌++◌, ℕ, Bool, true, false, List, sym, ap, subst}
+use Rattle.std.proofs.Common.{◌≡◌, ◌≢◌, ◌∙◌, ◌++◌, ◌&&◌, ℕ, Bool, true, false, List, refl, sym, ap, subst, arith}
+use Rattle.std.specs.Prelude.{nat_lt, not}
 use Rattle.std.specs.List.{list_any, AllByRecursion as Each}
-use Rattle.std.proofs.lemmas.Bool.{true≢false}
+use Rattle.std.proofs.lemmas.Bool.{le-ltb, lt-ltb, true≢false}
 use Rattle.packet_fields.specs.declared.packet.Packet.{Packet}
 use Rattle.packet_fields.specs.declared.verdict.Verdict.{Verdict as Verdicts}
 use Rattle.flat_ir.specs.declared.program.Out.{Out}
@@ -15,8 +16,12 @@ use Rattle.transfer_header.specs.Frames.{up_frame}
 use Rattle.transfer_header.specs.Registers.{content_of, FitsLayout, Holds, Registers}
 use Rattle.switch_ir.specs.declared.code.SwitchCode.{SwitchCode}
 use Rattle.switch_ir.specs.Code.{code_of, Code}
-use Rattle.switch_ir.specs.Meaning.{leaves}
+use Rattle.switch_ir.specs.Meaning.{leaves, pass_values}
 use Rattle.switch_ir.specs.Sound.{CanBeRun}
+use Rattle.switch_ir.specs.Tables.{seen_tables, Told}
+use Rattle.switch_ir.specs.UnderWay.{Passes}
+use Rattle.switch_ir.specs.declared.port.UpEnd.{UpEnd}
+use Rattle.switch_ir.specs.declared.port.UpEnd.TheVariants as up
 use Rattle.switch_machine.specs.declared.numbering.ValueRange.{ValueRange}
 use Rattle.switch_machine.specs.declared.sides.Outcome.{Outcome}
 use Rattle.switch_machine.specs.declared.sides.Outcome.TheVariants.{Going, Up, Verdict}
@@ -24,8 +29,8 @@ use Rattle.switch_machine.specs.declared.sides.Side.{Side}
 use Rattle.switch_machine.specs.declared.sides.Side.TheVariants.{Before, Behind}
 use Rattle.switch_machine.specs.Keeping.{kept, left_with, lines_of, values_in}
 use Rattle.switch_machine.specs.Numbers.{reads_by, AreHeld}
-use Rattle.switch_machine.specs.Sides.{of_side, staging, EndsOn, HasEnded, IsOf}
-use Rattle.switch_machine.specs.UnderWay.{leaves_on, Goes}
+use Rattle.switch_machine.specs.Sides.{of_side, staging, up_of, EndsOn, IsOf}
+use Rattle.switch_machine.specs.UnderWay.{leaves_on, Enters, HasEnd}
 use Rattle.switch_machine.specs.Workplaces.{IsReadyFor}
 use Rattle.switch_machine.proofs.GoingUp.{up_holds}
 use Rattle.switch_machine.proofs.SettingUp.{alike_left, alike_right, sent_same, tested_same}
@@ -36,19 +41,15 @@ pub fits_on : (side : Side) (code : Code) (ranges : List ValueRange) (registers 
 fits_on Before code ranges registers reads ready left fits = fits ready
 fits_on Behind code ranges registers reads ready left fits = absurd (true≢false (sym left))
 
-pub up_is_of : (side : Side) (code : Code) (reads : Reading) (frame : List ℕ) → leaves_on side code reads ≡ true → IsOf side (Up frame)
+pub up_is_of : (side : Side) (code : Code) (reads : Reading) (frame : List ℕ) → leaves_on side code reads ≡ true → IsOf side (up.Up frame)
 up_is_of Before code reads frame left = tt
 up_is_of Behind code reads frame left = absurd (true≢false (sym left))
 
-pub verdict_is_of : (side : Side) (verdict : Verdicts) → IsOf side (Verdict verdict)
-verdict_is_of Before verdict = tt
-verdict_is_of Behind verdict = tt
+pub is_of : (side : Side) (end : UpEnd) → IsOf Behind end → IsOf side end
+is_of Before end of = tt
+is_of Behind end of = of
 
-pub going_is_of : (side : Side) → IsOf side Going
-going_is_of Before = tt
-going_is_of Behind = tt
-
-pub going_ends : (side : Side) (code : Code) (reads : Reading) (number : ℕ) (packet : Packet) → EndsOn side code reads number packet Going
+pub going_ends : (side : Side) (code : Code) (reads : Reading) (number : ℕ) (packet : Packet) → EndsOn side code reads number packet up.Going
 going_ends Before code reads number packet = tt
 going_ends Behind code reads number packet = tt
 
@@ -76,7 +77,7 @@ module _ (live : (r r' : Reading) (f : Program) (k : ℕ) → Each (EachConditio
 
   pub ends_up_on : (side : Side) → IsReadyFor code side ranges registers → leaves_on side code now ≡ true → (number : ℕ) (packet : Packet) (frame : List ℕ)
       → ((reads : Reading) → Holds code.up registers reads → frame ≡ up_frame code.up number packet.port reads packet.bytes)
-      → (reads : Reading) → AreHeld ranges registers reads (kept (staging side code)) → EndsOn side code reads number packet (Up frame)
+      → (reads : Reading) → AreHeld ranges registers reads (kept (staging side code)) → EndsOn side code reads number packet (up.Up frame)
   ends_up_on Behind ready left number packet frame packed reads same = absurd (true≢false (sym left))
   ends_up_on Before ready left number packet frame packed reads same = (
     sym (tested reads same) ∙ left,
@@ -86,7 +87,7 @@ module _ (live : (r r' : Reading) (f : Program) (k : ℕ) → Each (EachConditio
 
   pub ends_on : (side : Side) → leaves_on side code now ≡ false → (number : ℕ) (packet : Packet) (verdict : Verdicts)
       → verdict ≡ leaves (staging side code).code now packet
-      → (reads : Reading) → AreHeld ranges registers reads (kept (staging side code)) → EndsOn side code reads number packet (Verdict verdict)
+      → (reads : Reading) → AreHeld ranges registers reads (kept (staging side code)) → EndsOn side code reads number packet (up.Finished verdict)
   ends_on Before left number packet verdict is reads same =
       let lines = lines_of code.pre.blocks code.pre.rest in (
         sym (tested reads same) ∙ left,
@@ -97,8 +98,22 @@ module _ (live : (r r' : Reading) (f : Program) (k : ℕ) → Each (EachConditio
       let lines = lines_of code.post.blocks code.post.rest in
       is ∙ sent_same now reads code.post packet (alike_right now reads lines (left_with code.post) same)
 
--- a pass that has ended has no stages left
-pub ended_goes : (outcome : Outcome) → HasEnded outcome → (left : Bool) → left ≡ false → Goes left outcome
-ended_goes Going h left none = absurd h
-ended_goes (Up frame) h left none = none
-ended_goes (Verdict verdict) h left none = none
+-- ## Whether it has stages left
+
+pub none_left : (whole : Bool) (highest : ℕ) → (whole ≡ false → highest ≡ 0) → (not whole && nat_lt 0 highest) ≡ false
+none_left true highest one = refl
+none_left false highest one = le-ltb 0 highest (omega (arith, one refl))
+
+pub some_left : (whole : Bool) (highest : ℕ) → whole ≡ false → highest ≢ 0 → (not whole && nat_lt 0 highest) ≡ true
+some_left true highest e several = absurd (true≢false e)
+some_left false highest e several = lt-ltb 0 highest (omega (arith, several))
+
+-- a pass that is computed to its end begins with no stages left
+pub at_end : (side : Side) (code : Code) (told : Told) (whole : Bool) (number : ℕ) (packet : Packet) (given : Reading) (outcome : Outcome) (old new : Passes)
+    → HasEnd side code number packet false (EndsOn side code (pass_values (staging side code).code given (seen_tables told) packet) number packet) (up_of outcome)
+    → new ≡ old → (not whole && nat_lt 0 (staging side code).code.highest) ≡ false → Enters side code told whole number packet given (up_of outcome) old new
+at_end side code told whole number packet given Going old new h same none = absurd (true≢false (sym h.goes))
+at_end side code told whole number packet given (Up frame) old new h same none =
+    record { begun = same; ends = record { goes = none; of = h.of; frame = h.frame; told = h.told } }
+at_end side code told whole number packet given (Verdict verdict) old new h same none =
+    record { begun = same; ends = record { goes = none; of = h.of; frame = h.frame; told = h.told } }

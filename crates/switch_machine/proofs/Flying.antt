@@ -163,9 +163,9 @@ placed_as one other plan count placed =
 pub same_flight : (fs : NumberedFlights) (n : ℕ) (f g : Flight) → fs n ≡ Some f → fs n ≡ Some g → (P : Flight → Type 0) → P f → P g
 same_flight fs n f g there here P h = subst P (same_Some f g (sym there ∙ here)) h
 
-pub flight_at : (fs : NumberedFlights) (n : ℕ) → IsSome (fs n) → (f : Flight) × (fs n ≡ Some f)
-flight_at fs n there = go (fs n) refl there
+pub found_at : {X : Type 0} (fs : ℕ → Option X) (n : ℕ) → IsSome (fs n) → (f : X) × (fs n ≡ Some f)
+found_at {X} fs n there = go (fs n) refl there
   where
-    go : (o : Option Flight) → fs n ≡ o → IsSome o → (f : Flight) × (fs n ≡ Some f)
+    go : (o : Option X) → fs n ≡ o → IsSome o → (f : X) × (fs n ≡ Some f)
     go None is h = absurd (false≢true h)
     go (Some f) is h = (f, is)

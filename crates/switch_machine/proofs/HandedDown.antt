@@ -1,13 +1,11 @@
 -- Numbers that are handed down.
-use Rattle.std.proofs.Common.{◌≡◌, ℕ, suc, Bool, true, false, List, [], ◌∷◌, refl, ap, arith, if◌then◌else◌}
+use Rattle.std.proofs.Common.{◌≡◌, ℕ, suc, Bool, true, false, List, [], ◌∷◌, refl, arith, if◌then◌else◌}
 use Rattle.packet_fields.specs.declared.packet.Packet.{Packet}
-use Rattle.state_store.specs.Store.{Store}
 use Rattle.flat_ir.specs.declared.program.ValueId.{ValueId}
-use Rattle.flat_ir.specs.Blocks.{Reading}
 use Rattle.split_model.specs.declared.layout.Crossing.{Crossing}
 use Rattle.split_model.specs.Crossing.{is_value}
 use Rattle.transfer_header.specs.Values.{Agree}
-use Rattle.switch_ir.specs.Meaning.{crosses, down_end, down_given, handed, inputs, leaves, pass_values}
+use Rattle.switch_ir.specs.Meaning.{crosses, down_given, handed, inputs}
 use Rattle.switch_ir.specs.Passes.{Code}
 
 agreed : (b : Bool) (x x' y y' : ℕ) → x ≡ x' → y ≡ y' → (if b then x else y) ≡ (if b then x' else y')
@@ -29,9 +27,3 @@ given_same code values others packet agree = λ i v. same v i
     same : (v : ValueId) → down_given code values packet v ≡ down_given code others packet v
     same v = agreed (crosses code.down v) (handed code.down values v) (handed code.down others v) (inputs code packet v) (inputs code packet v)
         (handed_same code.down values others v agree) refl
-
--- and so is what becomes of a packet that comes down
-pub down_same : (code : Code) (values others : Crossing → ℕ) (tables : Store) (packet : Packet) → Agree code.down values others
-    → down_end code values tables packet ≡ down_end code others tables packet
-down_same code values others tables packet agree =
-    ap (λ (given : Reading). leaves code.post (pass_values code.post given tables packet) packet) (given_same code values others packet agree)

@@ -1,6 +1,6 @@
 -- What holds of the code that is loaded.
-use Rattle.std.proofs.Common.{◌≡◌, ◌∙◌, ◌<◌, ◌^◌, ℕ, suc, true, List, length, Option, Some, None, IfSome, ap, arith, subst, sym}
-use Rattle.std.specs.Prelude.{nat_lt}
+use Rattle.std.proofs.Common.{◌≡◌, ◌∙◌, ◌<◌, ◌^◌, ℕ, suc, true, List, length, Option, Some, None, Result, Ok, Err, IfOk, IfSome, ap, arith, refl, subst, sym}
+use Rattle.std.specs.Prelude.{nat_lt, OnOk}
 use Rattle.std.specs.Option.{option_map}
 use Rattle.std.proofs.lemmas.Bool.{ltb-true}
 use Rattle.std.proofs.lemmas.Option.{same_Some, none-some}
@@ -13,6 +13,7 @@ use Rattle.switch_ir.specs.Port.{IsCommandOf}
 use Rattle.switch_ir.specs.Sound.{CanBeRun}
 use Rattle.switch_ir.specs.Tables.{Told}
 use Rattle.switch_ir.specs.UnderWay.{HasGoneOn, Passes, PassState}
+use Rattle.switch_ir.specs.declared.port.UpEnd.{UpEnd}
 use Rattle.switch_machine.specs.declared.loaded.Loaded.{Loaded}
 use Rattle.switch_machine.specs.declared.loaded_pass.LoadedPass.{LoadedPass}
 use Rattle.switch_machine.specs.declared.numbering.ValueRange.{ValueRange}
@@ -23,7 +24,7 @@ use Rattle.switch_machine.specs.Loading.{code_in, loaded_code}
 use Rattle.switch_machine.specs.Ranges.{entries, AreOrdered, AreRanges}
 use Rattle.switch_machine.specs.Ready.{AreReady}
 use Rattle.switch_machine.specs.Sides.{of_side, staging}
-use Rattle.switch_machine.specs.UnderWay.{passes_on, shown, GoneOn, HasGone, HasStagesLeft, Puts}
+use Rattle.switch_machine.specs.UnderWay.{passes_on, shown, GoneOn, HasGone, HasStagesLeft, Puts, StaysLoaded}
 use Rattle.switch_machine.specs.Workplaces.{IsMadeBy, IsPassAs, IsPassOf, IsReadyFor, StaysMade}
 use Rattle.switch_machine.proofs.OfSides.{spans_on}
 
@@ -116,3 +117,21 @@ gone_on side l number told old new h = (
   subst (λ (s : Side). (before : PassState) → passes_on side l number ≡ Some before → HasGoneOn (staging s (code_of l.code)) (Some told) before h.0) (side_is side l) h.1,
   h.2,
 )
+
+-- ## One step after another
+
+pub stays_both : (side : Side) (a b c : Loaded) → StaysLoaded side a b → StaysLoaded side b c → StaysLoaded side a c
+stays_both side a b c one two = record { code = two.code ∙ one.code; other = two.other ∙ one.other }
+
+-- a call that was noted ends so, with the passes that it had made
+pub closed : {E : Type 0} (end : UpEnd) (passes last : Passes) (IsTaken : UpEnd → Passes → Type 0) (r : Result UpEnd E) → IsTaken end passes → IfOk r (λ e. e ≡ end)
+    → OnOk r (last ≡ passes) → IfOk r (λ e. IsTaken e last)
+closed end passes last IsTaken (Ok e) h is same =
+    let Taken : UpEnd × Passes → Type 0 = λ (x, ps). IsTaken x ps in
+    subst Taken (λ i. (sym is i, sym same i)) h
+closed end passes last IsTaken (Err e) h is same = tt
+
+-- the passes of a side
+pub at_side : (side : Side) (l : Loaded) → of_side side (passes_on Before l) (passes_on Behind l) ≡ passes_on side l
+at_side Before l = refl
+at_side Behind l = refl

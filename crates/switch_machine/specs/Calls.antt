@@ -1,7 +1,6 @@
 -- When the calls of a switch in memory fail, and how they are counted.
-use Rattle.std.specs.Prelude.{◌≡◌, ◌++◌, Bool, true, false, List, ⊤}
+use Rattle.std.specs.Prelude.{◌≡◌, Bool, true, false, ⊤}
 use Rattle.gal_io.specs.Count.{IsCountedIf, count_after}
-use Rattle.switch_ir.specs.declared.journal.Entry.{Entry}
 use Rattle.switch_ir.specs.declared.port.PortEnd.{PortEnd}
 use Rattle.switch_ir.specs.declared.port.PortEnd.TheVariants as port
 use Rattle.switch_ir.specs.declared.port.UpEnd.{UpEnd}
@@ -56,12 +55,5 @@ pub record IsCountedAs (kind : CallKind) (failed : Bool) (old new : MachineState
 abbrev pub called : MachineState → CallKind → Bool → MachineState
 called m kind failed = record m {
   calls = counted m.calls kind;
-  faults = count_after failed m.faults;
-}
-
--- the state after a call that left these entries, and that failed or didn't
-abbrev pub ended : MachineState → List Entry → Bool → MachineState
-ended m entries failed = record m {
-  journal = record m.journal { entries = m.journal.entries ++ entries };
   faults = count_after failed m.faults;
 }

@@ -1,14 +1,21 @@
--- The two sides of the server, and what calls make of passes at them.
-use Rattle.std.specs.Prelude.{◌≡◌, [], ℕ, Bool, true, false, refl}
+-- The two sides of the server, the calls over packets at them, and how these end.
+use Rattle.std.specs.Prelude.{◌≡◌, ◌++◌, ◌∷◌, [], ℕ, Bool, true, false, refl}
 use Rattle.std.specs.Coded.{Coded, code_by, coded_bool}
 use Rattle.packet_fields.specs.declared.packet.Packet.{Packet}
 use Rattle.flat_ir.specs.Blocks.{Reading}
+use Rattle.switch_ir.specs.Journal.{JournalState}
 use Rattle.switch_ir.specs.Passes.{Code}
 use Rattle.switch_ir.specs.Staged.{EndsBy, EndsDownBy, Staging}
+use Rattle.switch_ir.specs.declared.journal.Entry.{Entry}
+use Rattle.switch_ir.specs.declared.journal.Entry.TheVariants as entry
 use Rattle.switch_ir.specs.declared.port.UpEnd.{UpEnd}
 use Rattle.switch_ir.specs.declared.port.UpEnd.TheVariants as up
 use Rattle.switch_ir.specs.declared.port.DownEnd.{DownEnd}
 use Rattle.switch_ir.specs.declared.port.DownEnd.TheVariants as down
+use Rattle.switch_machine.specs.declared.calls.CallKind.{CallKind}
+use Rattle.switch_machine.specs.declared.calls.CallKind.TheVariants as kind
+use Rattle.switch_machine.specs.declared.sides.Event.{Event}
+use Rattle.switch_machine.specs.declared.sides.Event.TheVariants as event
 use Rattle.switch_machine.specs.declared.sides.Side.{Side}
 use Rattle.switch_machine.specs.declared.sides.Side.TheVariants.{Before, Behind}
 use Rattle.switch_machine.specs.declared.sides.Outcome.{Outcome}
@@ -43,31 +50,70 @@ staging side code = record {
   layout = of_side side code.up [];
 }
 
--- how a call ends before the server, and behind it
+-- ## How a call ends
+
+-- before the server
 abbrev pub up_of : Outcome → UpEnd
 up_of Going = up.Going
 up_of (Up frame) = up.Up frame
 up_of (Verdict verdict) = up.Finished verdict
 
-abbrev pub down_of : Outcome → DownEnd
-down_of Going = down.Going
-down_of (Up frame) = down.Failed
-down_of (Verdict verdict) = down.Verdict verdict
+-- behind it, where no packet goes up
+abbrev pub down_of : UpEnd → DownEnd
+down_of up.Going = down.Going
+down_of (up.Up frame) = down.Failed
+down_of (up.Finished verdict) = down.Verdict verdict
+down_of up.Failed = down.Failed
+down_of up.NoMemory = down.NoMemory
 
--- behind the server no packet goes up
-abbrev pub IsOf : Side → Outcome → Type 0
-IsOf Before outcome = Unit {0}
-IsOf Behind Going = Unit {0}
-IsOf Behind (Up frame) = ⊥
-IsOf Behind (Verdict verdict) = Unit {0}
+abbrev pub up_from : DownEnd → UpEnd
+up_from down.Going = up.Going
+up_from (down.Verdict verdict) = up.Finished verdict
+up_from down.Failed = up.Failed
+up_from down.NoMemory = up.NoMemory
 
--- the pass has no stages left
-abbrev pub HasEnded : Outcome → Type 0
-HasEnded Going = ⊥
-HasEnded (Up frame) = Unit {0}
-HasEnded (Verdict verdict) = Unit {0}
+abbrev pub IsOf : Side → UpEnd → Type 0
+IsOf Before end = Unit {0}
+IsOf Behind up.Going = Unit {0}
+IsOf Behind (up.Up frame) = ⊥
+IsOf Behind (up.Finished verdict) = Unit {0}
+IsOf Behind up.Failed = Unit {0}
+IsOf Behind up.NoMemory = Unit {0}
+
+abbrev pub is_going : Outcome → Bool
+is_going Going = true
+is_going (Up frame) = false
+is_going (Verdict verdict) = false
 
 -- what becomes of a packet by the last numbers of its pass
-abbrev pub EndsOn : Side → Code → Reading → ℕ → Packet → Outcome → Type 0
-EndsOn Before code reads number packet outcome = EndsBy code reads number packet (up_of outcome)
-EndsOn Behind code reads number packet outcome = EndsDownBy code reads packet (down_of outcome)
+abbrev pub EndsOn : Side → Code → Reading → ℕ → Packet → UpEnd → Type 0
+EndsOn Before code reads number packet end = EndsBy code reads number packet end
+EndsOn Behind code reads number packet end = EndsDownBy code reads packet (down_of end)
+
+-- ## Calls over packets
+
+abbrev pub side_of : Event → Side
+side_of (event.Up number port packet whole) = Before
+side_of (event.Down frame whole) = Behind
+side_of (event.Stage side number) = side
+
+abbrev pub kind_of : Event → CallKind
+kind_of (event.Up number port packet true) = kind.Up
+kind_of (event.Up number port packet false) = kind.BeginUp
+kind_of (event.Down frame true) = kind.Down
+kind_of (event.Down frame false) = kind.BeginDown
+kind_of (event.Stage Before number) = kind.StageUp
+kind_of (event.Stage Behind number) = kind.StageDown
+
+-- the entry of one that ended so
+abbrev pub entry_for : Event → UpEnd → Entry
+entry_for (event.Up number port packet true) end = entry.Up number port packet.now end
+entry_for (event.Up number port packet false) end = entry.BeginUp number port packet.now end
+entry_for (event.Down frame true) end = entry.Down frame.now (down_of end)
+entry_for (event.Down frame false) end = entry.BeginDown frame.now (down_of end)
+entry_for (event.Stage Before number) end = entry.StageUp number end
+entry_for (event.Stage Behind number) end = entry.StageDown number (down_of end)
+
+-- a journal with one entry more
+abbrev pub with_last : Entry → JournalState → JournalState
+with_last entry journal = record journal { entries = journal.entries ++ entry ∷ [] }

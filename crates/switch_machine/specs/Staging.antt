@@ -1,39 +1,52 @@
--- What the calls of a switch in memory make of its passes, step by step.
-use Rattle.std.specs.Prelude.{◌≡◌, ◌++◌, ◌∷◌, [], ℕ, Bool, true, false, None}
-use Rattle.switch_ir.specs.UnderWay.{Passes, PassState}
+-- What the calls of a switch in memory over packets need, and what they leave.
+use Rattle.std.specs.Prelude.{◌≡◌, ◌≤◌, ◌++◌, ℕ, List, Bool, true, false, Some, None, IsSome, length}
+use Rattle.gal_io.specs.Count.{IsCountedIf}
+use Rattle.packet_fields.specs.Sizes.{largest_packet}
+use Rattle.flat_ir.specs.Blocks.{nothing}
+use Rattle.transfer_header.specs.Frames.{IsFrame}
+use Rattle.switch_ir.specs.Code.{Code}
+use Rattle.switch_ir.specs.Meaning.{down_given}
+use Rattle.switch_ir.specs.Port.{noted_up, up_failed, OfItsParts}
+use Rattle.switch_ir.specs.Tables.{Told}
+use Rattle.switch_ir.specs.UnderWay.{Passes}
 use Rattle.switch_ir.specs.declared.journal.Entry.{Entry}
 use Rattle.switch_ir.specs.declared.port.UpEnd.{UpEnd}
 use Rattle.switch_ir.specs.declared.port.UpEnd.TheVariants as up
-use Rattle.switch_ir.specs.declared.port.DownEnd.{DownEnd}
-use Rattle.switch_ir.specs.declared.port.DownEnd.TheVariants as down
+use Rattle.switch_machine.specs.declared.calls.CallKind.{CallKind}
+use Rattle.switch_machine.specs.declared.sides.Event.{Event}
+use Rattle.switch_machine.specs.declared.sides.Event.TheVariants as event
 use Rattle.switch_machine.specs.declared.sides.Side.{Side}
 use Rattle.switch_machine.specs.declared.sides.Side.TheVariants.{Before, Behind}
-use Rattle.switch_machine.specs.Flights.{with_pass}
+use Rattle.switch_machine.specs.Counts.{counted}
 use Rattle.switch_machine.specs.Machine.{MachineState}
-use Rattle.switch_machine.specs.UnderWay.{Puts}
+use Rattle.switch_machine.specs.Sides.{of_side, with_last}
+use Rattle.switch_machine.specs.UnderWay.{Enters, Stages}
 
--- the passes of a side, and the state with others in their place
+-- the passes of a side
 abbrev pub passes_at : Side → MachineState → Passes
-passes_at Before m = m.passes.pre
-passes_at Behind m = m.passes.post
-
-abbrev pub with_passes : Side → Passes → MachineState → MachineState
-with_passes Before passes m = record m { passes = record m.passes { pre = passes } }
-with_passes Behind passes m = record m { passes = record m.passes { post = passes } }
+passes_at side m = of_side side m.passes.pre m.passes.post
 
 -- the state with one entry more
 abbrev pub with_entry : Entry → MachineState → MachineState
-with_entry entry m = record m { journal = record m.journal { entries = m.journal.entries ++ entry ∷ [] } }
+with_entry entry m = record m { journal = with_last entry m.journal }
 
--- a pass goes on, as this says, or is under way no longer
-abbrev pub Settles : Bool → ℕ → (PassState → Type 0) → Passes → Passes → Type 0
-Settles true number IsNew old new = Puts number IsNew old new
-Settles false number IsNew old new = new ≡ with_pass number None old
+-- what a call over a packet needs, of the code and of the passes of its side
+abbrev pub CanTake : Event → Code → Passes → Type 0
+CanTake (event.Up number port packet whole) code passes = (length packet.now ≤ largest_packet) × (whole ≡ false → passes number ≡ None)
+CanTake (event.Down frame whole) code passes =
+    IsFrame 2 code.down frame.now × (whole ≡ false → OfItsParts code frame.now (λ number packet values. passes number ≡ None))
+CanTake (event.Stage side number) code passes = IsSome (passes number)
 
--- calls and plans stay
-pub record IsLeft (old new : MachineState) : Type 0 where
-  pub planned : new.planned ≡ old.planned
-  pub calls : new.calls ≡ old.calls
+-- a pass begins over the packet of a frame
+abbrev pub EntersDown : List ℕ → Bool → Code → Told → UpEnd → Passes → Passes → Type 0
+EntersDown frame whole code told end old new =
+    OfItsParts code frame (λ number packet values. Enters Behind code told whole number packet (down_given code values packet) end old new)
+
+-- what it makes of these passes, with its end
+abbrev pub Takes : Event → Code → Told → UpEnd → Passes → Passes → Type 0
+Takes (event.Up number port packet whole) code told = Enters Before code told whole number (record { port = port; bytes = packet.now }) nothing
+Takes (event.Down frame whole) code told = EntersDown frame.now whole code told
+Takes (event.Stage side number) code told = Stages side code told number
 
 -- it fails or doesn't
 abbrev pub UpIsPlanned : Bool → UpEnd → Type 0
@@ -43,21 +56,20 @@ UpIsPlanned fails (up.Up frame) = fails ≡ false
 UpIsPlanned fails up.Going = fails ≡ false
 UpIsPlanned fails up.NoMemory = ⊥
 
-abbrev pub DownIsPlanned : Bool → DownEnd → Type 0
-DownIsPlanned fails down.Failed = fails ≡ true
-DownIsPlanned fails (down.Verdict verdict) = fails ≡ false
-DownIsPlanned fails down.Going = fails ≡ false
-DownIsPlanned fails down.NoMemory = ⊥
+-- what a call at a side leaves, by its entry and by what it makes of the passes there
+pub record Leaves (side : Side) (call : UpEnd → Entry) (IsTaken : Code → Told → UpEnd → Passes → Passes → Type 0) (end : UpEnd) (old new : MachineState)
+    : Type 0 where
+  pub code : new.code ≡ old.code
+  pub tables : new.tables ≡ old.tables
+  pub entries : new.journal.entries ≡ old.journal.entries ++ noted_up call end
+  pub spare : new.journal.spare ≡ old.journal.spare
+  pub faults : IsCountedIf (up_failed end) old.faults new.faults
+  pub planned : new.planned ≡ old.planned
+  pub calls : new.calls ≡ old.calls
+  pub other : of_side side new.passes.post new.passes.pre ≡ of_side side old.passes.post old.passes.pre
+  pub loaded : (code : Code) × (old.code ≡ Some code)
+  pub takes : (code : Code) → old.code ≡ Some code → IsTaken code old.tables end (passes_at side old) (passes_at side new)
 
-abbrev pub is_going_up : UpEnd → Bool
-is_going_up up.Going = true
-is_going_up (up.Finished verdict) = false
-is_going_up (up.Up frame) = false
-is_going_up up.Failed = false
-is_going_up up.NoMemory = false
-
-abbrev pub is_going_down : DownEnd → Bool
-is_going_down down.Going = true
-is_going_down (down.Verdict verdict) = false
-is_going_down down.Failed = false
-is_going_down down.NoMemory = false
+-- the state with a call of this kind counted
+abbrev pub with_call : CallKind → MachineState → MachineState
+with_call kind m = record m { calls = counted m.calls kind }

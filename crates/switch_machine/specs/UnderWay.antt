@@ -1,27 +1,28 @@
 -- What the machine tells of passes that are under way, and what calls make of them.
-use Rattle.std.specs.Prelude.{◌≡◌, ◌<◌, ℕ, suc, Bool, true, false, List, length, Option, Some, None}
+use Rattle.std.specs.Prelude.{◌≡◌, ◌<◌, ◌&&◌, ℕ, suc, nat_lt, not, Bool, false, List, length, Option, Some, None}
 use Rattle.std.specs.Option.{option_map}
 use Rattle.packet_fields.specs.declared.packet.Packet.{Packet}
 use Rattle.flat_ir.specs.Blocks.{Reading}
 use Rattle.flat_ir.specs.Plan.{RegisterPlan}
 use Rattle.transfer_header.specs.Registers.{Registers}
 use Rattle.switch_ir.specs.Code.{code_of, Code}
-use Rattle.switch_ir.specs.Meaning.{goes_up}
+use Rattle.switch_ir.specs.Meaning.{goes_up, pass_values}
+use Rattle.switch_ir.specs.Port.{IsUpFrame}
 use Rattle.switch_ir.specs.Staged.{last_numbers, Staging}
-use Rattle.switch_ir.specs.Tables.{view_of, Told}
-use Rattle.switch_ir.specs.UnderWay.{none_under_way, HasEntered, HasGoneOn, Passes, PassState, UnderWay}
+use Rattle.switch_ir.specs.Tables.{seen_tables, view_of, Told}
+use Rattle.switch_ir.specs.UnderWay.{none_under_way, EndsWith, GoesUp, HasEntered, HasGoneOn, Passes, PassState, UnderWay}
+use Rattle.switch_ir.specs.declared.port.UpEnd.{UpEnd}
+use Rattle.switch_ir.specs.declared.port.UpEnd.TheVariants as up
 use Rattle.switch_machine.specs.declared.flight.Flight.{Flight}
 use Rattle.switch_machine.specs.declared.loaded.Loaded.{Loaded}
 use Rattle.switch_machine.specs.declared.loaded_pass.LoadedPass.{LoadedPass}
 use Rattle.switch_machine.specs.declared.numbering.ValueRange.{ValueRange}
 use Rattle.switch_machine.specs.declared.sides.Side.{Side}
 use Rattle.switch_machine.specs.declared.sides.Side.TheVariants.{Before, Behind}
-use Rattle.switch_machine.specs.declared.sides.Outcome.{Outcome}
-use Rattle.switch_machine.specs.declared.sides.Outcome.TheVariants.{Going, Up, Verdict}
 use Rattle.switch_machine.specs.Flights.{flights_in, numbers_in, packet_in, with_pass, NumberedFlights}
 use Rattle.switch_machine.specs.Keeping.{begins}
 use Rattle.switch_machine.specs.Planned.{BeginsWith}
-use Rattle.switch_machine.specs.Sides.{of_side, staging}
+use Rattle.switch_machine.specs.Sides.{of_side, staging, EndsOn, IsOf}
 
 -- ## What it tells of them
 
@@ -60,10 +61,45 @@ abbrev pub Puts : ℕ → (PassState → Type 0) → Passes → Passes → Type 
 Puts number IsNew old new = (pass : PassState) × IsNew pass × (new ≡ with_pass number (Some pass) old)
 
 -- where a pass that began has stages left it is under way, and else all are as before
-abbrev pub Begins : ℕ → (PassState → Type 0) → Passes → Passes → Outcome → Type 0
-Begins number IsNew old new Going = Puts number IsNew old new
-Begins number IsNew old new (Up frame) = new ≡ old
-Begins number IsNew old new (Verdict verdict) = new ≡ old
+abbrev pub Begins : ℕ → (PassState → Type 0) → Passes → Passes → UpEnd → Type 0
+Begins number IsNew old new up.Going = Puts number IsNew old new
+Begins number IsNew old new (up.Up frame) = new ≡ old
+Begins number IsNew old new (up.Finished verdict) = new ≡ old
+Begins number IsNew old new up.Failed = new ≡ old
+Begins number IsNew old new up.NoMemory = new ≡ old
+
+-- a pass that took a stage goes on, as this says, or is under way no longer
+abbrev pub Settles : ℕ → (PassState → Type 0) → Passes → Passes → UpEnd → Type 0
+Settles number IsNew old new up.Going = Puts number IsNew old new
+Settles number IsNew old new (up.Up frame) = new ≡ with_pass number None old
+Settles number IsNew old new (up.Finished verdict) = new ≡ with_pass number None old
+Settles number IsNew old new up.Failed = new ≡ old
+Settles number IsNew old new up.NoMemory = new ≡ old
+
+-- how a call ends over the packet of this number, whose pass has stages left or has none, by what this tells
+pub record HasEnd (side : Side) (code : Code) (number : ℕ) (packet : Packet) (left : Bool) (IsTold : UpEnd → Type 0) (end : UpEnd) : Type 0 where
+  pub goes : GoesUp left end
+  pub of : IsOf side end
+  pub frame : IsUpFrame code number packet.port packet.bytes end
+  pub told : IsTold end
+
+-- a pass begins over tables, from what it is given
+pub record Enters (side : Side) (code : Code) (told : Told) (whole : Bool) (number : ℕ) (packet : Packet) (given : Reading) (end : UpEnd) (old new : Passes)
+    : Type 0 where
+  pub begun : Begins number (HasEntered (staging side code) (λ other. other ≡ given) packet (Some told)) old new end
+  pub ends : HasEnd side code number packet (not whole && nat_lt 0 (staging side code).code.highest)
+      (EndsOn side code (pass_values (staging side code).code given (seen_tables told) packet) number packet) end
+
+-- how a call ends by which a pass takes a stage
+abbrev pub Steps : Side → Code → Told → ℕ → PassState → UpEnd → Type 0
+Steps side code told number before =
+    HasEnd side code number before.packet (nat_lt (suc before.stage) (staging side code).code.highest)
+    (λ end. EndsWith (staging side code) (Some told) before (λ reads. EndsOn side code reads number before.packet end))
+
+-- the pass of a number takes a stage
+pub record Stages (side : Side) (code : Code) (told : Told) (number : ℕ) (end : UpEnd) (old new : Passes) : Type 0 where
+  pub settles : Settles number (λ pass. (before : PassState) → old number ≡ Some before → HasGoneOn (staging side code) (Some told) before pass) old new end
+  pub ends : (before : PassState) → old number ≡ Some before → Steps side code told number before end
 
 -- a pass of this code that entered, over the tables as lookups see them, from what its registers had
 abbrev pub Entered : Code → Packet → Told → LoadedPass → PassState → Type 0
@@ -74,12 +110,6 @@ Entered code packet told l pass =
 abbrev pub GoneOn : Code → ℕ → Told → LoadedPass → PassState → Type 0
 GoneOn code number told l pass =
     (before : PassState) → passes_of code l number ≡ Some before → HasGoneOn (staging l.side code) (Some told) before pass
-
--- it goes on just where it has stages left
-abbrev pub Goes : Bool → Outcome → Type 0
-Goes left Going = left ≡ true
-Goes left (Up frame) = left ≡ false
-Goes left (Verdict verdict) = left ≡ false
 
 -- the pass of a number has more than one stage left, or just one
 abbrev pub HasStagesLeft : ℕ → LoadedPass → Type 0

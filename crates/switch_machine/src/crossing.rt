@@ -1,21 +1,24 @@
 //! Packets that pass loaded code, before the server and behind it.
-ghost use Rattle.std.specs.Prelude.{◌≡◌, ◌≤◌, ◌&&◌, ℕ, List, suc, not, nat_lt, drop, length, true, false, Some, None, IfOk, IsSome, OnErr};
+ghost use Rattle.std.specs.Prelude.{◌≡◌, ◌≤◌, ℕ, List, suc, nat_lt, drop, length, true, false, if◌then◌else◌, Some, None, IfOk, IsSome, OnErr, OnOk};
 ghost use Rattle.packet_fields.specs.Shape.{shape_of};
 ghost use Rattle.packet_fields.specs.Sizes.{largest_packet};
+ghost use Rattle.flat_ir.specs.Blocks.{nothing};
 ghost use Rattle.flat_ir.specs.Registers.{packet_of};
 ghost use Rattle.split_model.specs.declared.layout.Crossing.{Crossing};
 ghost use Rattle.transfer_header.specs.Frames.{IsFrame, IsFrameOf, IsReadBack};
 ghost use Rattle.transfer_header.specs.Registers.{value_in};
 ghost use Rattle.switch_ir.specs.Code.{code_of};
 ghost use Rattle.switch_ir.specs.Meaning.{down_given};
-ghost use Rattle.switch_ir.specs.Port.{EndsDown, EndsUp, IsHandedDown, IsNothing, IsUpFrame, OfItsParts};
-ghost use Rattle.switch_ir.specs.UnderWay.{EndsWith, HasEntered, PassState};
+ghost use Rattle.switch_ir.specs.Port.{OfItsParts};
+ghost use Rattle.switch_ir.specs.UnderWay.{PassState};
 ghost use Rattle.switch_machine.specs.Kept.{KeepsTables};
-ghost use Rattle.switch_machine.specs.Sides.{down_of, staging, up_of, EndsOn, IsOf};
-ghost use Rattle.switch_machine.specs.UnderWay.{passes_of, passes_on, Begins, Goes, HasGone, IsGiven, Puts, StaysLoaded};
+ghost use Rattle.switch_machine.specs.Sides.{entry_for, is_going, side_of, staging, up_of, with_last, IsOf};
+ghost use Rattle.switch_machine.specs.Staging.{CanTake, EntersDown, Takes, UpIsPlanned};
+ghost use Rattle.switch_machine.specs.UnderWay.{passes_on, Enters, HasGone, IsGiven, Puts, Stages, StaysLoaded, Steps};
 ghost use Rattle.switch_machine.specs.Flights.{with_pass};
 ghost use Rattle.switch_machine.specs.Ready.{AreReady};
 ghost use Rattle.switch_machine.specs.Workplaces.{IsPassOf, StaysMade};
+ghost use Rattle.switch_machine.specs.declared.sides.Event.TheVariants as event;
 ghost use Rattle.switch_machine.specs.declared.sides.Side.TheVariants.{Before, Behind};
 
 use crate::laws::{a_pass_by_place, what_crosses_fits};
@@ -24,18 +27,112 @@ use crate::loaded_pass::LoadedPass;
 use crate::passes::{are_few, run_steps};
 use crate::ready::ReadyStages;
 use crate::run::Nothing;
-use crate::sides::{Outcome, Side};
+use crate::sides::{Event, Outcome, Side};
 use crate::tables::SwitchTables;
 use flat_ir::Arrival;
 use gal_io::NoMemory;
 use packet_fields::Shape;
 use std::alloc::Global;
-use switch_ir::SwitchCode;
+use switch_ir::{Journal, SwitchCode, UpEnd};
 use transfer_header::{Head, unpack_down};
 
 impl Loaded {
-    /// A packet arrives, and its pass begins, or goes to its end at once where it is to be `whole`.
-    pub fn up(
+    /// A call over a packet, which fails or doesn't, with its entry. Without memory all is as before.
+    pub fn take(
+        &mut self,
+        alloc: Global,
+        tables: &SwitchTables,
+        journal: &mut Journal,
+        event: &Event<'_>,
+        fails: bool,
+    ) -> Result<UpEnd, NoMemory>
+        requires safe { KeepsTables (code_of self.old.code) tables.now }
+        requires can { CanTake event.now (code_of self.old.code) (passes_on (side_of event.now) self.old) }
+        ensures stays { StaysLoaded (side_of event.now) self.old self.new }
+        ensures takes { IfOk result (λ end. Takes event.now (code_of self.old.code) tables.now end
+            (passes_on (side_of event.now) self.old) (passes_on (side_of event.now) self.new)) }
+        ensures side { IfOk result (IsOf (side_of event.now)) }
+        ensures plan { IfOk result (UpIsPlanned fails) }
+        ensures noted { IfOk result (λ end. journal.new ≡ with_last (entry_for event.now end) journal.old) }
+        ensures kept { OnErr result (passes_on (side_of event.now) self.new ≡ passes_on (side_of event.now) self.old) }
+        ensures err { OnErr result (journal.new ≡ journal.old) }
+    {
+        if fails {
+            return event.note(journal, UpEnd::Failed);
+        }
+        match *event {
+            Event::Up(number, port, packet, whole) => {
+                let outcome = self.up(alloc, tables, number, port, packet, whole)?;
+                self.close(journal, event, number, outcome)
+            }
+            Event::Down(frame, whole) => {
+                let made = self.down(alloc, tables, frame, whole)?;
+                let (number, outcome) = made;
+                self.close(journal, event, number, outcome)
+            }
+            Event::Stage(side, number) => self.stage(alloc, tables, journal, side, number),
+        }
+    }
+
+    // Notes a call by which a pass began, with what became of it. Without memory for that, the pass isn't under way.
+    fn close(
+        &mut self,
+        journal: &mut Journal,
+        event: &Event<'_>,
+        number: u32,
+        outcome: Outcome,
+    ) -> Result<UpEnd, NoMemory>
+        requires { IsOf (side_of event.now) (up_of outcome) }
+        ensures stays { StaysLoaded (side_of event.now) self.old self.new }
+        ensures end { IfOk result (λ end. end ≡ up_of outcome) }
+        ensures kept { OnOk result (passes_on (side_of event.now) self.new ≡ passes_on (side_of event.now) self.old) }
+        ensures noted { IfOk result (λ end. journal.new ≡ with_last (entry_for event.now end) journal.old) }
+        ensures undone { OnErr result (passes_on (side_of event.now) self.new ≡ (if is_going outcome
+            then with_pass number None (passes_on (side_of event.now) self.old)
+            else passes_on (side_of event.now) self.old)) }
+        ensures err { OnErr result (journal.new ≡ journal.old) }
+    {
+        let begun = outcome.is_going();
+        match event.note(journal, outcome.end()) {
+            Ok(end) => Ok(end),
+            Err(failed) => {
+                if begun {
+                    self.remove(event.side(), number);
+                }
+                Err(failed)
+            }
+        }
+    }
+
+    // The pass over the packet of this number at a side takes a stage.
+    fn stage(
+        &mut self,
+        alloc: Global,
+        tables: &SwitchTables,
+        journal: &mut Journal,
+        side: Side,
+        number: u32,
+    ) -> Result<UpEnd, NoMemory>
+        requires safe { KeepsTables (code_of self.old.code) tables.now }
+        requires there { IsSome (passes_on side self.old number) }
+        ensures stays { StaysLoaded side self.old self.new }
+        ensures stages { IfOk result (λ end. Stages side (code_of self.old.code) tables.now number end
+            (passes_on side self.old) (passes_on side self.new)) }
+        ensures side { IfOk result (IsOf side) }
+        ensures plan { IfOk result (UpIsPlanned false) }
+        ensures noted { IfOk result (λ end. journal.new ≡ with_last (entry_for (event.Stage side number) end) journal.old) }
+        ensures kept { OnErr result (passes_on side self.new ≡ passes_on side self.old) }
+        ensures err { OnErr result (journal.new ≡ journal.old) }
+    {
+        let outcome = self.next(alloc, side, tables, number)?;
+        let goes_on = outcome.is_going();
+        let end = Event::Stage(side, number).note(journal, outcome.end())?;
+        self.settle(side, tables, number, goes_on);
+        Ok(end)
+    }
+
+    // A packet arrives, and its pass begins, or goes to its end at once where it is to be `whole`.
+    fn up(
         &mut self,
         alloc: Global,
         tables: &SwitchTables,
@@ -47,13 +144,9 @@ impl Loaded {
         requires size { length packet.now ≤ largest_packet }
         requires safe { KeepsTables (code_of self.old.code) tables.now }
         ensures stays { StaysLoaded Before self.old self.new }
-        ensures begins { IfOk result (Begins number (HasEntered (staging Before (code_of self.old.code)) IsNothing
-            (record { port = port; bytes = packet.now }) (Some tables.now)) (passes_on Before self.old) (passes_on Before self.new)) }
+        ensures enters { IfOk result (λ outcome. Enters Before (code_of self.old.code) tables.now whole number
+            (record { port = port; bytes = packet.now }) nothing (up_of outcome) (passes_on Before self.old) (passes_on Before self.new)) }
         ensures err { OnErr result (passes_on Before self.new ≡ passes_on Before self.old) }
-        ensures goes { IfOk result (Goes (not whole && nat_lt 0 (code_of self.old.code).pre.highest)) }
-        ensures frame { IfOk result (λ outcome. IsUpFrame (code_of self.old.code) number port packet.now (up_of outcome)) }
-        ensures told { IfOk result (λ outcome. EndsUp (code_of self.old.code) tables.now number
-            (record { port = port; bytes = packet.now }) (up_of outcome)) }
     {
         self.before.clear();
         let arrival = Arrival {
@@ -66,9 +159,9 @@ impl Loaded {
             .begin(alloc, code, tables, number, &arrival, whole)
     }
 
-    /// A frame comes down, and the pass over its packet begins, or goes to its end at once where it is to be `whole`. This
-    /// tells the number of the packet, too.
-    pub fn down(
+    // A frame comes down, and the pass over its packet begins, or goes to its end at once where it is to be `whole`. This
+    // tells the number of the packet, too.
+    fn down(
         &mut self,
         alloc: Global,
         tables: &SwitchTables,
@@ -78,16 +171,11 @@ impl Loaded {
         requires frame { IsFrame 2 self.old.code.down frame.now }
         requires safe { KeepsTables (code_of self.old.code) tables.now }
         ensures stays { StaysLoaded Behind self.old self.new }
-        ensures number { OfItsParts (code_of self.old.code) frame.now (λ number packet values.
-            IfOk result (λ made. made.0 ≡ number)) }
-        ensures begins { IfOk result (λ made. Begins made.0 (λ pass.
-            OfItsParts (code_of self.old.code) frame.now (λ number packet values.
-            HasEntered (staging Behind (code_of self.old.code)) (IsHandedDown (code_of self.old.code) values packet) packet
-            (Some tables.now) pass)) (passes_on Behind self.old) (passes_on Behind self.new) made.1) }
+        ensures number { IfOk result (λ made. OfItsParts (code_of self.old.code) frame.now (λ number packet values. made.0 ≡ number)) }
+        ensures enters { IfOk result (λ made. EntersDown frame.now whole (code_of self.old.code) tables.now (up_of made.1)
+            (passes_on Behind self.old) (passes_on Behind self.new)) }
+        ensures side { IfOk result (λ made. IsOf Behind (up_of made.1)) }
         ensures err { OnErr result (passes_on Behind self.new ≡ passes_on Behind self.old) }
-        ensures goes { IfOk result (λ made. Goes (not whole && nat_lt 0 (code_of self.old.code).post.highest) made.1) }
-        ensures side { IfOk result (λ made. IsOf Behind made.1) }
-        ensures told { IfOk result (λ made. EndsDown (code_of self.old.code) tables.now frame.now (down_of made.1)) }
     {
         let code = &self.code;
         let head = self.behind.unpack(code, frame);
@@ -105,8 +193,8 @@ impl Loaded {
         Ok((number, outcome))
     }
 
-    /// What the next stage makes of the pass over the packet of this number at a side. The pass is under way as before.
-    pub fn next(
+    // What the next stage makes of the pass over the packet of this number at a side. The pass is under way as before.
+    fn next(
         &mut self,
         alloc: Global,
         side: Side,
@@ -117,14 +205,8 @@ impl Loaded {
         requires there { IsSome (passes_on side self.old number) }
         ensures stays { StaysLoaded side self.old self.new }
         ensures passes { passes_on side self.new ≡ passes_on side self.old }
-        ensures goes { (before : PassState) → passes_on side self.old number ≡ Some before
-            → IfOk result (Goes (nat_lt (suc before.stage) (staging side (code_of self.old.code)).code.highest)) }
-        ensures side { IfOk result (IsOf side) }
-        ensures frame { (before : PassState) → passes_on side self.old number ≡ Some before → IfOk result (λ outcome.
-            IsUpFrame (code_of self.old.code) number before.packet.port before.packet.bytes (up_of outcome)) }
-        ensures ends { (before : PassState) → passes_on side self.old number ≡ Some before
-            → IfOk result (λ outcome. EndsWith (staging side (code_of self.old.code)) (Some tables.now) before
-            (λ reads. EndsOn side (code_of self.old.code) reads number before.packet outcome)) }
+        ensures steps { (before : PassState) → passes_on side self.old number ≡ Some before
+            → IfOk result (λ outcome. Steps side (code_of self.old.code) tables.now number before (up_of outcome)) }
     {
         match side {
             Side::Before => self.before.next(alloc, &self.code, tables, number),
@@ -132,8 +214,26 @@ impl Loaded {
         }
     }
 
-    /// The pass over the packet of this number at a side takes a stage that isn't its last. This takes no memory.
-    pub fn go_on(&mut self, side: Side, tables: &SwitchTables, number: u32)
+    // The pass over the packet of this number at a side takes a stage that isn't its last, or is under way no longer.
+    fn settle(&mut self, side: Side, tables: &SwitchTables, number: u32, goes_on: bool)
+        requires safe { KeepsTables (code_of self.old.code) tables.now }
+        requires there { IsSome (passes_on side self.old number) }
+        requires left { goes_on ≡ true → (before : PassState) → passes_on side self.old number ≡ Some before
+            → nat_lt (suc before.stage) (staging side (code_of self.old.code)).code.highest ≡ true }
+        ensures stays { StaysLoaded side self.old self.new }
+        ensures goes_on { goes_on ≡ true
+            → Puts number (HasGone side number tables.now self.old) (passes_on side self.old) (passes_on side self.new) }
+        ensures ends { goes_on ≡ false → passes_on side self.new ≡ with_pass number None (passes_on side self.old) }
+    {
+        if goes_on {
+            self.go_on(side, tables, number);
+        } else {
+            self.remove(side, number);
+        }
+    }
+
+    // The pass over the packet of this number at a side takes a stage that isn't its last. This takes no memory.
+    fn go_on(&mut self, side: Side, tables: &SwitchTables, number: u32)
         requires safe { KeepsTables (code_of self.old.code) tables.now }
         requires there { IsSome (passes_on side self.old number) }
         requires left { (before : PassState) → passes_on side self.old number ≡ Some before
@@ -147,14 +247,22 @@ impl Loaded {
         }
     }
 
-    /// Ends the pass over the packet of this number at a side. This takes no memory.
-    pub fn remove(&mut self, side: Side, number: u32)
+    // Ends the pass over the packet of this number at a side. This takes no memory.
+    fn remove(&mut self, side: Side, number: u32)
         ensures stays { StaysLoaded side self.old self.new }
         ensures passes { passes_on side self.new ≡ with_pass number None (passes_on side self.old) }
     {
         match side {
             Side::Before => self.before.remove(number),
             Side::Behind => self.behind.remove(number),
+        }
+    }
+
+    /// How many registers the passes of a side are computed in.
+    pub fn registers(&self, side: Side) -> u32 {
+        match side {
+            Side::Before => self.before.registers.len(),
+            Side::Behind => self.behind.registers.len(),
         }
     }
 }

@@ -1,5 +1,5 @@
 //! How a pass is computed, whole or stage by stage.
-ghost use Rattle.std.specs.Prelude.{◌≡◌, ◌≤◌, ◌<◌, ◌&&◌, ℕ, suc, not, nat_lt, length, true, false, Some, None, IfOk, IsSome, OnErr, OnOk};
+ghost use Rattle.std.specs.Prelude.{◌≡◌, ◌≤◌, ◌<◌, ℕ, length, true, false, Some, None, IfOk, IsSome, OnErr, OnOk};
 ghost use Rattle.packet_fields.specs.Shape.{shape_of};
 ghost use Rattle.packet_fields.specs.Sizes.{largest_packet};
 ghost use Rattle.flat_ir.specs.Blocks.{Reading};
@@ -7,17 +7,16 @@ ghost use Rattle.flat_ir.specs.Registers.{packet_of};
 ghost use Rattle.transfer_header.specs.Registers.{content_of, ArePlaced};
 ghost use Rattle.switch_ir.specs.Code.{code_of, Code};
 ghost use Rattle.switch_ir.specs.Meaning.{pass_values};
-ghost use Rattle.switch_ir.specs.Port.{IsUpFrame};
 ghost use Rattle.switch_ir.specs.Tables.{seen_tables};
-ghost use Rattle.switch_ir.specs.UnderWay.{EndsWith, PassState};
+ghost use Rattle.switch_ir.specs.UnderWay.{PassState};
 ghost use Rattle.switch_machine.specs.declared.flight.Flight.{Flight as Flown};
 ghost use Rattle.switch_machine.specs.Flights.{flights_in, with_pass};
 ghost use Rattle.switch_machine.specs.Keeping.{kept};
 ghost use Rattle.switch_machine.specs.Kept.{KeepsTables};
 ghost use Rattle.switch_machine.specs.Numbers.{reads_by, AreHeld};
-ghost use Rattle.switch_machine.specs.Sides.{of_side, staging, up_of, EndsOn, HasEnded, IsOf};
-ghost use Rattle.switch_machine.specs.UnderWay.{leaves_on, numbers_at_last, passes_of, Begins, Entered, Goes, GoneOn};
-ghost use Rattle.switch_machine.specs.UnderWay.{HasStagesLeft, IsAtLast, IsGiven, Puts};
+ghost use Rattle.switch_machine.specs.Sides.{of_side, staging, up_of, EndsOn};
+ghost use Rattle.switch_machine.specs.UnderWay.{leaves_on, numbers_at_last, passes_of, Entered, Enters, GoneOn};
+ghost use Rattle.switch_machine.specs.UnderWay.{HasEnd, HasStagesLeft, IsAtLast, IsGiven, Puts, Steps};
 ghost use Rattle.switch_machine.specs.Workplaces.{IsPassOf, StaysMade};
 
 use crate::flight::{Flight, copy_numbers, flight_of, put_in, take_out};
@@ -61,17 +60,10 @@ impl LoadedPass {
         requires pass { IsPassOf (code_of code.now) self.old }
         requires safe { KeepsTables (code_of code.now) tables.now }
         ensures made { StaysMade self.old self.new }
-        ensures begins { IfOk result (Begins number (Entered (code_of code.now) (packet_of arrival.now) tables.now self.old)
+        ensures enters { (given : Reading) → IsGiven (code_of code.now) self.old given → IfOk result (λ outcome.
+            Enters self.old.side (code_of code.now) tables.now whole number (packet_of arrival.now) given (up_of outcome)
             (passes_of (code_of code.now) self.old) (passes_of (code_of code.now) self.new)) }
         ensures err { OnErr result (passes_of (code_of code.now) self.new ≡ passes_of (code_of code.now) self.old) }
-        ensures goes { IfOk result (Goes (not whole && nat_lt 0 (staging self.old.side (code_of code.now)).code.highest)) }
-        ensures side { IfOk result (IsOf self.old.side) }
-        ensures frame { IfOk result (λ outcome.
-            IsUpFrame (code_of code.now) number arrival.now.port arrival.now.bytes.now (up_of outcome)) }
-        ensures ends { (given : Reading) → IsGiven (code_of code.now) self.old given
-            → IfOk result (EndsOn self.old.side (code_of code.now)
-            (pass_values (staging self.old.side (code_of code.now)).code given (seen_tables tables.now) (packet_of arrival.now))
-            number (packet_of arrival.now)) }
     {
         if whole || self.stages.len() == 1 {
             self.run(tables, arrival);
@@ -209,15 +201,8 @@ impl LoadedPass {
         requires there { IsSome (flights_in self.old.flights number) }
         ensures made { StaysMade self.old self.new }
         ensures flights { self.new.flights ≡ self.old.flights }
-        ensures goes { (before : PassState) → passes_of (code_of code.now) self.old number ≡ Some before
-            → IfOk result (Goes (nat_lt (suc before.stage) (staging self.old.side (code_of code.now)).code.highest)) }
-        ensures side { IfOk result (IsOf self.old.side) }
-        ensures frame { (before : PassState) → passes_of (code_of code.now) self.old number ≡ Some before
-            → IfOk result (λ outcome.
-            IsUpFrame (code_of code.now) number before.packet.port before.packet.bytes (up_of outcome)) }
-        ensures ends { (before : PassState) → passes_of (code_of code.now) self.old number ≡ Some before
-            → IfOk result (λ outcome. EndsWith (staging self.old.side (code_of code.now)) (Some tables.now) before
-            (λ reads. EndsOn self.old.side (code_of code.now) reads number before.packet outcome)) }
+        ensures steps { (before : PassState) → passes_of (code_of code.now) self.old number ≡ Some before
+            → IfOk result (λ outcome. Steps self.old.side (code_of code.now) tables.now number before (up_of outcome)) }
     {
         if self.has_stages_left(number) {
             return Ok(Outcome::Going);
@@ -269,13 +254,10 @@ impl LoadedPass {
         requires pass { IsPassOf (code_of code.now) self.now }
         requires leaves { leaves
             ≡ leaves_on self.now.side (code_of code.now) (reads_by self.now.numbering (content_of self.now.registers)) }
-        ensures ended { IfOk result HasEnded }
-        ensures side { IfOk result (IsOf self.now.side) }
-        ensures frame { IfOk result (λ outcome.
-            IsUpFrame (code_of code.now) number arrival.now.port arrival.now.bytes.now (up_of outcome)) }
         ensures ends { (reads : Reading)
             → AreHeld self.now.numbering self.now.registers reads (kept (staging self.now.side (code_of code.now)))
-            → IfOk result (EndsOn self.now.side (code_of code.now) reads number (packet_of arrival.now)) }
+            → IfOk result (λ outcome. HasEnd self.now.side (code_of code.now) number (packet_of arrival.now) false
+            (EndsOn self.now.side (code_of code.now) reads number (packet_of arrival.now)) (up_of outcome)) }
     {
         readings_that_agree();
         frames_of_low_bits();

@@ -16,7 +16,6 @@ mod ready;
 mod run;
 mod sides;
 mod stages;
-mod staging;
 mod tables;
 mod written;
 

@@ -11,25 +11,27 @@ ghost use Rattle.switch_ir.specs.Journal.{entry_of};
 ghost use Rattle.switch_ir.specs.Sound.{CanBeRun};
 ghost use Rattle.switch_ir.specs.Tables.{pair_at, told_after, IsStart, Told};
 ghost use Rattle.switch_ir.specs.UnderWay.{none_under_way};
-ghost use Rattle.switch_ir.specs.Port.{has_failed, up_failed, up_entry, down_failed, down_entry, command_failed};
-ghost use Rattle.switch_ir.specs.Port.{rows_failed, AreRowsOf, EndsDown, EndsUp, IsReplicatedIn, IsUpFrame};
+ghost use Rattle.switch_ir.specs.Port.{has_failed, up_failed, down_failed, command_failed};
+ghost use Rattle.switch_ir.specs.Port.{rows_failed, AreRowsOf, IsReplicatedIn};
 ghost use Rattle.switch_ir.specs.Port.{Loads, MakesRoom, PassesUp, PassesDown, Commands, ShowsRows};
 ghost use Rattle.switch_ir.specs.Port.{BeginsUp, StagesUp, BeginsDown, StagesDown};
 ghost use Rattle.switch_ir.specs.Port.{IsLoaded, IsDownFrame, CanCommand, HasReplicated, HasRoomFor, WaitsForNone};
 ghost use Rattle.switch_ir.specs.Port.{HasNoUpPass, HasUpPass, HasNoDownPassOf, HasDownPass};
 ghost use Rattle.switch_ir.specs.declared.journal.Entry.TheVariants as entry;
 ghost use Rattle.switch_machine.specs.declared.calls.CallKind.TheVariants as call;
-ghost use Rattle.switch_machine.specs.Calls.{called, ended, IsCountedAs, PortEndsAsPlanned, UpEndsAsPlanned};
+ghost use Rattle.switch_machine.specs.Calls.{called, IsCountedAs, PortEndsAsPlanned, UpEndsAsPlanned};
 ghost use Rattle.switch_machine.specs.Calls.{DownEndsAsPlanned, CommandEndsAsPlanned, RowsEndAsPlanned};
 ghost use Rattle.switch_machine.specs.Counts.{counted};
 ghost use Rattle.switch_machine.specs.Kept.{safe_prop, AreSafe};
 ghost use Rattle.switch_machine.specs.Loading.{code_in};
 ghost use Rattle.switch_machine.specs.Machine.{fails_next, seen_of};
 ghost use Rattle.switch_machine.specs.Ranges.{AreOrdered};
-ghost use Rattle.switch_machine.specs.Staging.{with_entry};
+ghost use Rattle.switch_machine.specs.Sides.{entry_for, kind_of, side_of, IsOf};
+ghost use Rattle.switch_machine.specs.Staging.{passes_at, with_call, with_entry, CanTake, Leaves, Takes};
 
 use crate::calls::{CallKind, Calls, count, is_planned};
 use crate::loaded::Loaded;
+use crate::sides::{Event, Side, down_end};
 use crate::tables::SwitchTables;
 use gal_io::NoMemory;
 use state_store::Rows;
@@ -161,6 +163,32 @@ impl ModelSwitch {
         self.journal.note(call)
     }
 
+    // A call over a packet, with its entry and its fault.
+    fn call(&mut self, alloc: Global, event: &Event<'_>) -> UpEnd
+        requires loaded { IsSome (machine_of self.old).code }
+        requires can { (code : Code) → (machine_of self.old).code ≡ Some code
+            → CanTake event.now code (passes_at (side_of event.now) (machine_of self.old)) }
+        ensures leaves { Leaves (side_of event.now) (entry_for event.now) (Takes event.now) result
+            (with_call (kind_of event.now) (machine_of self.old)) (machine_of self.new) }
+        ensures side { IsOf (side_of event.now) result }
+        ensures plan { UpEndsAsPlanned (fails_next (machine_of self.old) (kind_of event.now)) result }
+    {
+        let fails = self.is_to_fail(event.kind());
+        let Some(loaded) = &mut self.loaded else {
+            unreachable!()
+        };
+        if !fails {
+            self.registers = loaded.registers(event.side());
+        }
+        match loaded.take(alloc, &self.tables, &mut self.journal, event, fails) {
+            Ok(end) => {
+                self.count_fault(fails);
+                end
+            }
+            Err(NoMemory) => UpEnd::NoMemory,
+        }
+    }
+
     fn try_load(&mut self, alloc: Global, code: &SwitchCode) -> Result<(), NoMemory>
         requires can { CanBeRun (code_of code.now) }
         requires ordered { AreOrdered (code_of code.now) }
@@ -228,8 +256,7 @@ impl ModelSwitch {
             ≡ visible_rows self.old.tables.bit (pair_at self.old.tables.pairs object)) }
         ensures rows { (code : Code) (d : ObjectDecl) → (machine_of self.old).code ≡ Some code
             → IsReplicatedIn code object d → IfOk result (AreRowsOf d) }
-        ensures ok { OnOk result (machine_of self.new
-            ≡ ended (machine_of self.old) (entry.Visible object ∷ []) false) }
+        ensures ok { OnOk result (machine_of self.new ≡ with_entry (entry.Visible object) (machine_of self.old)) }
         ensures err { OnErr result (machine_of self.new ≡ machine_of self.old) }
     {
         what_a_lookup_sees();
@@ -284,11 +311,7 @@ impl SwitchPort for ModelSwitch {
         ensures plan { UpEndsAsPlanned (fails_next (machine_of self.old) call.Up) result }
         ensures counted { IsCountedAs call.Up (up_failed result) (machine_of self.old) (machine_of self.new) }
     {
-        let fails = self.is_to_fail(CallKind::Up);
-        match self.try_up(alloc, number, port, packet, fails, true) {
-            Ok(end) => end,
-            Err(NoMemory) => UpEnd::NoMemory,
-        }
+        self.call(alloc, &Event::Up(number, port, packet, true))
     }
 
     fn pass_down(&mut self, alloc: Global, frame: &[u8]) -> DownEnd
@@ -298,11 +321,7 @@ impl SwitchPort for ModelSwitch {
         ensures plan { DownEndsAsPlanned (fails_next (machine_of self.old) call.Down) result }
         ensures counted { IsCountedAs call.Down (down_failed result) (machine_of self.old) (machine_of self.new) }
     {
-        let fails = self.is_to_fail(CallKind::Down);
-        match self.try_down(alloc, frame, fails, true) {
-            Ok(end) => end,
-            Err(NoMemory) => DownEnd::NoMemory,
-        }
+        down_end(self.call(alloc, &Event::Down(frame, true)))
     }
 
     fn begin_up(&mut self, alloc: Global, number: u32, port: u8, packet: &[u8]) -> UpEnd
@@ -314,11 +333,7 @@ impl SwitchPort for ModelSwitch {
         ensures plan { UpEndsAsPlanned (fails_next (machine_of self.old) call.BeginUp) result }
         ensures counted { IsCountedAs call.BeginUp (up_failed result) (machine_of self.old) (machine_of self.new) }
     {
-        let fails = self.is_to_fail(CallKind::BeginUp);
-        match self.try_up(alloc, number, port, packet, fails, false) {
-            Ok(end) => end,
-            Err(NoMemory) => UpEnd::NoMemory,
-        }
+        self.call(alloc, &Event::Up(number, port, packet, false))
     }
 
     fn stage_up(&mut self, alloc: Global, number: u32) -> UpEnd
@@ -327,11 +342,7 @@ impl SwitchPort for ModelSwitch {
         ensures plan { UpEndsAsPlanned (fails_next (machine_of self.old) call.StageUp) result }
         ensures counted { IsCountedAs call.StageUp (up_failed result) (machine_of self.old) (machine_of self.new) }
     {
-        let fails = self.is_to_fail(CallKind::StageUp);
-        match self.try_stage_up(alloc, number, fails) {
-            Ok(end) => end,
-            Err(NoMemory) => UpEnd::NoMemory,
-        }
+        self.call(alloc, &Event::Stage(Side::Before, number))
     }
 
     fn begin_down(&mut self, alloc: Global, frame: &[u8]) -> DownEnd
@@ -342,11 +353,7 @@ impl SwitchPort for ModelSwitch {
         ensures plan { DownEndsAsPlanned (fails_next (machine_of self.old) call.BeginDown) result }
         ensures counted { IsCountedAs call.BeginDown (down_failed result) (machine_of self.old) (machine_of self.new) }
     {
-        let fails = self.is_to_fail(CallKind::BeginDown);
-        match self.try_down(alloc, frame, fails, false) {
-            Ok(end) => end,
-            Err(NoMemory) => DownEnd::NoMemory,
-        }
+        down_end(self.call(alloc, &Event::Down(frame, false)))
     }
 
     fn stage_down(&mut self, alloc: Global, number: u32) -> DownEnd
@@ -355,11 +362,7 @@ impl SwitchPort for ModelSwitch {
         ensures plan { DownEndsAsPlanned (fails_next (machine_of self.old) call.StageDown) result }
         ensures counted { IsCountedAs call.StageDown (down_failed result) (machine_of self.old) (machine_of self.new) }
     {
-        let fails = self.is_to_fail(CallKind::StageDown);
-        match self.try_stage_down(alloc, number, fails) {
-            Ok(end) => end,
-            Err(NoMemory) => DownEnd::NoMemory,
-        }
+        down_end(self.call(alloc, &Event::Stage(Side::Behind, number)))
     }
 
     fn command(&mut self, command: &Command) -> CommandEnd

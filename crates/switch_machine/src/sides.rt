@@ -1,11 +1,12 @@
-//! The two sides of the server, and what calls make of passes at them.
-ghost use Rattle.std.specs.Prelude.{◌≡◌};
+//! The two sides of the server, and the calls over packets at them.
+ghost use Rattle.std.specs.Prelude.{◌≡◌, IfOk, OnErr, OnOk};
+ghost use Rattle.switch_machine.specs.Sides.{down_of, entry_for, is_going, kind_of, side_of, up_from, up_of, with_last, IsOf};
 ghost use Rattle.switch_machine.specs.declared.sides.Side.TheVariants.{Behind};
-ghost use Rattle.switch_machine.specs.Sides.{down_of, up_of, IsOf};
 
-use gal_io::Bytes;
+use crate::calls::CallKind;
+use gal_io::{Bytes, NoMemory};
 use packet_fields::Verdict;
-use switch_ir::{DownEnd, UpEnd};
+use switch_ir::{Call, DownEnd, Journal, UpEnd};
 
 /// A side of the server: packets that arrive pass the switch before the server, and those that come down behind it.
 #[derive(Clone, Copy, Debug)]
@@ -25,8 +26,18 @@ pub(crate) enum Outcome {
 }
 
 impl Outcome {
-    /// How a call ends before the server.
-    pub fn up(self) -> UpEnd
+    /// Whether the pass has stages left.
+    pub fn is_going(&self) -> bool
+        ensures { result ≡ is_going self.now }
+    {
+        match self {
+            Outcome::Going => true,
+            Outcome::Up(_) | Outcome::Verdict(_) => false,
+        }
+    }
+
+    /// How the call ends.
+    pub fn end(self) -> UpEnd
         ensures { result ≡ up_of self }
     {
         match self {
@@ -35,16 +46,106 @@ impl Outcome {
             Outcome::Verdict(verdict) => UpEnd::Finished(verdict),
         }
     }
+}
 
-    /// How a call ends behind the server.
-    pub fn down(self) -> DownEnd
-        requires { IsOf Behind self }
-        ensures { result ≡ down_of self }
+/// How a call behind the server ends, where no packet goes up.
+pub(crate) fn down_end(end: UpEnd) -> DownEnd
+    requires { IsOf Behind end }
+    ensures { result ≡ down_of end }
+{
+    match end {
+        UpEnd::Going => DownEnd::Going,
+        UpEnd::Up(_) => unreachable!(),
+        UpEnd::Finished(verdict) => DownEnd::Verdict(verdict),
+        UpEnd::Failed => DownEnd::Failed,
+        UpEnd::NoMemory => DownEnd::NoMemory,
+    }
+}
+
+// The end of which it was made.
+fn up_end(end: DownEnd) -> UpEnd
+    ensures { result ≡ up_from end }
+{
+    match end {
+        DownEnd::Going => UpEnd::Going,
+        DownEnd::Verdict(verdict) => UpEnd::Finished(verdict),
+        DownEnd::Failed => UpEnd::Failed,
+        DownEnd::NoMemory => UpEnd::NoMemory,
+    }
+}
+
+/// A call over a packet, but for its end.
+#[derive(Clone, Copy, Debug)]
+pub(crate) enum Event<'a> {
+    /// A packet of this number arrives at this port. Its pass begins, or goes to its end at once where it is whole.
+    Up(u32, u8, &'a [u8], bool),
+    /// A frame comes down. The pass of its packet begins, or goes to its end at once where it is whole.
+    Down(&'a [u8], bool),
+    /// The pass over the packet of this number at a side takes a stage.
+    Stage(Side, u32),
+}
+
+impl Event<'_> {
+    /// Where it is.
+    pub fn side(&self) -> Side
+        ensures { result ≡ side_of self.now }
     {
-        match self {
-            Outcome::Going => DownEnd::Going,
-            Outcome::Up(_) => unreachable!(),
-            Outcome::Verdict(verdict) => DownEnd::Verdict(verdict),
+        match *self {
+            Event::Up(..) => Side::Before,
+            Event::Down(..) => Side::Behind,
+            Event::Stage(side, _) => side,
+        }
+    }
+
+    /// Its kind.
+    pub fn kind(&self) -> CallKind
+        ensures { result ≡ kind_of self.now }
+    {
+        match *self {
+            Event::Up(_, _, _, true) => CallKind::Up,
+            Event::Up(_, _, _, false) => CallKind::BeginUp,
+            Event::Down(_, true) => CallKind::Down,
+            Event::Down(_, false) => CallKind::BeginDown,
+            Event::Stage(Side::Before, _) => CallKind::StageUp,
+            Event::Stage(Side::Behind, _) => CallKind::StageDown,
+        }
+    }
+
+    /// Puts it last in a journal with its end, and gives the end back.
+    pub fn note(&self, journal: &mut Journal, end: UpEnd) -> Result<UpEnd, NoMemory>
+        requires { IsOf (side_of self.now) end }
+        ensures end { IfOk result (λ same. same ≡ end) }
+        ensures noted { OnOk result (journal.new ≡ with_last (entry_for self.now end) journal.old) }
+        ensures err { OnErr result (journal.new ≡ journal.old) }
+    {
+        match *self {
+            Event::Up(number, port, packet, true) => {
+                journal.note(Call::Up(number, port, packet, &end))?;
+                Ok(end)
+            }
+            Event::Up(number, port, packet, false) => {
+                journal.note(Call::BeginUp(number, port, packet, &end))?;
+                Ok(end)
+            }
+            Event::Stage(Side::Before, number) => {
+                journal.note(Call::StageUp(number, &end))?;
+                Ok(end)
+            }
+            Event::Down(frame, true) => {
+                let end = down_end(end);
+                journal.note(Call::Down(frame, &end))?;
+                Ok(up_end(end))
+            }
+            Event::Down(frame, false) => {
+                let end = down_end(end);
+                journal.note(Call::BeginDown(frame, &end))?;
+                Ok(up_end(end))
+            }
+            Event::Stage(Side::Behind, number) => {
+                let end = down_end(end);
+                journal.note(Call::StageDown(number, &end))?;
+                Ok(up_end(end))
+            }
         }
     }
 }

@@ -1,16 +1,19 @@
-use Rattle.std.proofs.Common.{◌∙◌, ◌&&◌, ◌-◌, List, Some, refl, subst, sym}
-use Rattle.std.specs.Prelude.{nat_lt, not}
+use Rattle.std.proofs.Common.{◌≡◌, ◌∙◌, ◌-◌, ℕ, List, ap, drop, length, refl, subst, sym, take}
+use Rattle.packet_fields.specs.declared.packet.Packet.{Packet}
+use Rattle.flat_ir.specs.Blocks.{Reading}
+use Rattle.transfer_header.specs.Registers.{value_in}
 use Rattle.switch_ir.specs.Code.{code_of}
-use Rattle.switch_ir.specs.Port.{IsHandedDown, OfItsParts}
-use Rattle.switch_ir.specs.UnderWay.{HasEntered, PassState}
+use Rattle.switch_ir.specs.Meaning.{down_given}
+use Rattle.switch_ir.specs.UnderWay.{Passes}
 use Rattle.switch_machine.specs.declared.numbering.ValueRange.{ValueRange}
 use Rattle.switch_machine.specs.declared.sides.Side.{Side}
 use Rattle.switch_machine.specs.declared.sides.Side.TheVariants.{Behind}
 use Rattle.switch_machine.specs.Ready.{AreReady}
-use Rattle.switch_machine.specs.Sides.{staging, IsOf}
-use Rattle.switch_machine.specs.UnderWay.{passes_of, Entered, Goes}
-use Rattle.switch_machine.proofs.Crossings.{arrived, begins_as, both_stay, entered_down, given, passes_stay, told_down}
-use Rattle.switch_machine.proofs.Lists.{on_err}
+use Rattle.switch_machine.specs.Sides.{up_of, IsOf}
+use Rattle.switch_machine.specs.UnderWay.{passes_of, Enters}
+use Rattle.switch_machine.proofs.Crossings.{both_stay, passes_stay}
+use Rattle.switch_machine.proofs.HandedDown.{given_same}
+use Rattle.switch_machine.proofs.Lists.{on_err, whole_rest}
 use Rattle.switch_machine.proofs.LoadedCode.{made_stays, pass_is, pass_stays}
 use Rattle.switch_machine.proofs.loaded.Loaded.down.Goals as goal
 
@@ -47,24 +50,26 @@ returns-clause-stays c = record { code = refl; other = refl }
 pub returns-clause-number : goal.returns-clause-number
 returns-clause-number c number port values packet framed = (c.unpack-head.ensures.read_back number port values packet framed).same_number
 
-pub returns-clause-begins : goal.returns-clause-begins
-returns-clause-begins c =
+pub returns-clause-enters : goal.returns-clause-enters
+returns-clause-enters c number port values packet framed =
     let l = c.args.self.now in
-    let unpacked = c.unpack-head.new.self in
-    let start = c.give.new.self in
-    let begun = c.begin.new.self in
     let code = code_of l.code in
-    let told = c.args.tables.now in
+    let start = c.give.new.self in
     let frame = c.args.frame.now in
     let head = c.unpack-head.result in
-    let made = both_stay l.behind unpacked start c.unpack-head.ensures.made c.give.ensures.made in
-    let Was = Entered code (arrived code told frame head unpacked.registers c.unpack-head.ensures.read_back) told start in
-    let Is : PassState → Type 0 =
-    λ pass. OfItsParts code frame (λ number packet values. HasEntered (staging Behind code) (IsHandedDown code values packet) packet (Some told) pass) in
-    begins_as head.number Was Is (passes_of code start) (passes_of code l.behind) (passes_of code begun) c.in_ok-outcome.outcome
-    (λ pass h number port values packet framed.
-    entered_down code told frame head unpacked.registers c.unpack-head.ensures.read_back number port values packet framed start (made.side ∙ l.post.side_is) c.give.ensures.given pass h)
-    (passes_stay code l.behind start made (c.give.ensures.flights ∙ c.unpack-head.ensures.flights)) c.in_ok-outcome.ensures.begins
+    let had = value_in c.unpack-head.new.self.registers in
+    let made = both_stay l.behind c.unpack-head.new.self start c.unpack-head.ensures.made c.give.ensures.made in
+    let stays = passes_stay code l.behind start made (c.give.ensures.flights ∙ c.unpack-head.ensures.flights) in
+    let side = made.side ∙ l.post.side_is in
+    let same = c.unpack-head.ensures.read_back number port values packet framed in
+    let arrived : Packet = record { port = head.port; bytes = take (length frame - head.packet_at) (drop head.packet_at frame) } in
+    let its : Packet = record { port = port; bytes = packet } in
+    let packet_is : arrived ≡ its = λ i. record { port = same.same_port i; bytes = (whole_rest head.packet_at frame ∙ same.same_packet) i } in
+    let given_is : down_given code had arrived ≡ down_given code values its =
+    given_same code had values arrived same.same_values ∙ ap (down_given code values) packet_is in
+    let Is : Side × Passes × ℕ × Packet × Reading → Type 0 =
+    λ (s, ps, n, q, g). Enters s code c.args.tables.now c.args.whole n q g (up_of c.in_ok-outcome.outcome) ps (passes_of code c.begin.new.self) in
+    subst Is (λ i. (side i, stays i, same.same_number i, packet_is i, given_is i)) (c.in_ok-outcome.ensures.enters (down_given code had arrived) c.give.ensures.given)
 
 pub returns-in_err-outcome-clause-err : goal.returns-in_err-outcome-clause-err
 returns-in_err-outcome-clause-err c =
@@ -74,30 +79,12 @@ returns-in_err-outcome-clause-err c =
     on_err _ c.from_residual.result
     (c.in_err-outcome.ensures.err ∙ passes_stay (code_of l.code) l.behind start made (c.give.ensures.flights ∙ c.unpack-head.ensures.flights))
 
-pub returns-clause-goes : goal.returns-clause-goes
-returns-clause-goes c =
-    let l = c.args.self.now in
-    let code = code_of l.code in
-    let made = both_stay l.behind c.unpack-head.new.self c.give.new.self c.unpack-head.ensures.made c.give.ensures.made in
-    subst (λ (s : Side). Goes (not c.args.whole && nat_lt 0 (staging s code).code.highest) c.in_ok-outcome.outcome) (made.side ∙ l.post.side_is) c.in_ok-outcome.ensures.goes
-
 pub returns-clause-side : goal.returns-clause-side
 returns-clause-side c =
     let l = c.args.self.now in
     let made = both_stay l.behind c.unpack-head.new.self c.give.new.self c.unpack-head.ensures.made c.give.ensures.made in
-    subst (λ (s : Side). IsOf s c.in_ok-outcome.outcome) (made.side ∙ l.post.side_is) c.in_ok-outcome.ensures.side
-
-pub returns-clause-told : goal.returns-clause-told
-returns-clause-told c =
-    let l = c.args.self.now in
-    let unpacked = c.unpack-head.new.self in
-    let code = code_of l.code in
-    let told = c.args.tables.now in
-    let frame = c.args.frame.now in
-    let head = c.unpack-head.result in
-    let made = both_stay l.behind unpacked c.give.new.self c.unpack-head.ensures.made c.give.ensures.made in
-    told_down code told frame head unpacked.registers c.unpack-head.ensures.read_back c.give.new.self.side c.in_ok-outcome.outcome (made.side ∙ l.post.side_is)
-    (c.in_ok-outcome.ensures.ends (given code told frame head unpacked.registers c.unpack-head.ensures.read_back) c.give.ensures.given)
+    let entered = c.in_ok-outcome.ensures.enters _ c.give.ensures.given in
+    subst (λ (s : Side). IsOf s (up_of c.in_ok-outcome.outcome)) (made.side ∙ l.post.side_is) entered.ends.of
 
 pub invariant_of-self : goal.invariant_of-self
 invariant_of-self c =

@@ -1,28 +1,57 @@
-use Rattle.std.proofs.Common.{IfOk, List, subst, sym}
+use Rattle.std.proofs.Common.{◌≡◌, ◌∙◌, ◌&&◌, IfOk, List, arith, false, subst, sym}
+use Rattle.std.specs.Prelude.{nat_lt, not}
+use Rattle.std.proofs.lemmas.Bool.{true≢false}
 use Rattle.flat_ir.specs.Registers.{packet_of}
 use Rattle.transfer_header.specs.Registers.{Registers}
 use Rattle.switch_ir.specs.Code.{code_of}
 use Rattle.switch_ir.specs.Meaning.{pass_values}
 use Rattle.switch_ir.specs.Tables.{seen_tables}
+use Rattle.switch_ir.specs.declared.port.UpEnd.TheVariants.{Going}
 use Rattle.switch_machine.specs.declared.numbering.ValueRange.{ValueRange}
 use Rattle.switch_machine.specs.declared.sides.Side.{Side}
 use Rattle.switch_machine.specs.Keeping.{kept}
 use Rattle.switch_machine.specs.Numbers.{AreHeld}
-use Rattle.switch_machine.specs.Sides.{staging, EndsOn}
-use Rattle.switch_machine.proofs.Crossings.{both_stay}
+use Rattle.switch_machine.specs.Sides.{staging, up_of, EndsOn}
+use Rattle.switch_machine.specs.UnderWay.{passes_of, Enters, HasEnd}
+use Rattle.switch_machine.proofs.Crossings.{both_stay, passes_stay}
+use Rattle.switch_machine.proofs.Ending.{at_end, going_ends, is_of, none_left, some_left}
+use Rattle.switch_machine.proofs.Lists.{ok_weaker}
 use Rattle.switch_machine.proofs.loaded_pass.LoadedPass.begin.Goals as goal
+use Rattle.switch_machine.proofs.loaded_pass.LoadedPass.begin.Goals.{then-whole-via-then-whole, then-whole-via-else-whole+then-len-eq1}
 
-pub returns-then-whole-clause-ends : goal.returns-then-whole-clause-ends
-returns-then-whole-clause-ends c given begin =
+pub returns-then-whole-clause-enters : goal.returns-then-whole-clause-enters
+returns-then-whole-clause-enters c given begin =
     let l = c.args.self.now in
-    let done = c.run.new.self in
     let marked = c.leaves_work-leaves.new.self in
+    let marks = c.leaves_work-leaves.ensures in
     let code = code_of c.args.code.now in
     let packet = packet_of c.args.arrival.now in
-    let made = both_stay l done marked c.run.ensures.made c.leaves_work-leaves.ensures.made in
+    let made = both_stay l c.run.new.self marked c.run.ensures.made marks.made in
     let reads = pass_values (staging l.side code).code given (seen_tables c.args.tables.now) packet in
     let Holds : List ValueRange × Registers × Side → Type 0 = λ (ranges, rs, s). AreHeld ranges rs reads (kept (staging s code)) in
-    subst (λ (s : Side). IfOk c.end.result (EndsOn s code reads c.args.number packet)) made.side
-    (c.end.ensures.ends reads
-    (subst Holds (λ i. (sym c.leaves_work-leaves.ensures.made.ranges i, sym c.leaves_work-leaves.ensures.registers i, sym made.side i))
-    (c.run.ensures.values code given c.requires.pass c.requires.safe begin)))
+    let held = subst Holds (λ i. (sym marks.made.ranges i, sym marks.registers i, sym made.side i)) (c.run.ensures.values code given c.requires.pass c.requires.safe begin) in
+    let HasIts : Side → Type 0 = λ s. IfOk c.end.result (λ outcome. HasEnd s code c.args.number packet false (EndsOn s code reads c.args.number packet) (up_of outcome)) in
+    let none : (not c.args.whole && nat_lt 0 (staging l.side code).code.highest) ≡ false = elim c.then-whole.branch [
+      | then-whole-via-then-whole w ↦ none_left c.args.whole _ (λ e. absurd (true≢false (sym w.if-whole.true ∙ e)))
+      | then-whole-via-else-whole+then-len-eq1 w ↦ none_left c.args.whole _ (λ e. omega (arith, w.if-len-eq1.true, w.len.ensures, c.requires.pass.ready.count))
+    ] in
+    ok_weaker _ (λ outcome. Enters l.side code c.args.tables.now c.args.whole c.args.number packet given (up_of outcome) (passes_of code l) (passes_of code marked)) c.end.result
+    (λ outcome h. at_end l.side code c.args.tables.now c.args.whole c.args.number packet given outcome (passes_of code l) (passes_of code marked) h
+    (passes_stay code l marked made (marks.flights ∙ c.run.ensures.flights)) none)
+    (subst HasIts made.side (c.end.ensures.ends reads held))
+
+pub returns-clause-enters : goal.returns-clause-enters
+returns-clause-enters c given begin =
+    let l = c.args.self.now in
+    let code = code_of c.args.code.now in
+    let packet = packet_of c.args.arrival.now in
+    let entered = c.in_ok-enter.ensures.enters code c.requires.pass c.requires.safe in
+    record {
+      begun = (entered.0, entered.1 given begin, entered.2);
+      ends = record {
+        goes = some_left c.args.whole _ c.if-whole.false (λ e. c.if-len-eq1.false (omega (arith, e, c.len.ensures, c.requires.pass.ready.count)));
+        of = is_of l.side Going tt;
+        frame = tt;
+        told = going_ends l.side code (pass_values (staging l.side code).code given (seen_tables c.args.tables.now) packet) c.args.number packet;
+      };
+    }

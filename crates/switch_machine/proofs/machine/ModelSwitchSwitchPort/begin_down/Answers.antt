@@ -1,25 +1,32 @@
-use Rattle.std.proofs.Common.{ap, refl, subst, sym}
-use Rattle.switch_ir.specs.Port.{BeginsDown, HasNoDownPassOf, PortState}
-use Rattle.switch_ir.specs.declared.port.DownEnd.TheVariants.{NoMemory}
-use Rattle.switch_machine.specs.Machine.{seen_of, MachineState}
+use Rattle.std.proofs.Common.{◌≡◌, None}
+use Rattle.transfer_header.specs.Frames.{IsFrame}
+use Rattle.switch_ir.specs.Port.{OfItsParts}
+use Rattle.switch_machine.proofs.Machines.{if_some}
+use Rattle.switch_machine.specs.Machine.{fails_next}
+use Rattle.switch_machine.specs.Staging.{with_call}
 use Rattle.switch_machine.specs.Views.{machine_of}
-use Rattle.switch_machine.proofs.Machines.{after_none}
-use Rattle.switch_machine.proofs.Telling.{begins_down_none}
+use Rattle.switch_machine.specs.declared.calls.CallKind.TheVariants as kind
+use Rattle.switch_machine.proofs.Telling.{counted_down, planned_down, begins_down}
 use Rattle.switch_machine.proofs.machine.ModelSwitchSwitchPort.begin_down.Goals as goal
 
-pub try_down-requires-clause-none : goal.try_down-requires-clause-none
-try_down-requires-clause-none c = λ whole.
-    subst (λ (state : PortState). HasNoDownPassOf state c.args.frame.now) (sym (ap seen_of c.is_to_fail-fails.ensures.counted)) c.requires.none
+pub call-requires-clause-can : goal.call-requires-clause-can
+call-requires-clause-can c code is = (
+  if_some (machine_of c.args.self.now).code code (λ x. IsFrame 2 x.down c.args.frame.now) c.requires.frame is,
+  λ whole. if_some (machine_of c.args.self.now).code code (λ x. OfItsParts x c.args.frame.now (λ n q vs. (machine_of c.args.self.now).passes.post n ≡ None)) c.requires.none is,
+)
 
-pub returns-in-Ok-clause-begins : goal.returns-in-Ok-clause-begins
-returns-in-Ok-clause-begins c =
-    subst (λ (state : PortState). BeginsDown c.in-Ok.end c.args.frame.now state (seen_of (machine_of c.try_down.new.self)))
-    (ap seen_of c.is_to_fail-fails.ensures.counted) (c.in-Ok.ensures.begins refl)
+pub returns-clause-begins : goal.returns-clause-begins
+returns-clause-begins c =
+    let old = with_call kind.BeginDown (machine_of c.args.self.now) in
+    begins_down c.call.result c.down_end.result c.down_end.ensures c.call.ensures.side old (machine_of c.call.new.self) c.args.frame.now c.requires.frame c.call.ensures.leaves
+    c.requires.none
 
-pub returns-in-Err-clause-begins : goal.returns-in-Err-clause-begins
-returns-in-Err-clause-begins c =
-    let old = machine_of c.is_to_fail-fails.new.self in
-    let new = machine_of c.try_down.new.self in
-    let none = subst (λ (state : PortState). HasNoDownPassOf state c.args.frame.now) (sym (ap seen_of c.is_to_fail-fails.ensures.counted)) c.requires.none in
-    subst (λ (state : PortState). BeginsDown NoMemory c.args.frame.now state (seen_of new)) (ap seen_of c.is_to_fail-fails.ensures.counted)
-    (begins_down_none c.args.frame.now old new (after_none old new c.in-Err.ensures.err) (ap (λ (m : MachineState). m.passes) c.in-Err.ensures.err) none)
+pub returns-clause-plan : goal.returns-clause-plan
+returns-clause-plan c =
+    let old = machine_of c.args.self.now in
+    planned_down c.call.result c.down_end.result c.down_end.ensures c.call.ensures.side old old (fails_next old kind.BeginDown) c.call.ensures.plan
+
+pub returns-clause-counted : goal.returns-clause-counted
+returns-clause-counted c =
+    counted_down c.call.result c.down_end.result c.down_end.ensures c.call.ensures.side (machine_of c.args.self.now) (machine_of c.call.new.self) _ _ kind.BeginDown
+    c.call.ensures.leaves

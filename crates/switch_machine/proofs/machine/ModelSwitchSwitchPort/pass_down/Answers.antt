@@ -1,14 +1,27 @@
-use Rattle.std.proofs.Common.{ap, refl, subst}
 use Rattle.std.proofs.lemmas.Bool.{true≢false}
-use Rattle.switch_ir.specs.Port.{PassesDown, PortState}
-use Rattle.switch_machine.specs.Machine.{seen_of}
+use Rattle.transfer_header.specs.Frames.{IsFrame}
+use Rattle.switch_machine.proofs.Machines.{if_some}
+use Rattle.switch_machine.specs.Machine.{fails_next}
+use Rattle.switch_machine.specs.Staging.{with_call}
 use Rattle.switch_machine.specs.Views.{machine_of}
+use Rattle.switch_machine.specs.declared.calls.CallKind.TheVariants as kind
+use Rattle.switch_machine.proofs.Telling.{counted_down, planned_down, passes_down}
 use Rattle.switch_machine.proofs.machine.ModelSwitchSwitchPort.pass_down.Goals as goal
 
-pub try_down-requires-clause-none : goal.try_down-requires-clause-none
-try_down-requires-clause-none c = λ whole. absurd (true≢false whole)
+pub call-requires-clause-can : goal.call-requires-clause-can
+call-requires-clause-can c code is = (if_some (machine_of c.args.self.now).code code (λ x. IsFrame 2 x.down c.args.frame.now) c.requires.frame is, λ whole. absurd (true≢false whole))
 
-pub returns-in-Ok-clause-passes : goal.returns-in-Ok-clause-passes
-returns-in-Ok-clause-passes c =
-    subst (λ (state : PortState). PassesDown c.in-Ok.end c.args.frame.now state (seen_of (machine_of c.try_down.new.self)))
-    (ap seen_of c.is_to_fail-fails.ensures.counted) (c.in-Ok.ensures.passes refl)
+pub returns-clause-passes : goal.returns-clause-passes
+returns-clause-passes c =
+    let old = with_call kind.Down (machine_of c.args.self.now) in
+    passes_down c.call.result c.down_end.result c.down_end.ensures c.call.ensures.side old (machine_of c.call.new.self) c.args.frame.now c.requires.frame c.call.ensures.leaves
+
+pub returns-clause-plan : goal.returns-clause-plan
+returns-clause-plan c =
+    let old = machine_of c.args.self.now in
+    planned_down c.call.result c.down_end.result c.down_end.ensures c.call.ensures.side old old (fails_next old kind.Down) c.call.ensures.plan
+
+pub returns-clause-counted : goal.returns-clause-counted
+returns-clause-counted c =
+    counted_down c.call.result c.down_end.result c.down_end.ensures c.call.ensures.side (machine_of c.args.self.now) (machine_of c.call.new.self) _ _ kind.Down
+    c.call.ensures.leaves

@@ -1,25 +1,29 @@
-use Rattle.std.proofs.Common.{ap, subst, sym}
-use Rattle.switch_ir.specs.Port.{StagesDown, HasDownPass, PortState}
-use Rattle.switch_ir.specs.declared.port.DownEnd.TheVariants.{NoMemory}
-use Rattle.switch_machine.specs.Machine.{seen_of, MachineState}
+use Rattle.switch_machine.specs.declared.sides.Side.TheVariants.{Behind}
+use Rattle.switch_machine.proofs.Machines.{loaded_with}
+use Rattle.switch_machine.specs.Machine.{fails_next}
+use Rattle.switch_machine.specs.Staging.{with_call}
 use Rattle.switch_machine.specs.Views.{machine_of}
-use Rattle.switch_machine.proofs.Machines.{after_none}
-use Rattle.switch_machine.proofs.Telling.{stages_down_none}
+use Rattle.switch_machine.specs.declared.calls.CallKind.TheVariants as kind
+use Rattle.switch_machine.proofs.Telling.{counted_down, planned_down, stages_down}
 use Rattle.switch_machine.proofs.machine.ModelSwitchSwitchPort.stage_down.Goals as goal
 
-pub returns-in-Ok-clause-stages : goal.returns-in-Ok-clause-stages
-returns-in-Ok-clause-stages c =
-    subst (λ (state : PortState). StagesDown c.in-Ok.end c.args.number state (seen_of (machine_of c.try_stage_down.new.self)))
-    (ap seen_of c.is_to_fail-fails.ensures.counted) c.in-Ok.ensures.stages
+pub call-requires-clause-loaded : goal.call-requires-clause-loaded
+call-requires-clause-loaded c = loaded_with Behind c.args.self.now.loaded c.args.number c.requires
 
-pub try_stage_down-requires : goal.try_stage_down-requires
-try_stage_down-requires c = record {
-  pass = subst (λ (state : PortState). HasDownPass state c.args.number) (sym (ap seen_of c.is_to_fail-fails.ensures.counted)) c.requires;
-}
+pub call-requires-clause-can : goal.call-requires-clause-can
+call-requires-clause-can c code is = c.requires
 
-pub returns-in-Err-clause-stages : goal.returns-in-Err-clause-stages
-returns-in-Err-clause-stages c =
-    let old = machine_of c.is_to_fail-fails.new.self in
-    let new = machine_of c.try_stage_down.new.self in
-    subst (λ (state : PortState). StagesDown NoMemory c.args.number state (seen_of new)) (ap seen_of c.is_to_fail-fails.ensures.counted)
-    (stages_down_none c.args.number old new (after_none old new c.in-Err.ensures.err) (ap (λ (m : MachineState). m.passes) c.in-Err.ensures.err))
+pub returns-clause-stages : goal.returns-clause-stages
+returns-clause-stages c =
+    let old = with_call kind.StageDown (machine_of c.args.self.now) in
+    stages_down c.call.result c.down_end.result c.down_end.ensures c.call.ensures.side old (machine_of c.call.new.self) c.args.number c.call.ensures.leaves
+
+pub returns-clause-plan : goal.returns-clause-plan
+returns-clause-plan c =
+    let old = machine_of c.args.self.now in
+    planned_down c.call.result c.down_end.result c.down_end.ensures c.call.ensures.side old old (fails_next old kind.StageDown) c.call.ensures.plan
+
+pub returns-clause-counted : goal.returns-clause-counted
+returns-clause-counted c =
+    counted_down c.call.result c.down_end.result c.down_end.ensures c.call.ensures.side (machine_of c.args.self.now) (machine_of c.call.new.self) _ _ kind.StageDown
+    c.call.ensures.leaves

@@ -1,25 +1,21 @@
-use Rattle.std.proofs.Common.{ap, subst, sym}
-use Rattle.switch_ir.specs.Port.{StagesUp, HasUpPass, PortState}
-use Rattle.switch_ir.specs.declared.port.UpEnd.TheVariants.{NoMemory}
-use Rattle.switch_machine.specs.Machine.{seen_of, MachineState}
+use Rattle.switch_machine.specs.Staging.{with_call}
 use Rattle.switch_machine.specs.Views.{machine_of}
-use Rattle.switch_machine.proofs.Machines.{after_none}
-use Rattle.switch_machine.proofs.Telling.{stages_up_none}
+use Rattle.switch_machine.specs.declared.calls.CallKind.TheVariants as kind
+use Rattle.switch_machine.specs.declared.sides.Side.TheVariants.{Before}
+use Rattle.switch_machine.proofs.Machines.{loaded_with}
+use Rattle.switch_machine.proofs.Telling.{counted_of, stages_up}
 use Rattle.switch_machine.proofs.machine.ModelSwitchSwitchPort.stage_up.Goals as goal
 
-pub returns-in-Ok-clause-stages : goal.returns-in-Ok-clause-stages
-returns-in-Ok-clause-stages c =
-    subst (λ (state : PortState). StagesUp c.in-Ok.end c.args.number state (seen_of (machine_of c.try_stage_up.new.self)))
-    (ap seen_of c.is_to_fail-fails.ensures.counted) c.in-Ok.ensures.stages
+pub call-requires-clause-loaded : goal.call-requires-clause-loaded
+call-requires-clause-loaded c = loaded_with Before c.args.self.now.loaded c.args.number c.requires
 
-pub try_stage_up-requires : goal.try_stage_up-requires
-try_stage_up-requires c = record {
-  pass = subst (λ (state : PortState). HasUpPass state c.args.number) (sym (ap seen_of c.is_to_fail-fails.ensures.counted)) c.requires;
-}
+pub call-requires-clause-can : goal.call-requires-clause-can
+call-requires-clause-can c code is = c.requires
 
-pub returns-in-Err-clause-stages : goal.returns-in-Err-clause-stages
-returns-in-Err-clause-stages c =
-    let old = machine_of c.is_to_fail-fails.new.self in
-    let new = machine_of c.try_stage_up.new.self in
-    subst (λ (state : PortState). StagesUp NoMemory c.args.number state (seen_of new)) (ap seen_of c.is_to_fail-fails.ensures.counted)
-    (stages_up_none c.args.number old new (after_none old new c.in-Err.ensures.err) (ap (λ (m : MachineState). m.passes) c.in-Err.ensures.err))
+pub returns-clause-stages : goal.returns-clause-stages
+returns-clause-stages c =
+    let old = with_call kind.StageUp (machine_of c.args.self.now) in
+    stages_up c.call.result old (machine_of c.call.new.self) c.args.number c.call.ensures.leaves
+
+pub returns-clause-counted : goal.returns-clause-counted
+returns-clause-counted c = counted_of _ _ _ c.call.result kind.StageUp (machine_of c.args.self.now) (machine_of c.call.new.self) c.call.ensures.leaves
