@@ -16,7 +16,8 @@ use std::marker::Model;
 /// A register for each value that has a span, so that no two values are in one register at one step.
 #[derive(Drop)]
 pub struct RegPlan {
-    registers: SlotTable<1, 1>,
+    // Apart, so that what may have a plan and has none takes little memory.
+    registers: Box<SlotTable<1, 1>>,
     // The registers of the first values, so that these are found by index.
     first: Vec<Option<u32>>,
     count: u32,
@@ -36,10 +37,10 @@ impl Model for RegPlan {
 
     ghost coded = { plan_code };
 
-    ghost view = { λ plan. record { rows = plan.registers.rows; count = plan.count } };
+    ghost view = { λ plan. record { rows = plan.registers.value.rows; count = plan.count } };
 
-    ghost invariant = { λ plan. (AreBelow plan.registers.rows plan.count) × (plan.count < 2 ^ 32)
-        × (AreFirst plan.registers.rows plan.first.items) };
+    ghost invariant = { λ plan. (AreBelow plan.registers.value.rows plan.count) × (plan.count < 2 ^ 32)
+        × (AreFirst plan.registers.value.rows plan.first.items) };
 }
 
 // The spans, in the order of their first steps.
@@ -111,6 +112,7 @@ impl RegPlan {
             let _ = registers.insert([span.value as u64], [register as u64]);
         }
         let count = taken.len() as u32;
+        let registers = Box::new(alloc, registers)?;
         let first = first_registers(alloc, &registers, first_values(&sorted))?;
         Ok(RegPlan {
             registers,
@@ -135,7 +137,7 @@ impl RegPlan {
         ensures { IfOk result (λ made. made ≡ self.now) }
     {
         Ok(RegPlan {
-            registers: self.registers.copy(alloc)?,
+            registers: Box::new(alloc, self.registers.copy(alloc)?)?,
             first: self.first.as_slice().to_vec(alloc)?,
             count: self.count,
         })

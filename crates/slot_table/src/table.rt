@@ -1,12 +1,12 @@
 //! Tables.
 ghost use Rattle.std.specs.Prelude.{◌≡◌, ◌<◌, ◌≤◌, false, IfOk, length, if◌then◌else◌};
 ghost use Rattle.std.specs.FinMap as map;
-ghost use Rattle.slot_table.specs.Table.{Table, held, is_table_full, IsWords, IsLaidOut};
+ghost use Rattle.slot_table.specs.Table.{Table, held, is_table_full, IsNextRow, IsWords, IsLaidOut};
 ghost use Rattle.slot_table.specs.declared.table.Slot.TheVariants.{Stored, Full};
 
 use crate::layout::lay_out;
 use crate::place::{FIRST_SEED, home, next_seed, steps};
-use crate::probing::{close, free, probe};
+use crate::probing::{close, free, next_row, probe};
 use gal_io::NoMemory;
 use std::alloc::Global;
 use std::marker::Model;
@@ -225,24 +225,34 @@ impl<const K: usize, const V: usize> SlotTable<K, V> {
         self.len
     }
 
-    /// How many slots there are.
+    /// How many slots there are. A walk over all of them meets each row once.
     pub fn slots(&self) -> usize
         requires keys { IsWords K }
         requires values { IsWords V }
         ensures count { result ≡ length self.now.slots }
         ensures spare { self.now.capacity < length self.now.slots }
+        ensures rows { IsLaidOut self.now.rows self.now.slots }
     {
         self.slots.len()
     }
 
-    /// The row in a slot, if it holds one. A walk over all slots meets each row once.
+    /// The row in a slot, if it holds one.
     pub fn slot(&self, i: usize) -> Option<([u64; K], [u64; V])>
         requires keys { IsWords K }
         requires values { IsWords V }
         requires within { i < length self.now.slots }
-        ensures held { result ≡ held self.now.slots i }
-        ensures rows { IsLaidOut self.now.rows self.now.slots }
+        ensures { result ≡ held self.now.slots i }
     {
         self.slots[i]
+    }
+
+    /// The first slot from a slot on that holds a row, or the number of slots where none does.
+    pub fn next_row(&self, from: usize) -> usize
+        requires keys { IsWords K }
+        requires values { IsWords V }
+        requires within { from ≤ length self.now.slots }
+        ensures { IsNextRow self.now.slots from result }
+    {
+        next_row(&self.slots, from)
     }
 }

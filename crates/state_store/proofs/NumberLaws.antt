@@ -1,21 +1,21 @@
 -- Rows as pairs of numbers, in the order of their keys.
-use Rattle.std.proofs.Common.{◌≡◌, ℕ, ◌+◌, ◌*◌, ◌^◌, ◌<◌, ◌≤◌, suc, true, false, List, [], ◌∷◌, ◌++◌, length, map, drop, Option, Some, None, option_map, refl, sym, ap, ap₂, subst, ◌∙◌, arith, zero, slice_get, slice_index_or, nat_lt, add-one, All, append_assoc, append-nil, IsPermutation, IsSorted}
+use Rattle.std.proofs.Common.{◌≡◌, ℕ, ◌+◌, ◌-◌, ◌*◌, ◌^◌, ◌<◌, ◌≤◌, suc, Bool, true, false, List, [], ◌∷◌, ◌++◌, length, map, drop, Some, None, refl, sym, ap, ap₂, subst, ◌∙◌, arith, zero, slice_get, slice_index_or, nat_lt, add-one, All, append_assoc, append-nil, IsPermutation, IsSorted}
 use Rattle.std.specs.Ordering.{nat_cmp, ordering_then, is_lt}
 use Rattle.std.specs.declared.cmp.Ordering.{Ordering}
 use Rattle.std.specs.FinMap.{entries, entries_sorted, len}
-use Rattle.std.proofs.lemmas.Bool.{ltb-true}
+use Rattle.std.proofs.lemmas.Bool.{ltb-true, ltb-false}
 use Rattle.std.proofs.lemmas.Bool.Decides.{nat_tests}
 use Rattle.std.proofs.lemmas.List.{drop_all, length-map}
 use Rattle.std.proofs.lemmas.List.Elements.{All-nil, All-cons}
 use Rattle.std.proofs.lemmas.List.Sorted.{IsPermutation-map, IsPermutation-trans, IsPermutation-sym}
-use Rattle.slot_table.specs.Table.{Entry, Contents, Slots, held, IsLaidOut}
+use Rattle.slot_table.specs.Table.{Entry, Contents, Slots, held, IsLaidOut, IsNextRow}
 use Rattle.state_store.specs.declared.object.Row as Kept
 use Rattle.state_store.specs.Fitted.{IsRoomy, IsPackedRow, ArePacked, HoldsPacked, contents_of, unpacked_row}
 use Rattle.state_store.specs.Kept.{have_widths}
 use Rattle.state_store.specs.Listing.{row_of_numbers, rows_of_numbers, HoldsRows}
 use Rattle.state_store.specs.Packing.{Packing, have_room, packed, parts, words, number, packed_list, unpacked_list}
 use Rattle.state_store.specs.Places.{Entries}
-use Rattle.state_store.specs.Sizes.{slot_rows, row_numbers, option_list}
+use Rattle.state_store.specs.Sizes.{slot_rows, row_numbers}
 use Rattle.state_store.specs.Store.{row_of, rows_from}
 use Rattle.state_store.proofs.PackLaws.{number_words, words_cmp, packed_below}
 use Rattle.state_store.proofs.RowLaws.{entries_of}
@@ -25,21 +25,26 @@ use Rattle.state_store.proofs.SortLaws.{entry_cmp, Ascends, neighbours, at_most,
 abbrev Numbers : Type 0
 Numbers = List (ℕ × ℕ)
 
-pub slot_pushed : (s : Slots) (i : ℕ) (o : Option (ℕ × ℕ)) (l l' w : Numbers) → i < length s → o ≡ option_map row_numbers (held s i) → l' ≡ l ++ option_list o
+-- the row in a slot was pushed
+pub row_pushed : (s : Slots) (i : ℕ) (row : Entry) (l l' w : Numbers) → i < length s → held s i ≡ Some row → l' ≡ l ++ row_numbers row ∷ []
     → l ++ map row_numbers (slot_rows (drop i s)) ≡ w → l' ++ map row_numbers (slot_rows (drop (i + 1) s)) ≡ w
-slot_pushed s i o l l' w lt e is so_far = go (held s i) o refl e is
-  where
-    go : (r : Option Entry) (o : Option (ℕ × ℕ)) → held s i ≡ r → o ≡ option_map row_numbers r → l' ≡ l ++ option_list o
-        → l' ++ map row_numbers (slot_rows (drop (i + 1) s)) ≡ w
-    go None None h e is =
-        ap (λ x. x ++ map row_numbers (slot_rows (drop (i + 1) s))) (is ∙ append-nil l) ∙ ap (λ x. l ++ map row_numbers x) (sym (gap_at s i lt h)) ∙ so_far
-    go None (Some n) h e is = absurd (cc)
-    go (Some row) None h e is = absurd (cc)
-    go (Some row) (Some n) h e is =
-        let same : n ≡ row_numbers row = cc in
-        ap (λ x. x ++ map row_numbers (slot_rows (drop (i + 1) s))) (is ∙ ap (λ x. l ++ x ∷ []) same)
-        ∙ append_assoc l (row_numbers row ∷ []) (map row_numbers (slot_rows (drop (i + 1) s)))
-        ∙ ap (λ x. l ++ map row_numbers x) (sym (row_at s i row lt h)) ∙ so_far
+row_pushed s i row l l' w lt h is so_far =
+    ap (λ x. x ++ map row_numbers (slot_rows (drop (i + 1) s))) is
+    ∙ append_assoc l (row_numbers row ∷ []) (map row_numbers (slot_rows (drop (i + 1) s)))
+    ∙ ap (λ x. l ++ map row_numbers x) (sym (row_at s i row lt h)) ∙ so_far
+
+-- slots without a row were passed
+passed : (k : ℕ) (s : Slots) (from : ℕ) → from + k ≤ length s → ((i : ℕ) → from ≤ i → i < from + k → held s i ≡ None)
+    → slot_rows (drop from s) ≡ slot_rows (drop (from + k) s)
+passed zero s from le gaps = ap (λ n. slot_rows (drop n s)) (omega arith)
+passed (suc k) s from le gaps =
+    gap_at s from (omega arith) (gaps from (omega arith) (omega arith))
+    ∙ passed k s (from + 1) (omega arith) (λ i lower upper. gaps i (omega arith) (omega arith)) ∙ ap (λ n. slot_rows (drop n s)) (omega arith)
+
+pub gaps_passed : (s : Slots) (from at : ℕ) → IsNextRow s from at → slot_rows (drop from s) ≡ slot_rows (drop at s)
+gaps_passed s from at next =
+    let there : from + (at - from) ≡ at = omega (arith, next.behind) in
+    passed (at - from) s from (omega (arith, next.within, there)) (λ i lower upper. next.gaps i lower (omega (arith, there))) ∙ ap (λ n. slot_rows (drop n s)) there
 
 pub slots_pushed : (s : Slots) (i : ℕ) (l w : Numbers) → length s ≤ i → l ++ map row_numbers (slot_rows (drop i s)) ≡ w → l ≡ w
 slots_pushed s i l w le e = sym (append-nil l) ∙ ap (λ x. l ++ map row_numbers (slot_rows x)) (sym (drop_all i s le)) ∙ e
@@ -58,6 +63,19 @@ pub rows_pushed : (rows : Contents) (s : Slots) (i : ℕ) (l : Numbers) → IsLa
 rows_pushed rows s i l laid le e =
     let count = length-map (slot_rows s) row_numbers ∙ slots_count rows s laid in
     as_long l (map row_numbers (slot_rows (drop i s))) (map row_numbers (slot_rows s)) (omega arith) e
+
+-- while fewer rows were met, there is another
+pub row_left : (rows : Contents) (s : Slots) (from at : ℕ) (l : Numbers) → IsLaidOut rows s → length l < len rows
+    → l ++ map row_numbers (slot_rows (drop from s)) ≡ map row_numbers (slot_rows s) → IsNextRow s from at → at < length s
+row_left rows s from at l laid fewer e next = go (nat_lt at (length s)) refl
+  where
+    go : (b : Bool) → nat_lt at (length s) ≡ b → at < length s
+    go true is = ltb-true at (length s) is
+    go false is =
+        let none : slot_rows (drop from s) ≡ [] = gaps_passed s from at next ∙ ap slot_rows (drop_all at s (ltb-false at (length s) is)) in
+        let all : l ≡ map row_numbers (slot_rows s) = sym (append-nil l) ∙ ap (λ x. l ++ map row_numbers x) (sym none) ∙ e in
+        let count = length-map (slot_rows s) row_numbers ∙ slots_count rows s laid in
+        absurd (omega (arith, fewer, ap length all, count))
 
 -- ---- words
 words_back : (count : ℕ) (ws l ns : List ℕ) → packed_list count ws ns ≡ l → words count (number l) ≡ l

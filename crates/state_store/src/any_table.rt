@@ -140,10 +140,10 @@ pub fn len(any: &AnyTable) -> usize
     at_each!(any, table => table.len())
 }
 
-/// How many slots there are.
+/// How many slots there are. A walk over all of them meets each row once.
 pub fn slots(any: &AnyTable) -> usize
     ensures count { result ≡ length (of.table_of any.now).slots }
-    ensures some { 0 < length (of.table_of any.now).slots }
+    ensures rows { IsLaidOut (of.table_of any.now).rows (of.table_of any.now).slots }
 {
     at_each!(any, table => table.slots())
 }
@@ -154,7 +154,6 @@ pub fn slot(any: &AnyTable, i: usize) -> Option<(u128, u128)>
     ensures held { result ≡ option_map of.row_numbers (held (of.table_of any.now).slots i) }
     ensures keys { IfSome result (λ row. row.0 < 2 ^ (64 * of.key_words any.now)) }
     ensures values { IfSome result (λ row. row.1 < 2 ^ (64 * of.value_words any.now)) }
-    ensures rows { IsLaidOut (of.table_of any.now).rows (of.table_of any.now).slots }
 {
     at_each!(any, table => match table.slot(i) {
         Some(row) => Some((number(&row.0), number(&row.1))),
@@ -182,30 +181,18 @@ fn numbers_of<const K: usize, const V: usize>(
     ensures laid { IfOk result (λ _. IsLaidOut table.now.rows table.now.slots) }
 {
     let count = table.len();
+    let slots = table.slots();
     let mut made = Vec::with_capacity(alloc, count)?;
-    for i in 0..table.slots() {
-        let row = table.slot(i);
-        push_row(&mut made, row)?;
-        if made.len() == count {
-            return Ok(made);
-        }
+    let mut from = 0;
+    for _ in 0..count {
+        let place = table.next_row(from);
+        let Some(row) = table.slot(place) else {
+            unreachable!()
+        };
+        made.push((number(&row.0), number(&row.1)))?;
+        from = place + 1;
     }
     Ok(made)
-}
-
-// Pushes the numbers of what a slot holds.
-fn push_row<const K: usize, const V: usize>(
-    made: &mut Vec<(u128, u128)>,
-    slot: Option<([u64; K], [u64; V])>,
-) -> Result<(), NoMemory>
-    requires keys { IsWords K }
-    requires values { IsWords V }
-    ensures { IfOk result (λ _. made.new.items ≡ made.old.items ++ of.option_list (option_map of.row_numbers slot.entry)) }
-{
-    if let Some(row) = slot {
-        made.push((number(&row.0), number(&row.1)))?;
-    }
-    Ok(())
 }
 
 /// The same table again, with memory of its own for as many rows.
@@ -239,7 +226,8 @@ fn copy_table<const K: usize, const V: usize>(
     let mut made = SlotTable::new(alloc, capacity)?;
     let count = table.len();
     prove!(count <= capacity);
-    for i in 0..table.slots() {
+    let slots = table.slots();
+    for i in 0..slots {
         let row = table.slot(i);
         put_slot(&mut made, row);
     }

@@ -1,6 +1,6 @@
 //! Lists of numbers that all have one length, in one list of numbers.
 ghost use Rattle.std.specs.Prelude.{◌≡◌, ◌<◌, ◌≤◌, ◌^◌, ◌*◌, IfOk, IsTrue, Some, length, replicate, slice_get, slice_set};
-ghost use Rattle.std.specs.Prelude.{◌++◌, ◌∷◌, [], take, drop, ◌+◌, OnOk, OnErr};
+ghost use Rattle.std.specs.Prelude.{◌++◌, ◌∷◌, [], take, drop, ◌+◌, OnOk, OnErr, vec_capacity, vec_len};
 
 use gal_io::NoMemory;
 use std::alloc::Global;
@@ -103,7 +103,7 @@ impl EvenLists {
         if self.count == usize::MAX {
             return Err(NoMemory);
         }
-        append(&mut self.numbers, front, back)?;
+        append(&mut self.numbers, self.width, front, back)?;
         self.count += 1;
         Ok(())
     }
@@ -129,18 +129,28 @@ impl EvenLists {
     }
 }
 
-// Puts both lists last, or neither.
-fn append(numbers: &mut Vec<u64>, front: &[u64], back: &[u64]) -> Result<(), NoMemory>
+// Puts both lists last, which have so many numbers together, or neither.
+fn append(numbers: &mut Vec<u64>, width: usize, front: &[u64], back: &[u64]) -> Result<(), NoMemory>
+    requires { length front.now + length back.now ≡ width }
     ensures ok { OnOk result (numbers.new.items ≡ numbers.old.items ++ (front.now ++ back.now)) }
     ensures err { OnErr result (numbers.new.items ≡ numbers.old.items) }
 {
-    let count = numbers.len();
-    numbers.extend_from_slice(front)?;
-    if numbers.extend_from_slice(back).is_err() {
-        numbers.truncate(count);
-        return Err(NoMemory);
-    }
+    numbers.reserve(width)?;
+    put_all(numbers, front);
+    put_all(numbers, back);
     Ok(())
+}
+
+// Puts a list last, for which there is room.
+fn put_all(numbers: &mut Vec<u64>, list: &[u64])
+    requires { vec_len numbers.old + length list.now ≤ vec_capacity numbers.old }
+    ensures items { numbers.new.items ≡ numbers.old.items ++ list.now }
+    ensures len { vec_len numbers.new ≡ vec_len numbers.old + length list.now }
+    ensures capacity { vec_capacity numbers.new ≡ vec_capacity numbers.old }
+{
+    for number in list {
+        numbers.push_reserved(*number);
+    }
 }
 
 // The list at a place, where each has so many numbers.

@@ -122,8 +122,9 @@ fn unpacked(
 {
     let mut rows = Rows::with_capacity(alloc, keys.len(), values.len(), numbers.len())?;
     for pair in numbers {
-        let row = row(key_bits, value_bits, keys, values, *pair);
-        rows.push_values(&row.keys, &row.values)?;
+        let key = parts(key_bits, keys, pair.0);
+        let value = parts(value_bits, values, pair.1);
+        rows.push_values(&key, &value)?;
     }
     Ok(rows)
 }

@@ -189,7 +189,8 @@ fn list_slots(
     ensures capacity { vec_capacity rows.old ≤ vec_capacity rows.new }
     ensures room { length (slot_rows (table_of table.now).slots) ≤ vec_capacity rows.old → IsOk result }
 {
-    for i in 0..any_table::slots(table) {
+    let slots = any_table::slots(table);
+    for i in 0..slots {
         let row = any_table::slot(table, i);
         push_slot(table, keys, values, row, rows)?;
     }

@@ -569,6 +569,35 @@ impl Journal {
             (self.new ≡ record self.old { entries = self.old.entries ++ entry_of call.entry ∷ [] }) }
         ensures err { OnErr result (self.new ≡ self.old) }
     {
+        match call {
+            Call::StageUp(number, UpEnd::Going) => {
+                self.note_mark(Outline::StageUp(End::Going, number))
+            }
+            Call::StageDown(number, DownEnd::Going) => {
+                self.note_mark(Outline::StageDown(End::Going, number))
+            }
+            _ => self.note_parts(&call),
+        }
+    }
+
+    // Puts a call last that has neither numbers nor bytes, and leaves the memory for others.
+    fn note_mark(&mut self, call: Outline) -> Result<(), NoMemory>
+        requires short { IsShort call }
+        requires none { number_count call ≡ 0 }
+        ensures ok { OnOk result (self.new ≡ record self.old { entries = self.old.entries ++ entry_in call [] [] ∷ [] }) }
+        ensures err { OnErr result (self.new ≡ self.old) }
+    {
+        self.marks.reserve(self.spare + 1)?;
+        self.marks.push_reserved(Mark { call, bytes: 0 });
+        Ok(())
+    }
+
+    // Puts a call last with its numbers and its bytes, and leaves the memory for others.
+    fn note_parts(&mut self, call: &Call<'_>) -> Result<(), NoMemory>
+        ensures ok { OnOk result
+            (self.new ≡ record self.old { entries = self.old.entries ++ entry_of call.now ∷ [] }) }
+        ensures err { OnErr result (self.new ≡ self.old) }
+    {
         take_room(&mut self.marks, &mut self.numbers, self.spare + 1)?;
         let (call, key, values, given, answer) = call.parts();
         let bytes = put_bytes(&mut self.bytes, given, answer)?;

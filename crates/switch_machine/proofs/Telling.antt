@@ -32,7 +32,7 @@ use Rattle.switch_machine.specs.Flights.{with_pass}
 use Rattle.switch_machine.specs.Machine.{seen_of, MachineState}
 use Rattle.switch_machine.specs.Sides.{down_of, entry_for, is_going, of_side, side_of, up_of, IsOf}
 use Rattle.switch_machine.specs.Staging.{passes_at, with_call, EntersDown, Leaves, Takes, UpIsPlanned}
-use Rattle.switch_machine.specs.UnderWay.{passes_on, under_way, Begins, Enters, Puts, Settles, Stages, StaysLoaded}
+use Rattle.switch_machine.specs.UnderWay.{passes_on, under_way, Begins, Enters, Settles, Stages, StaysLoaded}
 use Rattle.switch_machine.proofs.Flying.{put_and_taken}
 use Rattle.switch_machine.proofs.GoingUp.{ends_up}
 use Rattle.switch_machine.proofs.LoadedCode.{at_side}
@@ -69,42 +69,10 @@ pub record IsDown (end : UpEnd) : Type 1 where
   pub planned : (fails : Bool) → UpEndsAsPlanned fails end → DownEndsAsPlanned fails (down_of end)
 
 pub is_down : (end : UpEnd) → IsOf Behind end → IsDown end
-is_down up.Going of = record {
-  failed = refl;
-  noted = λ call. refl;
-  goes = λ left h. h;
-  begun = λ IsNew new h. h;
-  leaves = λ IsNew old new h. h;
-  ends = λ h. h;
-  planned = λ fails h. h;
-}
-is_down (up.Finished verdict) of = record {
-  failed = refl;
-  noted = λ call. refl;
-  goes = λ left h. h;
-  begun = λ IsNew new h. h;
-  leaves = λ IsNew old new h. h;
-  ends = λ h. h;
-  planned = λ fails h. h;
-}
-is_down up.Failed of = record {
-  failed = refl;
-  noted = λ call. refl;
-  goes = λ left h. h;
-  begun = λ IsNew new h. h;
-  leaves = λ IsNew old new h. h;
-  ends = λ h. h;
-  planned = λ fails h. h;
-}
-is_down up.NoMemory of = record {
-  failed = refl;
-  noted = λ call. refl;
-  goes = λ left h. h;
-  begun = λ IsNew new h. h;
-  leaves = λ IsNew old new h. h;
-  ends = λ h. h;
-  planned = λ fails h. h;
-}
+is_down up.Going of = record { failed = refl; noted = λ _. refl; goes = λ _ h. h; begun = λ _ _ h. h; leaves = λ _ _ _ h. h; ends = λ h. h; planned = λ _ h. h }
+is_down (up.Finished verdict) of = record { failed = refl; noted = λ _. refl; goes = λ _ h. h; begun = λ _ _ h. h; leaves = λ _ _ _ h. h; ends = λ h. h; planned = λ _ h. h }
+is_down up.Failed of = record { failed = refl; noted = λ _. refl; goes = λ _ h. h; begun = λ _ _ h. h; leaves = λ _ _ _ h. h; ends = λ h. h; planned = λ _ h. h }
+is_down up.NoMemory of = record { failed = refl; noted = λ _. refl; goes = λ _ h. h; begun = λ _ _ h. h; leaves = λ _ _ _ h. h; ends = λ h. h; planned = λ _ h. h }
 is_down (up.Up frame) of = absurd of
 
 -- ## What a call leaves of the passes of a side
@@ -158,17 +126,19 @@ module _ (number : ℕ) (IsNew : PassState → Type 0) (old new : Passes) where
   settled_of Is before up.Failed go there h = ap (λ (ps : Passes). ps number) h ∙ there
   settled_of Is before up.NoMemory go there h = ap (λ (ps : Passes). ps number) h ∙ there
 
-  pub settles_of : (outcome : Outcome) → (is_going outcome ≡ true → Puts number IsNew old new) → (is_going outcome ≡ false → new ≡ with_pass number None old)
-      → Settles number IsNew old new (up_of outcome)
-  settles_of Going goes ends = goes refl
-  settles_of (Up frame) goes ends = ends refl
-  settles_of (Verdict verdict) goes ends = ends refl
+  pub settles_last : (outcome : Outcome) → is_going outcome ≡ false → new ≡ with_pass number None old → Settles number IsNew old new (up_of outcome)
+  settles_last Going ends is = absurd (true≢false ends)
+  settles_last (Up frame) ends is = is
+  settles_last (Verdict verdict) ends is = is
 
 -- one that goes on has stages left
+pub going_is : (outcome : Outcome) → is_going outcome ≡ true → up_of outcome ≡ up.Going
+going_is Going going = refl
+going_is (Up frame) going = absurd (true≢false (sym going))
+going_is (Verdict verdict) going = absurd (true≢false (sym going))
+
 pub going_left : (outcome : Outcome) (left : Bool) → is_going outcome ≡ true → GoesUp left (up_of outcome) → left ≡ true
-going_left Going left going h = h
-going_left (Up frame) left going h = absurd (true≢false (sym going))
-going_left (Verdict verdict) left going h = absurd (true≢false (sym going))
+going_left outcome left going h = subst (GoesUp left) (going_is outcome going) h
 
 not_whole : (whole left : Bool) → (not whole && left) ≡ true → whole ≡ false
 not_whole true left e = absurd (true≢false (sym e))

@@ -125,9 +125,13 @@ impl Loaded {
         ensures err { OnErr result (journal.new ≡ journal.old) }
     {
         let outcome = self.next(alloc, side, tables, number)?;
-        let goes_on = outcome.is_going();
+        if outcome.is_going() {
+            side.note_stage(journal, number)?;
+            self.go_on(side, tables, number);
+            return Ok(UpEnd::Going);
+        }
         let end = Event::Stage(side, number).note(journal, outcome.end())?;
-        self.settle(side, tables, number, goes_on);
+        self.remove(side, number);
         Ok(end)
     }
 
@@ -211,24 +215,6 @@ impl Loaded {
         match side {
             Side::Before => self.before.next(alloc, &self.code, tables, number),
             Side::Behind => self.behind.next(alloc, &self.code, tables, number),
-        }
-    }
-
-    // The pass over the packet of this number at a side takes a stage that isn't its last, or is under way no longer.
-    fn settle(&mut self, side: Side, tables: &SwitchTables, number: u32, goes_on: bool)
-        requires safe { KeepsTables (code_of self.old.code) tables.now }
-        requires there { IsSome (passes_on side self.old number) }
-        requires left { goes_on ≡ true → (before : PassState) → passes_on side self.old number ≡ Some before
-            → nat_lt (suc before.stage) (staging side (code_of self.old.code)).code.highest ≡ true }
-        ensures stays { StaysLoaded side self.old self.new }
-        ensures goes_on { goes_on ≡ true
-            → Puts number (HasGone side number tables.now self.old) (passes_on side self.old) (passes_on side self.new) }
-        ensures ends { goes_on ≡ false → passes_on side self.new ≡ with_pass number None (passes_on side self.old) }
-    {
-        if goes_on {
-            self.go_on(side, tables, number);
-        } else {
-            self.remove(side, number);
         }
     }
 

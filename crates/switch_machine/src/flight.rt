@@ -129,13 +129,6 @@ pub(crate) fn put_in(
     Ok(())
 }
 
-/// Takes out the pass over the packet of this number. This takes no memory.
-pub(crate) fn take_out(flights: &mut BTreeMap<u32, Flight>, number: u32)
-    ensures { flights_in flights.new ≡ with_pass number None (flights_in flights.old) }
-{
-    let _ = flights.remove(&number);
-}
-
 /// Gives registers the numbers of others, of which there are as many.
 pub(crate) fn copy_numbers(from: &Regs, to: &mut Regs)
     requires { length to.old.numbers ≡ length from.now.numbers }

@@ -19,7 +19,7 @@ ghost use Rattle.switch_machine.specs.UnderWay.{leaves_on, numbers_at_last, pass
 ghost use Rattle.switch_machine.specs.UnderWay.{HasEnd, HasStagesLeft, IsAtLast, IsGiven, Puts, Steps};
 ghost use Rattle.switch_machine.specs.Workplaces.{IsPassOf, StaysMade};
 
-use crate::flight::{Flight, copy_numbers, flight_of, put_in, take_out};
+use crate::flight::{Flight, copy_numbers, flight_of, put_in};
 use crate::laws::{a_pass_by_place, a_pass_goes_by_stages, what_crosses_fits};
 use crate::live::leaves_work;
 use crate::loaded_pass::LoadedPass;
@@ -218,7 +218,7 @@ impl LoadedPass {
         ensures made { StaysMade self.old self.new }
         ensures passes { (code : Code) → passes_of code self.new ≡ with_pass number None (passes_of code self.old) }
     {
-        take_out(&mut self.flights, number);
+        let _ = self.flights.remove(&number);
     }
 
     // Whether the pass leaves work to the server, by the numbers in its registers.

@@ -227,29 +227,6 @@ impl ModelSwitch {
         self.note(Call::Room(commands))
     }
 
-    // Applies a command to the tables.
-    fn apply(&mut self, command: &Command)
-        requires { CanCommand (seen_of (machine_of self.old)) command.now }
-        ensures { let old = machine_of self.old in
-            machine_of self.new ≡ record old { tables = told_after command.now old.tables } }
-    {
-        self.tables.apply(command);
-    }
-
-    // Puts a command last in the journal, in memory that was taken before.
-    fn note_command(&mut self, command: &Command, end: CommandEnd)
-        requires { 0 < (machine_of self.old).journal.spare }
-        ensures { let old = machine_of self.old in
-            machine_of self.new ≡ record old {
-              journal = record {
-                entries = old.journal.entries ++ entry.Command command.now end ∷ [];
-                spare = old.journal.spare - 1;
-              };
-            } }
-    {
-        self.journal.push_command(command, end);
-    }
-
     fn try_rows(&mut self, alloc: Global, object: u32) -> Result<Rows, NoMemory>
         requires { HasReplicated (seen_of (machine_of self.old)) object }
         ensures seen { IfOk result (λ rows. rows
@@ -376,11 +353,11 @@ impl SwitchPort for ModelSwitch {
         ensures counted { IsCountedAs call.Command (command_failed result) (machine_of self.old) (machine_of self.new) }
     {
         if self.fails(CallKind::Command) {
-            self.note_command(command, CommandEnd::Failed);
+            self.journal.push_command(command, CommandEnd::Failed);
             return CommandEnd::Failed;
         }
-        self.apply(command);
-        self.note_command(command, CommandEnd::Done);
+        self.tables.apply(command);
+        self.journal.push_command(command, CommandEnd::Done);
         CommandEnd::Done
     }
 

@@ -34,6 +34,22 @@ impl Numbers for Standing<'_> {
     }
 }
 
+// The same numbers as a list. By a type of its own, either way to compute a stage has code of its own.
+#[derive(Clone, Copy)]
+struct Placed<'a> {
+    items: &'a [u64],
+}
+
+impl Numbers for Placed<'_> {
+    ghost reads = { λ numbers. reads_at numbers.items.now };
+
+    fn number(&self, value: ValueId) -> u64 {
+        let place = value.instruction as usize;
+        let items = self.items;
+        if place < items.len() { items[place] } else { 0 }
+    }
+}
+
 /// There are fewer than 2^32 registers, and each value that has one has a number.
 pub(crate) fn are_few(registers: &Regs)
     ensures few { length registers.now.numbers < 2 ^ 32 }
@@ -310,7 +326,9 @@ pub(crate) fn run_stage<L: Lookup>(
         run_directly(stage.steps(), tables, arrival, registers);
         return;
     }
-    let numbers = Standing { registers };
+    let numbers = Placed {
+        items: registers.as_slice(),
+    };
     collect(stage.steps(), &numbers, tables, arrival, results);
     put_all(stage.targets(), results.as_slice(), registers);
 }

@@ -1,7 +1,9 @@
 //! The two sides of the server, and the calls over packets at them.
 ghost use Rattle.std.specs.Prelude.{◌≡◌, IfOk, OnErr, OnOk};
 ghost use Rattle.switch_machine.specs.Sides.{down_of, entry_for, is_going, kind_of, side_of, up_from, up_of, with_last, IsOf};
+ghost use Rattle.switch_ir.specs.declared.port.UpEnd.TheVariants.{Going};
 ghost use Rattle.switch_machine.specs.declared.sides.Side.TheVariants.{Behind};
+ghost use Rattle.switch_machine.specs.declared.sides.Event.TheVariants.{Stage};
 
 use crate::calls::CallKind;
 use gal_io::{Bytes, NoMemory};
@@ -13,6 +15,19 @@ use switch_ir::{Call, DownEnd, Journal, UpEnd};
 pub(crate) enum Side {
     Before,
     Behind,
+}
+
+impl Side {
+    /// Puts a call last in a journal by which a pass at this side takes a stage that isn't its last.
+    pub fn note_stage(self, journal: &mut Journal, number: u32) -> Result<(), NoMemory>
+        ensures noted { OnOk result (journal.new ≡ with_last (entry_for (Stage self number) Going) journal.old) }
+        ensures err { OnErr result (journal.new ≡ journal.old) }
+    {
+        match self {
+            Side::Before => journal.note(Call::StageUp(number, &UpEnd::Going)),
+            Side::Behind => journal.note(Call::StageDown(number, &DownEnd::Going)),
+        }
+    }
 }
 
 /// What a call makes of the pass over a packet.

@@ -11,7 +11,6 @@ loop-i-preserved c =
     let lt : c.loop-i.i < length t.slots = omega arith in
     record {
       within = omega arith;
-      laid = λ _. c.slot-row.ensures.rows;
       rows = slot_listed p t.slots c.loop-i.i c.slot-row.result c.loop-i.rows.items c.push_slot.new.rows.items _ lt c.slot-row.ensures.held c.in_ok-push_slot.ensures.rows c.loop-i.invariant.rows;
       capacity = omega arith;
     }

@@ -1,4 +1,4 @@
-use Rattle.std.proofs.Common.{◌∙◌, ◌≤◌, [], List, ap, length, map, subst, sym, vec_capacity}
+use Rattle.std.proofs.Common.{◌∙◌, ◌≤◌, [], ℕ, List, ap, length, map, subst, sym, vec_capacity}
 use Rattle.std.specs.List.{AllByRecursion as Each}
 use Rattle.flat_ir.specs.Registers.{packet_of}
 use Rattle.switch_machine.specs.declared.ready.ReadyStep.{ReadyStep}
@@ -29,8 +29,8 @@ collect-requires-clause-room g c =
 
 pub put_all-requires : goal.put_all-requires
 put_all-requires g c =
-    ap length (c.as_slice.ensures.value ∙ c.collect.ensures.items)
-    ∙ numbers_count (map ready_of c.steps-2.result.now) (reads_at c.args.registers.now.numbers) (g.L.Lookup.seen c.args.tables.now) (packet_of c.args.arrival.now)
+    ap length (c.as_slice-2.ensures.value ∙ c.collect.ensures.items)
+    ∙ numbers_count (map ready_of c.steps-2.result.now) (reads_at c.as_slice.result.now) (g.L.Lookup.seen c.args.tables.now) (packet_of c.args.arrival.now)
     ∙ ap (λ (ss : List ReadyStep). length (targets_of (map ready_of ss))) c.steps-2.ensures
     ∙ sym (ap length c.targets.ensures)
 
@@ -39,8 +39,10 @@ returns-clause-written g c =
     let registers = c.args.registers.now in
     let tables = g.L.Lookup.seen c.args.tables.now in
     let packet = packet_of c.args.arrival.now in
+    let rs = map ready_of c.args.stage.now in
     c.put_all.ensures
     ∙ ap (all_placed registers)
-    (waiting_are (map ready_of c.args.stage.now) (reads_at registers.numbers) tables packet c.targets.result.now c.as_slice.result.now c.targets.ensures
-    (c.as_slice.ensures.value ∙ c.collect.ensures.items
-    ∙ ap (λ (ss : List ReadyStep). only_numbers (ready_gives (map ready_of ss) (reads_at registers.numbers) tables packet)) c.steps-2.ensures))
+    (waiting_are rs (reads_at registers.numbers) tables packet c.targets.result.now c.as_slice-2.result.now c.targets.ensures
+    (c.as_slice-2.ensures.value ∙ c.collect.ensures.items
+    ∙ ap (λ (ss : List ReadyStep). only_numbers (ready_gives (map ready_of ss) (reads_at c.as_slice.result.now) tables packet)) c.steps-2.ensures
+    ∙ ap (λ (ns : List ℕ). only_numbers (ready_gives rs (reads_at ns) tables packet)) c.as_slice.ensures.numbers))

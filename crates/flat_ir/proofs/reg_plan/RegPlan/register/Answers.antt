@@ -1,8 +1,8 @@
-use Rattle.std.proofs.Common.{◌≡◌, ◌<◌, ◌≤◌, ℕ, Option, Some, None, IfSome, length, refl, sym, subst, ap, arith}
+use Rattle.std.proofs.Common.{◌≡◌, ◌<◌, ◌≤◌, ℕ, Option, Some, None, IfSome, length, refl, sym, subst, ap, arith, ◌∙◌}
 use Rattle.std.specs.List.{slice_get}
 use Rattle.std.proofs.lemmas.Bool.{ltb-true}
 use Rattle.std.proofs.lemmas.Option.{slice_get_read}
-use Rattle.slot_table.specs.Table.{Contents}
+use Rattle.slot_table.specs.Table.{Contents, Table}
 use Rattle.flat_ir.specs.Plan.{register_in, AreBelow}
 use Rattle.flat_ir.proofs.reg_plan.RegPlan.register.Goals as goal
 
@@ -14,7 +14,8 @@ below rows count most value (Some register) all few is = let lt = all value regi
 
 pub register_in-requires : goal.register_in-requires
 register_in-requires c = λ value register e.
-    let lt = c.self.invariant.0 value register e in omega (arith, lt, c.self.invariant.1)
+    let found = ap (λ (t : Table). register_in t.rows value) (sym c.deref-in-None.ensures) ∙ e in
+    let lt = c.self.invariant.0 value register found in omega (arith, lt, c.self.invariant.1)
 
 pub returns-in-Some-clause-below : goal.returns-in-Some-clause-below
 returns-in-Some-clause-below c =
@@ -23,5 +24,5 @@ returns-in-Some-clause-below c =
     subst (λ items. slice_get items c.args.value ≡ Some c.in-Some.register.now) c.deref.ensures.value
     (slice_get_read c.deref.result.now (length c.deref.result.now) c.args.value c.in-Some.register.now refl
     (ltb-true c.args.value (length c.deref.result.now) (sym c.in-Some.ensures.lookup.0)) c.in-Some.ensures.lookup.1) in
-    below c.self.inside.registers.rows c.self.inside.count c.args.self.now.count c.args.value c.in-Some.register.now
+    below c.self.inside.registers.value.rows c.self.inside.count c.args.self.now.count c.args.value c.in-Some.register.now
     c.self.invariant.0 (omega (arith, ap (λ p. p.count) c.self.view_is)) (c.self.invariant.2 c.args.value c.in-Some.register.now found)

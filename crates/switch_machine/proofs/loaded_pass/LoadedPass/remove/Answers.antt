@@ -1,7 +1,7 @@
 use Rattle.std.proofs.Common.{None, length, refl}
 use Rattle.switch_machine.specs.Flights.{flights_in}
 use Rattle.switch_machine.specs.Sides.{staging}
-use Rattle.switch_machine.proofs.Flying.{passes_changed, removed_flights}
+use Rattle.switch_machine.proofs.Flying.{passes_changed, removed_flights, with_update}
 use Rattle.switch_machine.proofs.loaded_pass.LoadedPass.remove.Goals as goal
 
 pub returns-clause-made : goal.returns-clause-made
@@ -10,7 +10,8 @@ returns-clause-made c = record { side = refl; stages = refl; ranges = refl; plan
 pub returns-clause-passes : goal.returns-clause-passes
 returns-clause-passes c code =
     let l = c.args.self.now in
-    passes_changed (staging l.side code) l.numbering l.registers.plan (flights_in l.flights) (flights_in c.take_out.new.flights) c.args.number None c.take_out.ensures
+    passes_changed (staging l.side code) l.numbering l.registers.plan (flights_in l.flights) (flights_in c.remove.new.self) c.args.number None
+    (with_update l.flights c.remove.new.self c.args.number None c.remove.ensures.updates.0)
 
 pub invariant_of-self : goal.invariant_of-self
 invariant_of-self c =
@@ -18,6 +19,6 @@ invariant_of-self c =
     record {
       can = l.can;
       room = l.room;
-      flown = removed_flights (length l.stages) (length l.registers.numbers) (flights_in l.flights) (flights_in c.take_out.new.flights) c.args.number
-          c.take_out.ensures l.flown;
+      flown = removed_flights (length l.stages) (length l.registers.numbers) (flights_in l.flights) (flights_in c.remove.new.self) c.args.number
+          (with_update l.flights c.remove.new.self c.args.number None c.remove.ensures.updates.0) l.flown;
     }
