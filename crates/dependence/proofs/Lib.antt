@@ -7,3 +7,4 @@ mod Using
 mod Falling
 mod Deep
 mod Least
+mod Present

@@ -14,6 +14,6 @@ pub use backward::{post_closure, post_closure_beside_guards};
 pub use depth::depths;
 pub use forward::{carried_closure, pre_closure};
 pub use guard::guards;
-pub use laws::depths_are_least;
+pub use laws::{closed_sets_have_a_greatest, depths_are_least};
 pub use marks::{Depths, Marks};
 pub use uses::Uses;

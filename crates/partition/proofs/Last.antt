@@ -1,9 +1,10 @@
--- What is left to the server keeps every limit.
-use Rattle.std.proofs.Common.{◌≡◌, ℕ, zero, suc, ◌+◌, ◌/◌, ◌≤◌, Bool, true, false, ◌&&◌, ◌||◌, ◌==◌, not, List, [], ◌∷◌, ◌++◌, Option, Some, None, inl, inr, ◌⊎◌, refl, sym, ap, ◌∙◌, arith, length, replicate, map, is_some}
-use Rattle.std.specs.Prelude.{slice_index_or, All, if◌then◌else◌}
+-- What is left to the server has a header of two bytes, and takes nothing else of the switch.
+use Rattle.std.proofs.Common.{◌≡◌, ◌↔◌, ℕ, zero, suc, ◌+◌, ◌/◌, ◌<◌, ◌≤◌, Bool, true, false, ◌&&◌, ◌||◌, ◌==◌, not, List, [], ◌∷◌, ◌++◌, Option, Some, None, inl, inr, ◌⊎◌, refl, sym, ap, ◌∙◌, subst, arith, length, replicate, map, is_some}
+use Rattle.std.specs.Prelude.{slice_index_or, All, if◌then◌else◌, nat_lt}
 use Rattle.std.specs.List.{filter}
 use Rattle.std.proofs.lemmas.List.Elements.{All-nil, All-cons, All-append, filter-append}
-use Rattle.std.proofs.lemmas.Bool.{cases_Bool, cases_eq, eqb-true}
+use Rattle.std.proofs.lemmas.Bool.{cases_Bool, cases_eq, cases_lt, eqb-true, eq-eqb, and_from, or_left, or_right}
+use Rattle.std.proofs.lemmas.Bool.Decides.{nat_tests}
 use Rattle.state_store.specs.declared.object.ObjectDecl.{ObjectDecl}
 use Rattle.state_store.specs.Kinds.{is_table, is_constant}
 use Rattle.flat_ir.specs.declared.program.ValueId.{ValueId}
@@ -20,9 +21,9 @@ use Rattle.split_model.specs.Layouts.{first_results, values_below, values_of, cr
 use Rattle.split_model.specs.Counts.{count_below, accesses, writes, total, is_post_shown, object_bits, bits_from, layout_bytes, transfer_bytes}
 use Rattle.split_model.specs.Greatest.{pre_marks, IsGreatestSplit}
 use Rattle.resource_limits.specs.declared.limits.Limits.{Limits}
-use Rattle.resource_limits.specs.Limits.{AreInRange}
 use Rattle.resource_limits.specs.Counts.{first_numbers}
 use Rattle.resource_limits.specs.Kept.{KeepsLimits}
+use Rattle.partition.specs.Choice.{shrinking}
 use Rattle.partition.proofs.Lawful.{no_more, and_no, pre_at, carried_at, post_at}
 use Rattle.partition.proofs.Server.{left, IsBlank, no_pre, no_carried, no_post, no_stages, none_below, unseen}
 
@@ -134,25 +135,46 @@ either_bits f p q r (v ∷ vs) h =
       ])
     ]
 
+-- what passes one of two tests that exclude each other passes a third one
+both_bits : (f : Program) (p q r : ValueId → Bool) (vs : List ValueId) → ((v : ValueId) → q v ≡ true → p v ≡ true)
+    → ((v : ValueId) → r v ≡ true → p v ≡ true) → ((v : ValueId) → q v ≡ true → r v ≡ true → ⊥)
+    → bits_of f (filter q vs) + bits_of f (filter r vs) ≤ bits_of f (filter p vs)
+both_bits f p q r [] first second apart = omega arith
+both_bits f p q r (v ∷ vs) first second apart =
+    let rest = both_bits f p q r vs first second apart in
+    elim (cases_Bool (q v)) [
+      | inl x ↦ elim (cases_Bool (r v)) [
+        | inl y ↦ absurd (apart v x y)
+        | inr y ↦ let t = first v x in rw (x, y, t) (omega (arith, rest))
+      ]
+      | inr x ↦ elim (cases_Bool (r v)) [
+        | inl y ↦ let t = second v y in rw (x, y, t) (omega (arith, rest))
+        | inr y ↦ elim (cases_Bool (p v)) [
+          | inl t ↦ rw (x, y, t) (omega (arith, rest))
+          | inr t ↦ rw (x, y, t) (omega (arith, rest))
+        ]
+      ]
+    ]
+
 -- the bits of one value among a list
 abbrev one_bits : Program → ValueId → List ValueId → ℕ
 one_bits f a vs = bits_of f (filter (λ (v : ValueId). is_value v a) vs)
+
+both_true : (x y : Bool) → (x && y) ≡ true → (x ≡ true) × (y ≡ true)
+both_true true y h = (refl, h)
+both_true false y h = cc
+
+same_value : (v w : ValueId) → is_value v w ≡ true → v ≡ w
+same_value v w t =
+    let b = both_true (v.instruction == w.instruction) (v.result == w.result) t in
+    let made : ℕ → ℕ → ValueId = λ i r. record { instruction = i; result = r } in
+    ap (λ i. made i v.result) (eqb-true v.instruction w.instruction b.0) ∙ ap (λ r. made w.instruction r) (eqb-true v.result w.result b.1)
 
 one_here : (f : Program) (a v : ValueId) → one_bits f a (v ∷ []) ≤ width_of_value f a
 one_here f a v = elim (cases_Bool (is_value v a)) [
   | inr n ↦ rw n (omega arith)
   | inl t ↦ (let e : v ≡ a = same_value v a t in rw t (let w = ap (λ (x : ValueId). width_of_value f x) e in omega (arith, w)))
 ]
-  where
-    both_true : (x y : Bool) → (x && y) ≡ true → (x ≡ true) × (y ≡ true)
-    both_true true y h = (refl, h)
-    both_true false y h = cc
-
-    same_value : (v w : ValueId) → is_value v w ≡ true → v ≡ w
-    same_value v w t =
-        let b = both_true (v.instruction == w.instruction) (v.result == w.result) t in
-        let made : ℕ → ℕ → ValueId = λ i r. record { instruction = i; result = r } in
-        ap (λ i. made i v.result) (eqb-true v.instruction w.instruction b.0) ∙ ap (λ r. made w.instruction r) (eqb-true v.result w.result b.1)
 
 one_not : (f : Program) (a v : ValueId) → is_value v a ≡ false → one_bits f a (v ∷ []) ≡ 0
 one_not f a v n = rw n refl
@@ -211,6 +233,54 @@ values_once f a (suc n) =
       | inr q ↦ (let x = values_once f a n in let y = results_elsewhere f a n (result_count f.objects (step_at f n).work) q in omega (arith, e, x, y))
     ]
 
+-- and each value of the program stands there
+value_self : (v : ValueId) → is_value v v ≡ true
+value_self v = and_from (v.instruction == v.instruction) (v.result == v.result) (eq-eqb v.instruction v.instruction refl) (eq-eqb v.result v.result refl)
+
+self_here : (f : Program) (a : ValueId) → one_bits f a (a ∷ []) ≡ width_of_value f a
+self_here f a = let t = value_self a in rw t (omega arith)
+
+results_there : (f : Program) (a : ValueId) (n : ℕ) → a.result < n → width_of_value f a ≤ one_bits f a (first_results a.instruction n)
+results_there f a zero h = absurd (omega arith)
+results_there f a (suc n) h =
+    let v : ValueId = record { instruction = a.instruction; result = n } in
+    let e = filtered_append f (λ (v : ValueId). is_value v a) (first_results a.instruction n) (v ∷ []) in
+    elim (cases_eq n a.result) [
+      | inl q ↦
+          let made : ℕ → ValueId = λ r. record { instruction = a.instruction; result = r } in
+          let here : one_bits f a (v ∷ []) ≡ width_of_value f a = ap (λ r. one_bits f a (made r ∷ [])) q ∙ self_here f a in
+          omega (arith, e, here)
+      | inr q ↦ (let x = results_there f a n (let l : a.result < n = less q in l) in omega (arith, e, x))
+    ]
+  where
+    less : (n ≡ a.result → ⊥) → a.result < n
+    less q = elim (cases_lt a.result n) [ inl l ↦ l | inr g ↦ absurd (q (omega (arith, g, h))) ]
+
+values_there : (f : Program) (a : ValueId) (n : ℕ) → a.instruction < n → a.result < result_count f.objects (step_at f a.instruction).work
+    → width_of_value f a ≤ one_bits f a (values_below f n)
+values_there f a zero h r = absurd (omega arith)
+values_there f a (suc n) h r =
+    let rs = first_results n (result_count f.objects (step_at f n).work) in
+    let e = filtered_append f (λ (v : ValueId). is_value v a) (values_below f n) rs in
+    elim (cases_lt a.instruction n) [
+      | inl l ↦ (let x = values_there f a n l r in omega (arith, e, x))
+      | inr g ↦
+          let q : a.instruction ≡ n = omega (arith, g, h) in
+          let own : width_of_value f a ≤ one_bits f a rs =
+          subst (λ i. width_of_value f a ≤ one_bits f a (first_results i (result_count f.objects (step_at f i).work))) q
+          (results_there f a (result_count f.objects (step_at f a.instruction).work) r) in
+          omega (arith, e, own)
+    ]
+
+lt_true : (i k : ℕ) → nat_lt i k ≡ true → i < k
+lt_true i k h = grind (arith, nat_tests)
+
+named_there : (f : Program) (a : ValueId) → is_named f a ≡ true → width_of_value f a ≤ one_bits f a (values_of f)
+named_there f a named =
+    let both = both_true (nat_lt a.instruction (length f.code)) (nat_lt a.result (result_count f.objects (step_at f a.instruction).work)) named in
+    values_there f a (length f.code) (lt_true a.instruction (length f.code) both.0)
+    (lt_true a.result (result_count f.objects (step_at f a.instruction).work) both.1)
+
 none_left : (test : ValueId → Bool) (vs : List ValueId) → ((v : ValueId) → test v ≡ false) → filter test vs ≡ []
 none_left test [] h = refl
 none_left test (v ∷ vs) h = rw (h v) (none_left test vs h)
@@ -248,24 +318,52 @@ module _ (split : List Part) (of : IsBlank split) (f : Program) (formed : IsWell
       let none : read ≡ false = and_no (not (is_at_hand f split (step_at f v.instruction).work)) (is_read_by f (is_post split) v) (λ x. unread v) in
       either (is_value v f.send) (is_value v f.port) (or_first (is_among v (f.send ∷ f.port ∷ [])) read none some)
 
-  nine_down : bits_of f (down_values f split) ≤ 9
-  nine_down =
+  at_most_nine : bits_of f (down_values f split) ≤ 9
+  at_most_nine =
       let a = either_bits f (crosses_down f split) (λ (v : ValueId). is_value v f.send) (λ (v : ValueId). is_value v f.port) (values_of f) two_down in
       let b = values_once f f.send (length f.code) in
       let c = values_once f f.port (length f.code) in
       omega (arith, a, b, c, formed.send.wide, formed.port.wide)
 
-  two_bytes : transfer_bytes f split ≤ 2
+  goes_down : (v w : ValueId) → is_named f w ≡ true → is_among w (f.send ∷ f.port ∷ []) ≡ true → is_value v w ≡ true → crosses_down f split v ≡ true
+  goes_down v w named among is =
+      let same : w ≡ v = sym (same_value v w is) in
+      subst (λ (x : ValueId). crosses_down f split x ≡ true) same
+      (and_from (is_named f w && not (is_post split w.instruction)) _
+      (and_from (is_named f w) (not (is_post split w.instruction)) named (not_is (is_post split w.instruction) (no_post split of w.instruction)))
+      (or_left (is_among w (f.send ∷ f.port ∷ [])) _ among))
+    where
+      not_is : (b : Bool) → b ≡ false → not b ≡ true
+      not_is true h = cc
+      not_is false h = refl
+
+  not_both : (v : ValueId) → is_value v f.send ≡ true → is_value v f.port ≡ true → ⊥
+  not_both v s p =
+      let same : f.send ≡ f.port = sym (same_value v f.send s) ∙ same_value v f.port p in
+      let w = ap (λ (x : ValueId). width_of_value f x) same in
+      omega (arith, w, formed.send.wide, formed.port.wide)
+
+  at_least_nine : 9 ≤ bits_of f (down_values f split)
+  at_least_nine =
+      let first = or_left (is_value f.send f.send) (is_value f.send f.port || false) (value_self f.send) in
+      let second = or_right (is_value f.port f.send) (is_value f.port f.port || false) (or_left (is_value f.port f.port) false (value_self f.port)) in
+      let a = both_bits f (crosses_down f split) (λ (v : ValueId). is_value v f.send) (λ (v : ValueId). is_value v f.port) (values_of f)
+      (λ v h. goes_down v f.send formed.send.named first h) (λ v h. goes_down v f.port formed.port.named second h) not_both in
+      let b = named_there f f.send formed.send.named in
+      let c = named_there f f.port formed.port.named in
+      omega (arith, a, b, c, formed.send.wide, formed.port.wide)
+
+  two_bytes : transfer_bytes f split ≡ 2
   two_bytes =
       let u : layout_bytes (up_layout f split) ≡ 0 = ap (λ (vs : List ValueId). layout_bytes (map (crossing f) vs)) nothing_up in
-      let d : layout_bytes (down_layout f split) ≤ 2 = low_bytes (bits_of f (down_values f split)) nine_down in
+      let d : layout_bytes (down_layout f split) ≡ 2 = low_bytes (bits_of f (down_values f split)) at_most_nine at_least_nine in
       omega (arith, u, d)
     where
-      low_bytes : (n : ℕ) → n ≤ 9 → (n + 7) / 8 ≤ 2
-      low_bytes n h = omega (arith, h)
+      low_bytes : (n : ℕ) → n ≤ 9 → 9 ≤ n → (n + 7) / 8 ≡ 2
+      low_bytes n h l = omega (arith, h, l)
 
-  pub blank_keeps : (limits : Limits) → AreInRange limits → KeepsLimits f split limits
-  blank_keeps limits ranges =
+  blank_keeps : (limits : Limits) → 2 ≤ limits.transfer_bytes → KeepsLimits f split limits
+  blank_keeps limits room =
       let e = no_stages split of (length f.code) in
       let b = no_bits split of f limits.writeback 0 f.objects in
       let t = two_bytes in
@@ -274,8 +372,20 @@ module _ (split : List Part) (of : IsBlank split) (f : Program) (formed : IsWell
         stages = omega (arith, e);
         table_bits = omega (arith, b);
         writeback = numbers_low (writes f split) limits.writeback (length f.objects) (λ o. let a = no_writes split of f o in omega (arith, a));
-        transfer_bytes = (let r = ranges.3 in omega (arith, t, r));
+        transfer_bytes = omega (arith, t, room);
       }
 
-pub last_keeps : (f : Program) (limits : Limits) (split : List Part) → IsWellFormed f → AreInRange limits → IsGreatestSplit f 0 false split → KeepsLimits f split limits
-last_keeps f limits split formed ranges greatest = blank_keeps split (is_blank f split greatest) f formed limits ranges
+  pub blank_exact : (limits : Limits) → KeepsLimits f split limits ↔ (2 ≤ limits.transfer_bytes)
+  blank_exact limits = (λ keeps. (let t = two_bytes in let k = keeps.transfer_bytes in omega (arith, t, k)), blank_keeps limits)
+
+pub last_exact : (f : Program) (limits : Limits) (split : List Part) → IsWellFormed f → IsGreatestSplit f 0 false split
+    → KeepsLimits f split limits ↔ (2 ≤ limits.transfer_bytes)
+last_exact f limits split formed greatest = blank_exact split (is_blank f split greatest) f formed limits
+
+-- ## It is the last of the shrinking list
+
+pub ends_so : (n : ℕ) → (before : List (ℕ × Bool)) × (shrinking n ≡ before ++ (0, false) ∷ [])
+ends_so zero = ((0, true) ∷ [], refl)
+ends_so (suc n) =
+    let rest = ends_so n in
+    ((suc n, true) ∷ ((suc n, false) ∷ rest.0), ap (λ (cs : List (ℕ × Bool)). (suc n, true) ∷ ((suc n, false) ∷ cs)) rest.1)

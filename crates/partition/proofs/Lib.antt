@@ -9,3 +9,4 @@ pub mod Chosen
 pub mod Deeper
 pub mod Monotone
 pub mod Lowest
+pub mod Present

@@ -1,5 +1,5 @@
 -- Which split is chosen, and when none is.
-use Rattle.std.specs.Prelude.{◌≡◌, ◌⊎◌, ℕ, zero, suc, Bool, true, false, List, [], ◌∷◌, Some, length}
+use Rattle.std.specs.Prelude.{◌≡◌, ◌⊎◌, ◌≤◌, ℕ, zero, suc, Bool, true, false, List, [], ◌∷◌, Some, length}
 use Rattle.flat_ir.specs.Program.{Program}
 use Rattle.split_model.specs.declared.split.Part.{Part}
 use Rattle.split_model.specs.Greatest.{IsGreatestSplit}
@@ -31,6 +31,10 @@ IsFirstKept f limits (c ∷ cs) split =
     IsKept f limits c.0 c.1 split
     ⊎ (((other : List Part) → IsKept f limits c.0 c.1 other → ⊥) × IsFirstKept f limits cs split)
 
+-- each greatest split on the first n instructions or fewer exceeds a limit
+abbrev pub AllExceeded : Program → Limits → ℕ → Type 0
+AllExceeded f limits n = (k : ℕ) (all : Bool) → k ≤ n → (over : Over) × IsExceeded f limits k all over
+
 -- what is chosen: the greatest split of all instructions, or by shrinking the first that keeps the limits
 abbrev pub IsChosen : Program → Limits → Bool → List Part → Type 0
 IsChosen f limits false split = IsKept f limits (length f.code) true split
@@ -40,3 +44,7 @@ IsChosen f limits true split = IsFirstKept f limits (shrinking (length f.code)) 
 abbrev pub IsRefused : Program → Limits → Bool → Over → Type 0
 IsRefused f limits false over = IsExceeded f limits (length f.code) true over
 IsRefused f limits true over = ⊥
+
+-- nothing is refused: the greatest split exceeds no limit, or it may shrink
+abbrev pub IsUnrefused : Program → Limits → Bool → Type 0
+IsUnrefused f limits shrink = (over : Over) → IsRefused f limits shrink over → ⊥

@@ -1,4 +1,4 @@
-use Rattle.std.proofs.Common.{◌≡◌, ◌∙◌, ◌+◌, ◌<◌, [], refl, ap, sym, subst, arith, true, false, length, get_or, take, set, replicate}
+use Rattle.std.proofs.Common.{◌≡◌, ◌∙◌, ◌+◌, ◌<◌, [], refl, ap, sym, subst, arith, true, false, length, get_or, take, replicate}
 use Rattle.flat_ir.specs.declared.program.ValueId.{ValueId}
 use Rattle.flat_ir.specs.Program.{program_of, is_among}
 use Rattle.dependence.proofs.Placing.{as_many}

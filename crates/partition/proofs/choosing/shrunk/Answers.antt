@@ -8,7 +8,7 @@ use Rattle.partition.specs.Choice.{IsChosen, IsFirstKept, shrinking}
 use Rattle.partition.specs.declared.choosing.Outcome.{Outcome}
 use Rattle.partition.specs.Tried.{IsFound, IsLeft, IsStep}
 use Rattle.partition.proofs.Shrunk.{found_last}
-use Rattle.partition.proofs.Last.{last_keeps}
+use Rattle.partition.proofs.Last.{last_exact}
 use Rattle.partition.proofs.choosing.shrunk.Goals as goal
 
 pub narrow_to-requires-clause-fewer : goal.narrow_to-requires-clause-fewer
@@ -40,5 +40,5 @@ returns c =
     (λ split greatest. c.loop-front.invariant.first split
     (subst (λ k. IsFirstKept f l (shrinking k) split) (sym z)
     (found_last f l split none
-    (record { greatest = greatest; keeps = last_keeps f l split c.requires.bounded.formed c.requires.in_range greatest }))))
+    (record { greatest = greatest; keeps = (last_exact f l split c.requires.bounded.formed greatest).1 c.requires.in_range.3 }))))
     c.all_on_server.ensures.greatest

@@ -1,0 +1,289 @@
+-- Every program has its greatest splits, and so a split that is chosen, or a limit that is exceeded first.
+use Rattle.std.proofs.Common.{◌≡◌, ◌↔◌, ◌⊎◌, ℕ, zero, suc, ◌<◌, ◌≤◌, Bool, true, false, List, [], ◌∷◌, Option, Some, None, inl, inr, refl, sym, ap, ◌∙◌, subst, arith, length, map, replicate, is_some}
+use Rattle.std.specs.Prelude.{slice_index, slice_index_or}
+use Rattle.std.proofs.lemmas.Bool.{cases_lt}
+use Rattle.flat_ir.specs.Program.{Program}
+use Rattle.flat_ir.specs.WellFormed.{IsWellFormed}
+use Rattle.flat_ir.specs.Sets.{IsPreClosed, IsCarriedClosed, IsPostClosed, IsGreatest}
+use Rattle.flat_ir.specs.Stages.{IsDepths}
+use Rattle.split_model.specs.declared.split.Part.{Part}
+use Rattle.split_model.specs.declared.split.Slow.{Slow}
+use Rattle.split_model.specs.declared.split.Slow.TheVariants.{Carried, Server, Post}
+use Rattle.split_model.specs.Split.{is_carried_up, stage_after}
+use Rattle.split_model.specs.Counts.{stage_or_zero}
+use Rattle.split_model.specs.Greatest.{pre_marks, carried_marks, post_marks, pre_stages, post_stages, IsPostSet, IsGreatestSplit}
+use Rattle.resource_limits.specs.declared.limits.Limits.{Limits}
+use Rattle.resource_limits.specs.declared.counting.Counts.{Counts}
+use Rattle.resource_limits.specs.declared.exceeding.Over.{Over}
+use Rattle.resource_limits.specs.Counts.{counts_of}
+use Rattle.resource_limits.specs.Kept.{Keeps, KeepsLimits, first_over}
+use Rattle.partition.specs.Choice.{IsKept, IsExceeded, AllExceeded, IsFirstKept, IsChosen, IsRefused, IsUnrefused, shrinking}
+
+-- ## A list with an element for each number below n
+
+listed : {X : Type 0} → ℕ → (ℕ → X) → List X
+listed zero g = []
+listed (suc n) g = g 0 ∷ listed n (λ i. g (suc i))
+
+-- what its elements say
+marks_listed : {X : Type 0} (h : X → Bool) (n : ℕ) (g : ℕ → X) (marks : List Bool) → length marks ≡ n
+    → ((i : ℕ) → h (g i) ≡ slice_index_or marks i false) → map h (listed n g) ≡ marks
+unfolding listed
+marks_listed h zero g [] count each = refl
+marks_listed h zero g (m ∷ ms) count each = absurd (omega arith)
+marks_listed h (suc n) g [] count each = absurd (omega arith)
+marks_listed h (suc n) g (m ∷ ms) count each =
+    ap (λ b. b ∷ map h (listed n (λ i. g (suc i)))) (each 0)
+    ∙ ap (λ (bs : List Bool). m ∷ bs) (marks_listed h n (λ i. g (suc i)) ms (omega arith) (λ i. each (suc i)))
+
+numbers_listed : {X : Type 0} (h : X → ℕ) (n : ℕ) (g : ℕ → X) (numbers : List ℕ) → length numbers ≡ n
+    → ((i : ℕ) → h (g i) ≡ slice_index numbers i) → map h (listed n g) ≡ numbers
+unfolding listed
+numbers_listed h zero g [] count each = refl
+numbers_listed h zero g (m ∷ ms) count each = absurd (omega arith)
+numbers_listed h (suc n) g [] count each = absurd (omega arith)
+numbers_listed h (suc n) g (m ∷ ms) count each =
+    ap (λ b. b ∷ map h (listed n (λ i. g (suc i)))) (each 0)
+    ∙ ap (λ (bs : List ℕ). m ∷ bs) (numbers_listed h n (λ i. g (suc i)) ms (omega arith) (λ i. each (suc i)))
+
+-- ## A part from its marks and stages
+
+slow_of : Bool → Bool → ℕ → Slow
+slow_of true post stage = Carried
+slow_of false true stage = Post stage
+slow_of false false stage = Server
+
+stage_of : Bool → ℕ → Option ℕ
+stage_of true stage = Some stage
+stage_of false stage = None
+
+stage_there : (b : Bool) (stage : ℕ) → is_some (stage_of b stage) ≡ b
+unfolding stage_of
+stage_there true stage = refl
+stage_there false stage = refl
+
+stage_is : (b : Bool) (stage : ℕ) → (b ≡ false → stage ≡ 0) → stage_or_zero (stage_of b stage) ≡ stage
+unfolding stage_of
+stage_is true stage none = refl
+stage_is false stage none = sym (none refl)
+
+carried_is : (carried post : Bool) (stage : ℕ) → is_carried_up (slow_of carried post stage) ≡ carried
+unfolding slow_of
+carried_is true post stage = refl
+carried_is false true stage = refl
+carried_is false false stage = refl
+
+post_is : (carried post : Bool) (stage : ℕ) → (post ≡ true → carried ≡ false) → is_some (stage_after (slow_of carried post stage)) ≡ post
+unfolding slow_of
+post_is true true stage apart = let e = apart refl in cc
+post_is true false stage apart = refl
+post_is false true stage apart = refl
+post_is false false stage apart = refl
+
+post_stage_is : (carried post : Bool) (stage : ℕ) → (post ≡ true → carried ≡ false) → (post ≡ false → stage ≡ 0)
+    → stage_or_zero (stage_after (slow_of carried post stage)) ≡ stage
+unfolding slow_of
+post_stage_is true true stage apart none = let e = apart refl in cc
+post_stage_is true false stage apart none = sym (none refl)
+post_stage_is false true stage apart none = refl
+post_stage_is false false stage apart none = sym (none refl)
+
+-- ## The greatest split from its sets
+
+-- what dependence gives of every program
+pub record HasSets : Type 0 where
+  pub pre : (f : Program) (k : ℕ) → IsWellFormed f → (pre : List Bool) × IsGreatest f (IsPreClosed f k) pre
+  pub carried : (f : Program) (pre : List Bool) → IsWellFormed f → (carried : List Bool) × IsGreatest f (IsCarriedClosed f pre) carried
+  pub post : (f : Program) (carried : List Bool) → IsWellFormed f → (post : List Bool) × IsGreatest f (IsPostClosed f carried) post
+  pub depths : (f : Program) (members : List Bool) → IsWellFormed f → (depths : List ℕ) × IsDepths f members depths
+
+length_replicate : (n : ℕ) → length (replicate n false) ≡ n
+length_replicate zero = refl
+length_replicate (suc n) = ap suc (length_replicate n)
+
+unset : (n i : ℕ) → slice_index_or (replicate n false) i false ≡ false
+unset zero i = refl
+unset (suc n) zero = refl
+unset (suc n) (suc i) = unset n i
+
+-- a set of postprocessing has a mark for each instruction, and is apart from what is carried
+record IsApart (f : Program) (carried post : List Bool) : Type 0 where
+  count : length post ≡ length f.code
+  apart : (i : ℕ) → slice_index_or post i false ≡ true → slice_index_or carried i false ≡ false
+
+apart_post : (f : Program) (all : Bool) (carried post : List Bool) → IsPostSet f all carried post → IsApart f carried post
+apart_post f true carried post is = record { count = is.count; apart = is.closed.apart }
+apart_post f false carried post is = record {
+  count = ap (λ (m : List Bool). length m) is ∙ length_replicate (length f.code);
+  apart = λ i m. absurd (let u = ap (λ (m : List Bool). slice_index_or m i false) is ∙ unset (length f.code) i in let e : true ≡ false = sym m ∙ u in cc);
+}
+
+post_set : HasSets → (f : Program) (all : Bool) (carried : List Bool) → IsWellFormed f → (post : List Bool) × IsPostSet f all carried post
+post_set sets f true carried formed = sets.post f carried formed
+post_set sets f false carried formed = (replicate (length f.code) false, refl)
+
+module _ (f : Program) (k : ℕ) (all : Bool) (pre carried post : List Bool) (before after : List ℕ)
+    (is_pre : IsGreatest f (IsPreClosed f k) pre) (is_carried : IsGreatest f (IsCarriedClosed f pre) carried) (is_post : IsPostSet f all carried post)
+    (are_before : IsDepths f pre before) (are_after : IsDepths f post after) where
+  part : ℕ → Part
+  part i = record {
+    pre = stage_of (slice_index_or pre i false) (slice_index before i);
+    slow = slow_of (slice_index_or carried i false) (slice_index_or post i false) (slice_index after i);
+  }
+
+  joined : List Part
+  joined = listed (length f.code) part
+
+  joined_pre : pre_marks joined ≡ pre
+  unfolding joined part
+  joined_pre = marks_listed (λ (p : Part). is_some p.pre) (length f.code) part pre is_pre.count
+      (λ i. stage_there (slice_index_or pre i false) (slice_index before i))
+
+  joined_carried : carried_marks joined ≡ carried
+  unfolding joined part
+  joined_carried = marks_listed (λ (p : Part). is_carried_up p.slow) (length f.code) part carried is_carried.count
+      (λ i. carried_is (slice_index_or carried i false) (slice_index_or post i false) (slice_index after i))
+
+  joined_post : post_marks joined ≡ post
+  unfolding joined part
+  joined_post =
+      let a = apart_post f all carried post is_post in
+      marks_listed (λ (p : Part). is_some (stage_after p.slow)) (length f.code) part post a.count
+      (λ i. post_is (slice_index_or carried i false) (slice_index_or post i false) (slice_index after i) (a.apart i))
+
+  joined_before : pre_stages joined ≡ before
+  unfolding joined part
+  joined_before = numbers_listed (λ (p : Part). stage_or_zero p.pre) (length f.code) part before are_before.count
+      (λ i. stage_is (slice_index_or pre i false) (slice_index before i) (are_before.others i))
+
+  joined_after : post_stages joined ≡ after
+  unfolding joined part
+  joined_after =
+      let a = apart_post f all carried post is_post in
+      numbers_listed (λ (p : Part). stage_or_zero (stage_after p.slow)) (length f.code) part after are_after.count
+      (λ i. post_stage_is (slice_index_or carried i false) (slice_index_or post i false) (slice_index after i) (a.apart i) (are_after.others i))
+
+  joined_greatest : IsGreatestSplit f k all joined
+  joined_greatest = record {
+    pre = subst (λ (m : List Bool). IsGreatest f (IsPreClosed f k) m) (sym joined_pre) is_pre;
+    carried =
+        subst (λ (m : List Bool). IsGreatest f (IsCarriedClosed f m) (carried_marks joined)) (sym joined_pre)
+        (subst (λ (m : List Bool). IsGreatest f (IsCarriedClosed f pre) m) (sym joined_carried) is_carried);
+    post =
+        subst (λ (m : List Bool). IsPostSet f all m (post_marks joined)) (sym joined_carried)
+        (subst (λ (m : List Bool). IsPostSet f all carried m) (sym joined_post) is_post);
+    pre_depths =
+        subst (λ (m : List Bool). IsDepths f m (pre_stages joined)) (sym joined_pre)
+        (subst (λ (d : List ℕ). IsDepths f pre d) (sym joined_before) are_before);
+    post_depths =
+        subst (λ (m : List Bool). IsDepths f m (post_stages joined)) (sym joined_post)
+        (subst (λ (d : List ℕ). IsDepths f post d) (sym joined_after) are_after);
+  }
+
+  present : (split : List Part) × IsGreatestSplit f k all split
+  present = (joined, joined_greatest)
+
+pub greatest_present : HasSets → (f : Program) (k : ℕ) (all : Bool) → IsWellFormed f → (split : List Part) × IsGreatestSplit f k all split
+greatest_present sets f k all formed =
+    let pre = sets.pre f k formed in
+    let carried = sets.carried f pre.0 formed in
+    let post = post_set sets f all carried.0 formed in
+    let before = sets.depths f pre.0 formed in
+    let after = sets.depths f post.0 formed in
+    present f k all pre.0 carried.0 post.0 before.0 after.0 pre.1 carried.1 post.1 before.1 after.1
+
+-- ## What is chosen of it
+
+-- what holds of greatest splits and of limits
+pub record HasChoice : Type 0 where
+  pub some : (f : Program) (k : ℕ) (all : Bool) → IsWellFormed f → (split : List Part) × IsGreatestSplit f k all split
+  pub one : (f : Program) (k : ℕ) (all : Bool) (split other : List Part) → IsWellFormed f
+      → IsGreatestSplit f k all split → IsGreatestSplit f k all other → split ≡ other
+  pub kept : (c : Counts) (l : Limits) → (first_over c l ≡ None) ↔ Keeps c l
+
+none_or_some : (x : Option Over) → (x ≡ None) ⊎ ((over : Over) × (x ≡ Some over))
+none_or_some None = inl refl
+none_or_some (Some over) = inr (over, refl)
+
+module _ (laws : HasChoice) (f : Program) (limits : Limits) (formed : IsWellFormed f) where
+  kept_or_exceeded : (k : ℕ) (all : Bool) → ((split : List Part) × IsKept f limits k all split) ⊎ ((over : Over) × IsExceeded f limits k all over)
+  kept_or_exceeded k all =
+      let greatest = laws.some f k all formed in
+      let counts : Counts = counts_of f greatest.0 limits.writeback in
+      elim (none_or_some (first_over counts limits)) [
+        | inl none ↦ inl (greatest.0, record { greatest = greatest.1; keeps = (laws.kept counts limits).0 none })
+        | inr some ↦ inr (some.0, record { split = greatest.0; greatest = greatest.1; exceeds = some.1 })
+      ]
+
+  none_kept : (k : ℕ) (all : Bool) (over : Over) → IsExceeded f limits k all over → (other : List Part) → IsKept f limits k all other → ⊥
+  none_kept k all over exceeded other kept =
+      let first : List Part → Option Over = λ parts. first_over (counts_of f parts limits.writeback) limits in
+      let same : other ≡ exceeded.split = laws.one f k all other exceeded.split formed kept.greatest exceeded.greatest in
+      let none : first other ≡ None = (laws.kept (counts_of f other limits.writeback) limits).1 kept.keeps in
+      let some : first other ≡ Some over = ap first same ∙ exceeded.exceeds in
+      let e : Some over ≡ None = sym some ∙ none in
+      cc
+
+  either : (k : ℕ) → ((over : Over) × IsExceeded f limits k true over) → ((over : Over) × IsExceeded f limits k false over)
+      → (all : Bool) → (over : Over) × IsExceeded f limits k all over
+  either k with' without true = with'
+  either k with' without false = without
+
+  pub strict_present : ((split : List Part) × IsChosen f limits false split) ⊎ ((over : Over) × IsRefused f limits false over)
+  strict_present = kept_or_exceeded (length f.code) true
+
+  -- a split of the list is the first that keeps the limits, or each exceeds one
+  first_or_none : (n : ℕ) → ((split : List Part) × IsFirstKept f limits (shrinking n) split) ⊎ AllExceeded f limits n
+  first_or_none zero = elim (kept_or_exceeded 0 true) [
+    | inl kept ↦ inl (kept.0, inl kept.1)
+    | inr exceeded ↦ elim (kept_or_exceeded 0 false) [
+      | inl kept ↦ inl (kept.0, inr (none_kept 0 true exceeded.0 exceeded.1, inl kept.1))
+      | inr also ↦ inr (λ k all le. subst (λ j. (over : Over) × IsExceeded f limits j all over) (lowest k le) (either 0 exceeded also all))
+    ]
+  ]
+    where
+      lowest : (k : ℕ) → k ≤ 0 → 0 ≡ k
+      lowest k le = omega (arith, le)
+  first_or_none (suc n) = elim (kept_or_exceeded (suc n) true) [
+    | inl kept ↦ inl (kept.0, inl kept.1)
+    | inr exceeded ↦ elim (kept_or_exceeded (suc n) false) [
+      | inl kept ↦ inl (kept.0, inr (none_kept (suc n) true exceeded.0 exceeded.1, inl kept.1))
+      | inr also ↦ elim (first_or_none n) [
+        | inl rest ↦ inl (rest.0, inr (none_kept (suc n) true exceeded.0 exceeded.1, inr (none_kept (suc n) false also.0 also.1, rest.1)))
+        | inr rest ↦ inr (λ k all le. elim (cases_lt k (suc n)) [
+          | inl lt ↦ rest k all (omega (arith, lt))
+          | inr ge ↦
+              let same : suc n ≡ k = omega (arith, le, ge) in
+              subst (λ j. (over : Over) × IsExceeded f limits j all over) same (either (suc n) exceeded also all)
+        ])
+      ]
+    ]
+  ]
+
+  pub shrunk_present : ((split : List Part) → IsGreatestSplit f 0 false split → 2 ≤ limits.transfer_bytes → KeepsLimits f split limits)
+      → ((split : List Part) × IsChosen f limits true split) ⊎ ((limits.transfer_bytes < 2) × AllExceeded f limits (length f.code))
+  shrunk_present last = elim (first_or_none (length f.code)) [
+    | inl first ↦ inl first
+    | inr none ↦ inr (narrow none, none)
+  ]
+    where
+      narrow : AllExceeded f limits (length f.code) → limits.transfer_bytes < 2
+      narrow none = elim (cases_lt limits.transfer_bytes 2) [
+        | inl lt ↦ lt
+        | inr ge ↦
+            let s = laws.some f 0 false formed in
+            let e = none 0 false (omega arith) in
+            absurd (none_kept 0 false e.0 e.1 s.0 (record { greatest = s.1; keeps = last s.0 s.1 ge }))
+      ]
+
+  -- what isn't refused is chosen, and the other way round
+  pub unrefused_present : ((split : List Part) → IsGreatestSplit f 0 false split → 2 ≤ limits.transfer_bytes → KeepsLimits f split limits)
+      → 2 ≤ limits.transfer_bytes → (shrink : Bool) → IsUnrefused f limits shrink ↔ ((split : List Part) × IsChosen f limits shrink split)
+  unrefused_present last room false = (
+    λ none. elim strict_present [ inl chosen ↦ chosen | inr refused ↦ absurd (none refused.0 refused.1) ],
+    λ chosen over refused. none_kept (length f.code) true over refused chosen.0 chosen.1,
+  )
+  unrefused_present last room true = (
+    λ none. elim (shrunk_present last) [ inl chosen ↦ chosen | inr narrow ↦ absurd (omega (arith, room, narrow.0)) ],
+    λ chosen over refused. refused,
+  )
