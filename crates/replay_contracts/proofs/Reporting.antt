@@ -23,6 +23,7 @@ use Rattle.replay_state.specs.Run.{job_run, run_of, seen_parts, seen_store}
 use Rattle.output_commit.specs.Batches.{commands_in}
 use Rattle.replay_state.specs.State.{State, applied_commands}
 use Rattle.replay_state.specs.Step.{applies}
+use Rattle.replay_state.specs.Views.{KeepViews}
 use Rattle.replay_state.specs.Tables.{Shows}
 use Rattle.split_answers.specs.Through.{first_pair}
 use Rattle.replay_contracts.specs.Given.{Given, meaning_for, setup_for, whole, whole_runs}
@@ -75,12 +76,14 @@ module _ (x : Given) (events : List Event) where
       → is_passing (slice_get (job_run (setup_for x) (whole_runs x) (before ++ Admit ∷ behind)).fates (length (state_for x before).progress)) ≡ false
       → is_fast (slice_get (job_run (setup_for x) (whole_runs x) (before ++ Admit ∷ behind)).fates (length (state_for x before).progress))
       ≡ is_some ((whole_runs x).pre (seen_store (state_for x before)) (length (state_for x before).progress)))
+      → ((before : List Event) → KeepViews (setup_for x) (state_for x before))
       → Promises x events run
-  promises serial released drained fast = record {
+  promises serial released drained fast views = record {
     is = refl;
     serialises = serial;
     released = released;
     drained = drained;
+    views = λ before behind is. views before;
     fast = λ before behind is t passing.
         let n = length (state_for x before).progress in
         let same : run ≡ job_run (setup_for x) (whole_runs x) (before ++ Admit ∷ behind) = ap (job_run (setup_for x) (whole_runs x)) is in

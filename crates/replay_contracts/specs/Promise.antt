@@ -16,6 +16,7 @@ use Rattle.replay_state.specs.Run.{job_run, run_of, seen_store}
 use Rattle.output_commit.specs.Batches.{commands_in}
 use Rattle.replay_state.specs.State.{State}
 use Rattle.replay_state.specs.Step.{applies, state_of}
+use Rattle.replay_state.specs.Views.{KeepViews}
 use Rattle.replay_contracts.specs.Called.{KeepsCalls}
 use Rattle.replay_contracts.specs.Given.{Given, whole, setup_for, whole_runs, meaning_for}
 
@@ -46,6 +47,8 @@ pub record Promises (x : Given) (events : List Event) (run : Run) : Type 0 where
   pub released : IsTrue (is_quiet (state_for x events)) → AllReleased (meaning_for x) run
   -- and where the run says `drained`, so was every packet of the trace
   pub drained : run.drained ≡ true → IsDrained (meaning_for x) run
+  -- after each event, each pass that is under way sees the replicated objects of the version with which it entered
+  pub views : (before behind : List Event) → events ≡ before ++ behind → KeepViews (setup_for x) (state_for x before)
   -- each packet whose preprocessing has ended is fast just where it is over the store that lookups saw as it came in
   pub fast : (before behind : List Event) → events ≡ before ++ Admit ∷ behind
       → applies (setup_for x) (state_for x before) Admit ≡ true

@@ -1,17 +1,20 @@
 -- A replayer as contracts see it, and what its calls do. Each clause speaks of every list of calls and every state that
 -- are a replay of its events over its port.
-use Rattle.std.specs.Prelude.{◌≡◌, ◌≤◌, ◌+◌, ℕ, Bool, true, false, List, [], ◌∷◌, ◌++◌, length}
+use Rattle.std.specs.Prelude.{◌≡◌, ◌⊎◌, ◌≤◌, ◌+◌, ℕ, Bool, true, false, List, [], ◌∷◌, ◌++◌, length}
 use Rattle.std.specs.Prelude.{Option, Some, None, is_some}
 use Rattle.gal_io.specs.Count.{IsCountedIf}
 use Rattle.flat_ir.specs.Program.{program_of}
 use Rattle.state_store.specs.Store.{start_store}
 use Rattle.run_model.specs.declared.event.Event.{Event}
-use Rattle.switch_ir.specs.Port.{PortState}
+use Rattle.run_model.specs.Serialises.{IsDrained}
+use Rattle.switch_ir.specs.Port.{PortState, IsAsBefore, Loads}
 use Rattle.switch_ir.specs.Tables.{Told}
 use Rattle.switch_ir.specs.declared.journal.Entry.{Entry}
+use Rattle.switch_ir.specs.declared.port.PortEnd.TheVariants.{Done}
 use Rattle.replay_state.specs.Drain.{drain_bound, is_quiet, plan_events}
 use Rattle.replay_state.specs.Journal.{Call, EndOnce}
 use Rattle.replay_state.specs.Program.{manner_of}
+use Rattle.replay_state.specs.Run.{run_of}
 use Rattle.replay_state.specs.State.{State, first_state}
 use Rattle.replay_state.specs.Step.{applies, step}
 use Rattle.split_answers.specs.Through.{HasTables}
@@ -22,7 +25,7 @@ use Rattle.replay_contracts.specs.declared.job.ReplayError.{ReplayError}
 use Rattle.replay_contracts.specs.declared.job.ReplayError.TheVariants as errors
 use Rattle.replay_contracts.specs.declared.job.Stepped.{Stepped}
 use Rattle.replay_contracts.specs.declared.job.Stepped.TheVariants.{Did, Idle}
-use Rattle.replay_contracts.specs.Given.{Given, IsReady, setup_for, whole_runs}
+use Rattle.replay_contracts.specs.Given.{Given, IsReady, code_for, meaning_for, setup_for, whole_runs}
 use Rattle.replay_contracts.specs.Promise.{Promises, Reports, state_for}
 use Rattle.replay_contracts.specs.Replay.{HasDrained, HasPicked, IsReplay, answered}
 
@@ -89,7 +92,18 @@ pub record HasStepped (old : Replayer) (event : Event) (stepped : Stepped) (new 
 
 -- ## Drain
 
--- so many events more, each the one that drain picks, until the run is drained
+-- What a drained run promises, by the state at its end: one call has ended each pass. Over a port that tells its tables
+-- it keeps its promises, every packet of the trace was released with its verdict, and the switch has the tables of the
+-- server.
+pub record HasSettled (x : Given) (events : List Event) (calls : List Call) (last : State) (port : PortState)
+    : Type 0 where
+  pub once : EndOnce calls last
+  pub promises : (tables : Told) → port.told ≡ Some tables → Promises x events (run_of (setup_for x) last)
+  pub drained : (tables : Told) → port.told ≡ Some tables → IsDrained (meaning_for x) (run_of (setup_for x) last)
+  pub tables : (tables : Told) → port.told ≡ Some tables
+      → HasTables x.program x.split x.writeback last.store tables
+
+-- so many events more, each the one that drain picks, until the run is drained, with what that promises
 pub record HasEmptied (old : Replayer) (count : ℕ) (new : Replayer) : Type 0 where
   pub given : new.given ≡ old.given
   pub more : List Event
@@ -102,6 +116,7 @@ pub record HasEmptied (old : Replayer) (count : ℕ) (new : Replayer) : Type 0 w
       → (others : List Call) × (last : State)
       × HasPicked old.given old.events more (calls ++ others) last new.port
       × HasDrained old.given old.events more (calls ++ others) last new.port
+      × HasSettled old.given (old.events ++ more) (calls ++ others) last new.port
 
 -- ## Report
 
@@ -148,6 +163,24 @@ pub record HasFailed (old : Replayer) (error : ReplayError) (new : Replayer) : T
 pub record Repeats (old : Replayer) (error : ReplayError) (new : Replayer) : Type 0 where
   pub failed : old.failed ≡ Some error
   pub same : new ≡ old
+
+-- ## A replay that breaks
+
+-- it breaks before its code is loaded: the port is as it was, but for the count of faults
+pub record HasNotBegun (error : ReplayError) (old new : PortState) : Type 0 where
+  pub port : IsAsBefore old new
+  pub fault : CountsFault error old new
+
+-- it breaks behind that: the port was loaded with the code of what is replayed, which it keeps, and may have been
+-- called more
+pub record HasBrokenOff (x : Given) (error : ReplayError) (old new : PortState) : Type 0 where
+  pub begun : PortState
+  pub loads : Loads Done (code_for x) old begun
+  pub fails : Fails error begun new
+
+-- what an error leaves of the port of a replay, from its start on
+abbrev pub HasBroken : Given → ReplayError → PortState → PortState → Type 0
+HasBroken x error old new = HasNotBegun error old new ⊎ HasBrokenOff x error old new
 
 -- ## A whole replay
 

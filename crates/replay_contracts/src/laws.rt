@@ -117,6 +117,7 @@ pub fn a_run_keeps_its_promises()
 {
     a_packet_is_fast_by_what_is_seen();
     every_run_serialises();
+    passes_keep_their_views();
     split_programs_have_their_laws();
     whole_runs_are_sound();
 }

@@ -27,7 +27,7 @@ use Rattle.replay_contracts.specs.declared.job.Stepped.{Stepped}
 use Rattle.replay_course.specs.declared.course.Course.{Course}
 use Rattle.replay_course.specs.Going.{HasTurned, IsGoing, IsPrepared, IsSound, MayCall}
 use Rattle.replay_course.specs.Shown.{IsShown}
-use Rattle.replay_course.specs.UnderWay.{IsDrained, IsDraining, IsOnItsWay, course_left, picked_by}
+use Rattle.replay_course.specs.UnderWay.{Drains, IsDraining, IsOnItsWay, course_left, picked_by}
 use Rattle.replay_course.proofs.Calling.{stays_all, stays_more}
 use Rattle.replay_course.proofs.Lists.{each_at, length_map, length_push}
 use Rattle.replay_course.proofs.Room.{FindsRoom, SplitLaws, is_split_program}
@@ -182,7 +182,7 @@ drains_more on_law more_law x count event stepped c mid after old port new drain
 }
 
 pub has_drained : EndLaw → (x : Given) (count : ℕ) (c after : Course) (old new : PortState) → IsDraining x count c old after new
-    → PickLaw x after None → IsDrained x count c old after new
+    → PickLaw x after None → Drains x count c old after new
 has_drained law x count c after old new draining picks = record {
   going = draining.going;
   stays = draining.stays;

@@ -1,5 +1,5 @@
 -- What an error leaves of a port.
-use Rattle.std.proofs.Common.{◌≡◌, ℕ, Bool, true, false, List, [], ◌∷◌, ◌++◌, refl, sym, ap, subst, ◌∙◌, arith, map}
+use Rattle.std.proofs.Common.{◌≡◌, ℕ, Bool, true, false, List, [], ◌∷◌, ◌++◌, inl, inr, refl, sym, ap, subst, ◌∙◌, arith, map}
 use Rattle.std.specs.Prelude.{is_some}
 use Rattle.std.proofs.lemmas.List.{append_assoc, append-nil}
 use Rattle.std.proofs.lemmas.List.Elements.{filter-append}
@@ -20,13 +20,13 @@ use Rattle.switch_ir.specs.declared.port.UpEnd.{UpEnd}
 use Rattle.replay_state.specs.Journal.{Call, question_of}
 use Rattle.replay_contracts.specs.Called.{HasCalls, KeepsCalls, WasMade, calls_in, entry_of, is_of_replay, journal_of}
 use Rattle.replay_contracts.specs.Given.{Given, code_for}
-use Rattle.replay_contracts.specs.Replayer.{Fails, StaysTold, is_port_fault}
+use Rattle.replay_contracts.specs.Replayer.{Fails, HasBroken, StaysTold, is_port_fault}
 use Rattle.replay_contracts.specs.declared.job.ReplayError.{ReplayError}
 use Rattle.replay_contracts.specs.declared.job.ReplayError.TheVariants as errors
 use Rattle.replay_course.specs.declared.course.Course.{Course}
 use Rattle.replay_course.specs.Going.{TakesDown, TakesUp}
 use Rattle.replay_course.specs.UnderWay.{HasGone, IsDraining, IsOnItsWay, IsUnderWay}
-use Rattle.replay_course.proofs.Calling.{kept_stays, made, made_stays}
+use Rattle.replay_course.proofs.Calling.{keeps_all, kept_stays, made, made_stays}
 
 pub keeps_more : (old mid new : PortState) → KeepsCalls old mid → KeepsCalls mid new → KeepsCalls old new
 keeps_more old mid new one two = record {
@@ -173,12 +173,6 @@ fails_room commands old new room = fails_still errors.PortFault true old new ref
 pub no_room : (commands : ℕ) (old new : PortState) → MakesRoom port.NoMemory commands old new → Fails errors.NoMemory old new
 no_room commands old new room = fails_still errors.NoMemory false old new refl room.kept room.room room.faults
 
-pub fails_load : (code : Code) (old new : PortState) → Loads port.Failed code old new → Fails errors.PortFault old new
-fails_load code old new loads = fails_still errors.PortFault true old new refl loads.state.kept loads.state.journal loads.faults
-
-pub no_load : (code : Code) (old new : PortState) → Loads port.NoMemory code old new → Fails errors.NoMemory old new
-no_load code old new loads = fails_still errors.NoMemory false old new refl loads.state.kept loads.state.journal loads.faults
-
 pub fails_command : (c : Command) (old new : PortState) → Commands command.Failed c old new → Fails errors.PortFault old new
 fails_command c old new commands = record {
   code = commands.code;
@@ -189,3 +183,23 @@ fails_command c old new commands = record {
   );
   fault = commands.faults;
 }
+
+-- ## The start
+
+-- there was no memory before the port was called
+pub not_begun : (x : Given) (first : PortState) → HasBroken x errors.NoMemory first first
+not_begun x first = inl (record {
+  port = record {
+    kept = record { code = refl; told = refl; passes = refl; spare = omega arith };
+    journal = refl;
+  };
+  fault = refl;
+})
+
+-- there was none behind the load
+pub broken_off : (x : Given) (first begun : PortState) → Loads port.Done (code_for x) first begun → HasBroken x errors.NoMemory first begun
+broken_off x first begun loads = inr (record {
+  begun = begun;
+  loads = loads;
+  fails = fails_there begun begun (goes_kept begun begun (keeps_all begun));
+})

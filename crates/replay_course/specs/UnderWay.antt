@@ -83,7 +83,7 @@ pub record IsDraining (x : Given) (count : ℕ) (c : Course) (old : PortState) (
   pub turns : (events : List Event) (calls : List Call) (st : State)
       → IsReplay x events calls st old → IsShown (whole x) calls st c → HasPickedOn x events calls count after new
 
-pub record IsDrained (x : Given) (count : ℕ) (c : Course) (old : PortState) (after : Course) (new : PortState)
+pub record Drains (x : Given) (count : ℕ) (c : Course) (old : PortState) (after : Course) (new : PortState)
     : Type 0 where
   pub going : IsGoing x after new
   pub stays : StaysTold old new

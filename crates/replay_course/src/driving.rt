@@ -7,7 +7,7 @@ ghost use Rattle.replay_contracts.specs.Given.{Given, setup_for, whole};
 ghost use Rattle.replay_contracts.specs.Replayer.{Fails, given_of};
 ghost use Rattle.replay_course.specs.Going.{IsPrepared, IsSound};
 ghost use Rattle.replay_course.specs.Shown.{IsShown};
-ghost use Rattle.replay_course.specs.UnderWay.{HasGone, IsDrained, IsOnItsWay, IsUnderWay, course_left, picked_by};
+ghost use Rattle.replay_course.specs.UnderWay.{HasGone, Drains, IsOnItsWay, IsUnderWay, course_left, picked_by};
 
 use crate::course::Course;
 use crate::laws::the_next_calls_may_be_made;
@@ -87,7 +87,7 @@ impl Course {
         requires on_its_way { IsOnItsWay (given_of job.now) self.old (S.seen port.old) }
         requires few { self.old.events + course_left (given_of job.now) self.old < 2 ^ 32 - 1 }
         ensures drained { IfOk result (λ count.
-            IsDrained (given_of job.now) count self.old (S.seen port.old) self.new (S.seen port.new)) }
+            Drains (given_of job.now) count self.old (S.seen port.old) self.new (S.seen port.new)) }
         ensures left { IfOk result (λ count.
             count + course_left (given_of job.now) self.new ≤ course_left (given_of job.now) self.old) }
         ensures fails { IfErr result (λ e. Fails e (S.seen port.old) (S.seen port.new)) }

@@ -6,7 +6,8 @@ ghost use Rattle.switch_ir.specs.Emitted.{IsEmitted};
 ghost use Rattle.split_model.specs.Bounds.{HasFewStages};
 ghost use Rattle.switch_ir.specs.Port.{Loads};
 ghost use Rattle.split_answers.specs.Whole.{IsSplit};
-ghost use Rattle.replay_contracts.specs.Replayer.{CountsFault, Fails, given_of};
+ghost use Rattle.replay_contracts.specs.Given.{code_for};
+ghost use Rattle.replay_contracts.specs.Replayer.{CountsFault, HasBroken, HasNotBegun, given_of};
 ghost use Rattle.replay_course.specs.Going.{most_commands};
 ghost use Rattle.replay_course.specs.UnderWay.{HasGone};
 
@@ -34,7 +35,7 @@ fn stages_in(fine: bool, code: &SwitchCode) -> (u32, u32)
 fn load<S: SwitchPort>(alloc: Global, port: &mut S, code: &SwitchCode) -> Result<(), ReplayError>
     requires { IsEmitted (code_of code.now) }
     ensures loads { OnOk result (Loads PortEnd.Done (code_of code.now) (S.seen port.old) (S.seen port.new)) }
-    ensures fails { IfErr result (λ e. Fails e (S.seen port.old) (S.seen port.new)) }
+    ensures fails { IfErr result (λ e. HasNotBegun e (S.seen port.old) (S.seen port.new)) }
 {
     match port.load(alloc, code) {
         PortEnd::Done => Ok(()),
@@ -44,7 +45,8 @@ fn load<S: SwitchPort>(alloc: Global, port: &mut S, code: &SwitchCode) -> Result
 }
 
 impl Course {
-    /// Loads the switch with the code of a job. No event has happened yet.
+    /// Loads the switch with the code of a job. No event has happened yet. After an error the switch is as it was, or has
+    /// that code.
     pub fn start<S: SwitchPort>(
         alloc: Global,
         job: &Job,
@@ -56,8 +58,11 @@ impl Course {
         requires few { length job.now.packets * most_commands (given_of job.now) < 2 ^ 32 }
         ensures started { IfOk result (λ course.
             HasGone (given_of job.now) [] course (S.seen port.old) (S.seen port.new)) }
+        ensures loads { OnOk result
+            (Loads PortEnd.Done (code_for (given_of job.now)) (S.seen port.old) (S.seen port.new)) }
         ensures stays { is_some (S.seen port.new).told ≡ is_some (S.seen port.old).told }
         ensures fault { IfErr result (λ e. CountsFault e (S.seen port.old) (S.seen port.new)) }
+        ensures fails { IfErr result (λ e. HasBroken (given_of job.now) e (S.seen port.old) (S.seen port.new)) }
     {
         a_replay_begins();
         let _ = job.packets.as_slice();

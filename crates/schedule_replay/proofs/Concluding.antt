@@ -1,13 +1,14 @@
 -- A whole replay, from its start to what is reported.
-use Rattle.std.proofs.Common.{◌≡◌, ◌<◌, ◌≤◌, ◌+◌, ◌-◌, ◌^◌, ◌++◌, ℕ, Bool, true, false, List, Option, Some, None, refl, sym, ap, subst, ◌∙◌, arith, length}
+use Rattle.std.proofs.Common.{◌≡◌, ◌⊎◌, ◌<◌, ◌≤◌, ◌+◌, ◌-◌, ◌^◌, ◌++◌, ℕ, Bool, true, false, List, Option, Some, None, inr, refl, sym, ap, subst, ◌∙◌, arith, length}
 use Rattle.std.specs.Prelude.{IsSome, IsTrue}
 use Rattle.std.specs.Result.{IfOk, IfErr}
 use Rattle.std.specs.Prelude.{Result, Ok, Err}
 use Rattle.gal_io.specs.Count.{IsCountedIf, count_after}
 use Rattle.run_model.specs.declared.event.Event.{Event}
 use Rattle.run_model.specs.declared.run.Run.{Run}
-use Rattle.switch_ir.specs.Port.{PortState}
+use Rattle.switch_ir.specs.Port.{PortState, Loads}
 use Rattle.switch_ir.specs.Tables.{Told}
+use Rattle.switch_ir.specs.declared.port.PortEnd.TheVariants.{Done}
 use Rattle.split_answers.specs.Through.{HasTables}
 use Rattle.split_answers.specs.UnderWay.{AreOnSwitch}
 use Rattle.packet_fields.specs.declared.packet.Packet.{Packet}
@@ -17,17 +18,17 @@ use Rattle.replay_state.specs.Journal.{Call, EndOnce, IsAnswered}
 use Rattle.replay_state.specs.Program.{SplitProgram}
 use Rattle.replay_state.specs.Run.{job_run}
 use Rattle.replay_state.specs.State.{State}
-use Rattle.replay_contracts.specs.Called.{KeepsCalls}
-use Rattle.replay_contracts.specs.Given.{Given, IsReady, setup_for, whole, whole_runs}
+use Rattle.replay_contracts.specs.Called.{HasCalls, KeepsCalls, calls_in, journal_of}
+use Rattle.replay_contracts.specs.Given.{Given, IsReady, code_for, setup_for, whole, whole_runs}
 use Rattle.replay_contracts.specs.Promise.{Promises, Reports, state_for}
 use Rattle.replay_contracts.specs.Replay.{IsReplay, IsTold, answered}
-use Rattle.replay_contracts.specs.Replayer.{IsReported, IsRunOf, is_port_fault}
+use Rattle.replay_contracts.specs.Replayer.{Fails, HasBroken, IsReported, IsRunOf, StaysTold, is_port_fault}
 use Rattle.replay_contracts.specs.declared.job.Replayed.{Replayed}
 use Rattle.replay_contracts.specs.declared.job.ReplayError.{ReplayError}
 use Rattle.replay_course.specs.declared.course.Course.{Course}
 use Rattle.replay_course.specs.Going.{IsGoing, IsPrepared}
 use Rattle.replay_course.specs.Shown.{IsShown}
-use Rattle.replay_course.specs.UnderWay.{IsDrained, IsUnderWay, course_left}
+use Rattle.replay_course.specs.UnderWay.{Drains, IsUnderWay, course_left}
 use Rattle.schedule_replay.specs.Ended.{HasEnded}
 
 -- ## The laws that are used
@@ -68,7 +69,7 @@ few_to_drain bound left x events c port u packets few =
     (left x events u.calls u.st c port u.replay u.shown u.going) (bound x u.going.prepared packets)
 
 pub ended_drained : (x : Given) (events : List Event) (drain : Bool) (count : ℕ) (c after : Course) (old new : PortState) → drain ≡ true
-    → IsUnderWay x events c old → IsDrained x count c old after new → HasEnded x events drain after old new
+    → IsUnderWay x events c old → Drains x count c old after new → HasEnded x events drain after old new
 ended_drained x events drain count c after old new is u done =
     let all = done.turns events u.calls u.st u.replay u.shown in
     let on = all.on in
@@ -172,6 +173,33 @@ is_run_of run_law promise_law quiet_law x events drain c first port new replayed
 -- what an error counts behind calls of which none failed, it counts over all of them
 pub counts_behind : (e : ReplayError) (first old new : ℕ) → old ≡ first → IsCountedIf (is_port_fault e) old new → IsCountedIf (is_port_fault e) first new
 counts_behind e first old new same counts = counts ∙ ap (count_after (is_port_fault e)) same
+
+-- what an error leaves behind the calls of a replay, it leaves behind the load
+pub broken_behind : (x : Given) (e : ReplayError) (calls : List Call) (first begun port new : PortState) → Loads Done (code_for x) first begun
+    → HasCalls (code_for x) calls port → StaysTold begun port → Fails e port new → HasBroken x e first new
+broken_behind x e calls first begun port new loads called stays fails =
+    let more = fails.journal.0 in
+    inr (record {
+      begun = begun;
+      loads = loads;
+      fails = record {
+        code = fails.code ∙ called.loaded ∙ sym loads.state.code;
+        told = fails.told ∙ stays.told;
+        journal = (
+          journal_of calls ++ more,
+          fails.journal.1 ∙ ap (λ l. l ++ more) called.journal
+              ∙ sym (ap (λ l. l ++ (journal_of calls ++ more)) (ap calls_in loads.state.journal)),
+        );
+        fault = counts_behind e begun.faults port.faults new.faults stays.faults fails.fault;
+      };
+    })
+
+pub broken_at_once : (x : Given) (e : ReplayError) (first begun new : PortState) → Loads Done (code_for x) first begun → Fails e begun new
+    → HasBroken x e first new
+broken_at_once x e first begun new loads fails = inr (record { begun = begun; loads = loads; fails = fails })
+
+pub stays_more : (a b c : PortState) → StaysTold a b → StaysTold b c → StaysTold a c
+stays_more a b c one two = record { told = two.told ∙ one.told; faults = two.faults ∙ one.faults }
 
 -- what follows from both ends follows
 pub either_way : {T E : Type 0} (r : Result T E) (P : T → Type 0) (Q : E → Type 0) (Z : Type 0) → IfOk r P → IfErr r Q → ((y : T) → P y → Z)

@@ -1,27 +1,29 @@
 -- A replayer goes on.
-use Rattle.std.proofs.Common.{◌≡◌, ◌<◌, ◌≤◌, ◌+◌, ◌-◌, ◌^◌, ℕ, List, [], ◌∷◌, ◌++◌, Option, Some, None, refl, sym, ap, subst, ◌∙◌, arith, length, map}
+use Rattle.std.proofs.Common.{◌≡◌, ◌<◌, ◌≤◌, ◌+◌, ◌-◌, ◌^◌, ◌&&◌, ℕ, Bool, true, false, List, [], ◌∷◌, ◌++◌, Option, Some, None, refl, sym, ap, subst, ◌∙◌, arith, length, map}
 use Rattle.std.specs.Prelude.{is_some}
 use Rattle.std.proofs.lemmas.Option.{none-some}
 use Rattle.run_model.specs.declared.event.Event.{Event}
 use Rattle.switch_ir.specs.Port.{PortState}
-use Rattle.replay_state.specs.Drain.{drain_bound}
+use Rattle.switch_ir.specs.Tables.{Told}
+use Rattle.replay_state.specs.Drain.{drain_bound, is_drained, is_quiet}
 use Rattle.replay_state.specs.Journal.{Call, asked, question_of}
+use Rattle.replay_state.specs.Run.{run_of}
 use Rattle.replay_state.specs.State.{State}
 use Rattle.replay_state.specs.Step.{step}
 use Rattle.replay_contracts.specs.Called.{WasCalled}
 use Rattle.replay_contracts.specs.Given.{Given, IsReady, code_for, setup_for, whole}
 use Rattle.replay_contracts.specs.Promise.{Promises}
 use Rattle.replay_contracts.specs.Replay.{HasDrained, HasPicked, IsReplay, answered}
-use Rattle.replay_contracts.specs.Replayer.{Fails, HasEmptied, HasFailed, HasReported, HasStepped, IsNew}
+use Rattle.replay_contracts.specs.Replayer.{Fails, HasEmptied, HasFailed, HasReported, HasSettled, HasStepped, IsNew}
 use Rattle.replay_contracts.specs.declared.job.Replayed.{Replayed}
 use Rattle.replay_contracts.specs.declared.job.ReplayError.{ReplayError}
 use Rattle.replay_contracts.specs.declared.job.Stepped.{Stepped}
 use Rattle.replay_course.specs.declared.course.Course.{Course}
 use Rattle.replay_course.specs.Going.{HasTurned, IsGoing, MayCall}
 use Rattle.replay_course.specs.Shown.{IsShown}
-use Rattle.replay_course.specs.UnderWay.{HasGone, IsDrained, IsOnItsWay, course_left}
+use Rattle.replay_course.specs.UnderWay.{HasGone, Drains, IsOnItsWay, course_left}
 use Rattle.schedule_replay.specs.Replayer.{IsKept, IsPerforming, view_of}
-use Rattle.schedule_replay.proofs.Concluding.{BoundLaw, LeftLaw, PromiseLaw, ReportsOf, RunLaw, kept_replay}
+use Rattle.schedule_replay.proofs.Concluding.{BoundLaw, LeftLaw, OnceLaw, PromiseLaw, QuietLaw, ReportsOf, RunLaw, kept_replay}
 
 -- ## The laws that are used
 
@@ -207,12 +209,12 @@ counted_on a b n more count is before counted = omega arith
 
 -- the events that drain picked, behind these
 abbrev pub drained_more : (x : Given) (events : List Event) (count : ℕ) (c after : Course) (old new : PortState) (steps : ℕ)
-    → IsDrained x count c old after new → IsPerforming x events c old steps → List Event
+    → Drains x count c old after new → IsPerforming x events c old steps → List Event
 drained_more x events count c after old new steps done now =
     let u = now.under_way in (done.turns events u.calls u.st u.replay u.shown).on.more
 
 pub drain_performs : (x : Given) (events : List Event) (count : ℕ) (c after : Course) (old new : PortState) (steps : ℕ)
-    (done : IsDrained x count c old after new) → count + course_left x after ≤ course_left x c → (now : IsPerforming x events c old steps)
+    (done : Drains x count c old after new) → count + course_left x after ≤ course_left x c → (now : IsPerforming x events c old steps)
     → IsPerforming x (events ++ drained_more x events count c after old new steps done now) after new steps
 drain_performs x events count c after old new steps done less now =
     let u = now.under_way in
@@ -229,11 +231,27 @@ drain_performs x events count c after old new steps done less now =
       left = drained_left _ _ _ count (course_left x c) (course_left x after) steps _ (length_join events on.more) on.counted less now.left;
     }
 
-pub has_emptied : OneLaw → (x : Given) (events : List Event) (count : ℕ) (c after : Course) (old new : PortState) (steps : ℕ) (failed : Option ReplayError)
-    → failed ≡ None → (done : IsDrained x count c old after new) (now : IsPerforming x events c old steps)
+right_of : (a b : Bool) → (a && b) ≡ true → b ≡ true
+right_of true b h = h
+right_of false b h = cc
+
+pub settled : OnceLaw → PromiseLaw → QuietLaw → (x : Given) (events : List Event) (calls : List Call) (last : State) (port : PortState) → IsReady x
+    → IsReplay x events calls last port → is_drained (setup_for x) last ≡ true → HasSettled x events calls last port
+settled once promise_law quiet_law x events calls last port ready replay drained =
+    let promises : (tables : Told) → port.told ≡ Some tables → Promises x events (run_of (setup_for x) last) =
+    λ tables is. subst (λ (st : State). Promises x events (run_of (setup_for x) st)) (sym (replay.told tables is).tied.same) (promise_law x events ready) in
+    record {
+      once = once (setup_for x) (whole x) x.packets events calls last replay.answered;
+      promises = promises;
+      drained = λ tables is. (promises tables is).drained drained;
+      tables = λ tables is. quiet_law x events calls last port tables ready replay is (right_of _ (is_quiet last) drained);
+    }
+
+pub has_emptied : OneLaw → OnceLaw → PromiseLaw → QuietLaw → (x : Given) (events : List Event) (count : ℕ) (c after : Course) (old new : PortState) (steps : ℕ) (failed : Option ReplayError)
+    → failed ≡ None → (done : Drains x count c old after new) (now : IsPerforming x events c old steps)
     → HasEmptied (view_of x events steps old failed) count
     (view_of x (events ++ drained_more x events count c after old new steps done now) steps new failed)
-has_emptied one x events count c after old new steps failed none done now =
+has_emptied one once promise_law quiet_law x events count c after old new steps failed none done now =
     let u = now.under_way in
     let all = done.turns events u.calls u.st u.replay u.shown in
     let on = all.on in
@@ -246,16 +264,19 @@ has_emptied one x events count c after old new steps failed none done now =
       failed = none;
       stays = done.stays;
       next = λ calls st is.
-          let same = (one x events u.calls calls u.st st old u.going.prepared.ready u.replay is).0 in (
+          let ready = u.going.prepared.ready in
+          let same = (one x events u.calls calls u.st st old ready u.replay is).0 in (
             on.others,
             on.last,
             subst (λ cs. HasPicked x events on.more (cs ++ on.others) on.last new) same on.picked,
             subst (λ cs. HasDrained x events on.more (cs ++ on.others) on.last new) same all.drained,
+            subst (λ cs. HasSettled x (events ++ on.more) (cs ++ on.others) on.last new) same
+                (settled once promise_law quiet_law x (events ++ on.more) (u.calls ++ on.others) on.last new ready on.picked.replay all.drained.drained),
           );
     }
 
 pub drain_stands : (x : Given) (count : ℕ) (c after : Course) (old new : PortState) (steps : ℕ) (failed : Option ReplayError) → failed ≡ None
-    → IsDrained x count c old after new → count + course_left x after ≤ course_left x c → IsKept x c old steps failed → IsKept x after new steps failed
+    → Drains x count c old after new → count + course_left x after ≤ course_left x c → IsKept x c old steps failed → IsKept x after new steps failed
 drain_stands x count c after old new steps failed none done less stands =
     let now = stands.performed none in
     stands_by x (stands.events ++ drained_more x stands.events count c after old new steps done now) after new steps failed stands.few_packets stands.within

@@ -4,7 +4,7 @@ ghost use Rattle.flat_ir.specs.Program.{program_of};
 ghost use Rattle.run_model.specs.Sizes.{most_events, most_packets};
 ghost use Rattle.split_model.specs.Bounds.{HasFewStages};
 ghost use Rattle.split_answers.specs.Whole.{IsSplit};
-ghost use Rattle.replay_contracts.specs.Replayer.{CountsFault, Fails, IsReported, IsRunOf, given_of};
+ghost use Rattle.replay_contracts.specs.Replayer.{CountsFault, Fails, HasBroken, IsReported, IsRunOf, given_of};
 ghost use Rattle.replay_course.specs.UnderWay.{IsUnderWay};
 ghost use Rattle.schedule_replay.specs.Ended.{HasEnded};
 
@@ -40,7 +40,8 @@ fn conclude<S: SwitchPort>(
 
 /// Replays a job over a switch: loads its code, performs the job's events and, where the job asks for it, the events that
 /// drain the run. After Ok no call of the switch failed. After an error exactly one call failed, or none where memory ran
-/// out, and the switch tells its tables where it told them before; the clauses say nothing else of it.
+/// out, and the switch tells its tables where it told them before. Either it is as it was, since its code was never
+/// loaded; or it has that code, and its journal has the load and what was called behind it.
 pub fn replay<S: SwitchPort>(
     alloc: Global,
     job: &Job,
@@ -58,6 +59,7 @@ pub fn replay<S: SwitchPort>(
     ensures stays { is_some (S.seen port.new).told ≡ is_some (S.seen port.old).told }
     ensures no_fault { OnOk result ((S.seen port.new).faults ≡ (S.seen port.old).faults) }
     ensures fault { IfErr result (λ e. CountsFault e (S.seen port.old) (S.seen port.new)) }
+    ensures fails { IfErr result (λ e. HasBroken (given_of job.now) e (S.seen port.old) (S.seen port.new)) }
 {
     a_quiet_switch_has_the_servers_tables();
     a_run_is_answered_by_its_calls();

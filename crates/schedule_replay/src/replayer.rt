@@ -16,10 +16,12 @@ ghost use Rattle.replay_course.specs.UnderWay.{HasGone};
 
 use gal_io::{Bytes, NoMemory};
 use replay_contracts::{
-    Job, ReplayError, Replayed, Stepped, a_journal_determines_its_replay, a_replay_goes_on,
-    a_run_keeps_its_promises, a_told_replay_reports_the_run,
+    Job, ReplayError, Replayed, Stepped, a_journal_determines_its_replay,
+    a_quiet_switch_has_the_servers_tables, a_replay_goes_on, a_run_keeps_its_promises,
+    a_told_replay_reports_the_run,
 };
 use replay_course::{Course, few_events_are_left, the_next_calls_may_be_made};
+use replay_state::a_run_is_answered_by_its_calls;
 use run_model::{Event, Events};
 use std::alloc::Global;
 use switch_ir::SwitchPort;
@@ -158,7 +160,8 @@ impl<S: SwitchPort> Replayer<S> {
     }
 
     /// The events that end a run, one after the other, until every packet of the trace is released and nothing is on
-    /// its way. The answer is their number.
+    /// its way. The answer is their number. One call of the switch has ended each pass then. Where it tells its tables,
+    /// each packet was released with its verdict, and the tables are those of the server.
     pub fn drain(&mut self) -> Result<u64, ReplayError>
         requires stands { IsStanding S.seen self.old }
         ensures emptied { IfOk result (λ count. (events : List Event) → HasPerformed S.seen events self.old
@@ -176,6 +179,9 @@ impl<S: SwitchPort> Replayer<S> {
         ensures same { (e : ReplayError) → (seen_as S.seen [] self.old).failed ≡ Some e → self.new ≡ self.old }
     {
         a_journal_determines_its_replay();
+        a_quiet_switch_has_the_servers_tables();
+        a_run_is_answered_by_its_calls();
+        a_run_keeps_its_promises();
         few_events_are_left();
         if let Some(error) = self.failed {
             return Err(error);

@@ -11,3 +11,4 @@ returns c x events ready =
     let say = c.every_run_serialises.ensures in
     promises x events (say.serialises setup a events sound) (say.quiet setup a events sound) (say.drained setup a events sound)
     (λ before behind. c.a_packet_is_fast_by_what_is_seen.ensures.settled setup a before behind)
+    (λ before. c.passes_keep_their_views.ensures setup a before sound)

@@ -2,7 +2,7 @@ use Rattle.std.proofs.Common.{◌≡◌, ◌∙◌, ap}
 use Rattle.std.specs.Prelude.{is_some}
 use Rattle.std.proofs.lemmas.Result.{err_from_is_err_and, IfErr-weaker, IfOk-weaker}
 use Rattle.replay_contracts.specs.Replayer.{Fails, IsReported, IsRunOf, given_of}
-use Rattle.schedule_replay.proofs.Concluding.{ReportsOf, counts_behind, either_way, is_reported, is_run_of}
+use Rattle.schedule_replay.proofs.Concluding.{ReportsOf, broken_at_once, broken_behind, counts_behind, either_way, is_reported, is_run_of, stays_more}
 use Rattle.schedule_replay.proofs.perform.replay.Goals as goal
 
 pub start-requires-clause-few : goal.start-requires-clause-few
@@ -66,3 +66,28 @@ pub returns-in_err-perform-clause-fault : goal.returns-in_err-perform-clause-fau
 returns-in_err-perform-clause-fault g c =
     let p = err_from_is_err_and c.from_residual-in_err-perform.result c.from_residual-in_err-perform.ensures.1 in
     rw (p.1, p.2) (counts_behind _ _ _ _ c.in_ok-course.ensures.started.stays.faults c.in_err-perform.ensures.fails.fault)
+
+pub returns-clause-fails : goal.returns-clause-fails
+returns-clause-fails g c =
+    let ended = c.in_ok-conclude.ensures.ended in
+    IfErr-weaker c.into_report.result _ _ (λ e fails. broken_behind (given_of c.args.job.now) e ended.calls (g.S.SwitchPort.seen c.args.port.now)
+    (g.S.SwitchPort.seen c.start.new.port) (g.S.SwitchPort.seen c.conclude.new.port) (g.S.SwitchPort.seen c.into_report.new.port)
+    c.in_ok-course.ensures.loads ended.replay.called (stays_more _ _ _ c.in_ok-perform.ensures.gone.stays ended.stays) fails) c.into_report.ensures.fails
+
+pub returns-in_err-conclude-clause-fails : goal.returns-in_err-conclude-clause-fails
+returns-in_err-conclude-clause-fails g c =
+    let p = err_from_is_err_and c.from_residual-in_err-conclude.result c.from_residual-in_err-conclude.ensures.1 in
+    let gone = c.in_ok-perform.ensures.gone in
+    rw (p.1, p.2) (broken_behind (given_of c.args.job.now) _ gone.under_way.calls (g.S.SwitchPort.seen c.args.port.now)
+    (g.S.SwitchPort.seen c.start.new.port) (g.S.SwitchPort.seen c.perform.new.port) (g.S.SwitchPort.seen c.conclude.new.port)
+    c.in_ok-course.ensures.loads gone.under_way.replay.called gone.stays c.in_err-conclude.ensures.fails)
+
+pub returns-in_err-perform-clause-fails : goal.returns-in_err-perform-clause-fails
+returns-in_err-perform-clause-fails g c =
+    let p = err_from_is_err_and c.from_residual-in_err-perform.result c.from_residual-in_err-perform.ensures.1 in
+    rw (p.1, p.2) (broken_at_once (given_of c.args.job.now) _ (g.S.SwitchPort.seen c.args.port.now) (g.S.SwitchPort.seen c.start.new.port)
+    (g.S.SwitchPort.seen c.perform.new.port) c.in_ok-course.ensures.loads c.in_err-perform.ensures.fails)
+
+pub returns-in_err-course-clause-fails : goal.returns-in_err-course-clause-fails
+returns-in_err-course-clause-fails g c =
+    let p = err_from_is_err_and c.from_residual.result c.from_residual.ensures.1 in rw (p.1, p.2) c.in_err-course.ensures.fails

@@ -1,6 +1,8 @@
 use Rattle.std.proofs.Common.{◌≡◌, ◌<◌, ◌≤◌, Some, refl, sym, ap, ◌∙◌, length, arith}
 use Rattle.std.specs.Prelude.{slice_get}
 use Rattle.std.proofs.lemmas.Option.{slice_get-get_or}
+use Rattle.std.proofs.lemmas.Result.{err_from_is_err_and}
+use Rattle.replay_course.proofs.Failing.{fails_there, goes_kept}
 use Rattle.replay_course.proofs.Arms.{not_less, serve_idles_from}
 use Rattle.replay_course.proofs.Serves.{commands_left, few_updates, framed_up, serve_turned, versions_left}
 use Rattle.replay_course.proofs.course.Course.serve.Goals as goal
@@ -47,3 +49,10 @@ returns-clause-turned g c =
     serve_turned c.packets_are_where_they_are_told.ensures _ c.args.self.now _ _ _ c.args.j c.in-Some.number c.in-Some.frame c.in_ok-served.served c.serve_frame.new.server
     (λ update. c.replicated_objects_are_declared.ensures.updates _ _ _ update) c.requires.going here c.in_ok-served.ensures c.in_ok-reserve.ensures.room
     refl refl refl c.in-Some.ensures.items refl c.in_ok-hold.ensures.ok refl c.decide_at.ensures refl refl
+
+pub returns-in_err-hold-clause-fails : goal.returns-in_err-hold-clause-fails
+returns-in_err-hold-clause-fails g c =
+    let p = err_from_is_err_and c.from_residual-in_err-hold.result c.from_residual-in_err-hold.ensures.1 in
+    let old = g.S.SwitchPort.seen c.args.port.now in
+    let new = g.S.SwitchPort.seen c.reserve.new.port in
+    rw (p.1, p.2) (fails_there old new (goes_kept old new c.in_ok-reserve.ensures.room.kept))

@@ -25,7 +25,8 @@ returns-in-Ok-clause-emptied g c = λ events now.
     let more = drained_more x events c.in-Ok.events me.course c.drain.new.self old new me.steps c.in-Ok.ensures.drained now in (
       more,
       subst (λ n. HasEmptied (view_of x events me.steps old me.failed) n (view_of x (events ++ more) me.steps new me.failed)) (sym c.from.ensures)
-          (has_emptied c.a_journal_determines_its_replay.ensures x events c.in-Ok.events me.course c.drain.new.self old new me.steps me.failed
+          (has_emptied c.a_journal_determines_its_replay.ensures c.a_run_is_answered_by_its_calls.ensures.once c.a_run_keeps_its_promises.ensures
+          c.a_quiet_switch_has_the_servers_tables.ensures x events c.in-Ok.events me.course c.drain.new.self old new me.steps me.failed
           c.in_default.is c.in-Ok.ensures.drained now),
       drain_performs x events c.in-Ok.events me.course c.drain.new.self old new me.steps c.in-Ok.ensures.drained c.in-Ok.ensures.left now,
     )
