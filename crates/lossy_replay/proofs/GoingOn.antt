@@ -91,7 +91,7 @@ placed_now x schedule links c port linking more =
 pub stays_in_world : (x : Given) (schedule : List LinkEvent) (event : LinkEvent) (links next : Links) (c : Course) (port : PortState)
     (linking : IsLinking x schedule links c port) (l' : Linked)
     → ((w : World) → w.at linking.linked.events ≡ linking.st → linked_step (setup_for x) w linking.linked event ≡ l')
-    → l'.events ≡ linking.linked.events → HasItems l' linking.calls linking.st → AreLinks (length schedule + 1) l' next
+    → l'.events ≡ linking.linked.events → HasItems x l' linking.calls linking.st → AreLinks (length schedule + 1) l' next
     → ((more : List Call) → (world_by x (linking.calls ++ more)).at linking.linked.events ≡ linking.st)
     → ((tables : Told) → port.told ≡ Some tables → (world_of x).at linking.linked.events ≡ linking.st)
     → ((w : World) → ArePlaced w linking.linked → ArePlaced w l')
@@ -127,22 +127,26 @@ stays_in_world x schedule event links next c port linking l' steps events items 
 
 -- ---- an event of a link
 
-send_items : (l : Link) (j : ℕ) → (link_step l (send j)).items ≡ l.items
+pub send_items : (l : Link) (j : ℕ) → (link_step l (send j)).items ≡ l.items
 send_items l j = sent_items l (slice_get (unknown l.items l.known) j)
 
-arrive_items : (l : Link) (j : ℕ) → (link_step l (arrive j)).items ≡ l.items
+pub arrive_items : (l : Link) (j : ℕ) → (link_step l (arrive j)).items ≡ l.items
 arrive_items l j = arrived_items l (slice_get l.sent j)
 
-confirm_items : (l : Link) (j : ℕ) → (link_step l (confirm j)).items ≡ l.items
+pub confirm_items : (l : Link) (j : ℕ) → (link_step l (confirm j)).items ≡ l.items
 confirm_items l j = confirmed_items l (slice_get l.back j)
 
 -- a change of one link that leaves its items
-items_stay : (change : Link → Link) → ((l : Link) → (change l).items ≡ l.items) → (l : Linked) (name : LinkName) (calls : List Call)
-    (st : State) → HasItems l calls st → HasItems (at_link change l name) calls st
-items_stay change stays l names.Up calls st items = record { up = stays l.up ∙ items.up; ctl = items.ctl; ack = items.ack }
-items_stay change stays l names.Down calls st items = record { up = items.up; ctl = items.ctl; ack = items.ack }
-items_stay change stays l names.Ctl calls st items = record { up = items.up; ctl = stays l.ctl ∙ items.ctl; ack = items.ack }
-items_stay change stays l names.Ack calls st items = record { up = items.up; ctl = items.ctl; ack = stays l.ack ∙ items.ack }
+items_stay : (change : Link → Link) → ((l : Link) → (change l).items ≡ l.items) → (x : Given) (l : Linked) (name : LinkName)
+    (calls : List Call) (st : State) → HasItems x l calls st → HasItems x (at_link change l name) calls st
+items_stay change stays x l names.Up calls st items =
+    record { up = stays l.up ∙ items.up; down = items.down; ctl = items.ctl; ack = items.ack }
+items_stay change stays x l names.Down calls st items =
+    record { up = items.up; down = stays l.down ∙ items.down; ctl = items.ctl; ack = items.ack }
+items_stay change stays x l names.Ctl calls st items =
+    record { up = items.up; down = items.down; ctl = stays l.ctl ∙ items.ctl; ack = items.ack }
+items_stay change stays x l names.Ack calls st items =
+    record { up = items.up; down = items.down; ctl = items.ctl; ack = stays l.ack ∙ items.ack }
 
 events_stay : (change : Link → Link) (l : Linked) (name : LinkName) → (at_link change l name).events ≡ l.events
 events_stay change l names.Up = refl
@@ -162,7 +166,7 @@ transmitted x schedule name j links next c port linking stays same are =
     let change : Link → Link = λ one. link_step one (send j) in
     stays_in_world x schedule (Transmit name j) links next c port linking (at_link change linking.linked name) (λ w at. refl)
     (events_stay change linking.linked name)
-    (items_stay change (λ l. send_items l j) linking.linked name linking.calls linking.st linking.items) are stays same
+    (items_stay change (λ l. send_items l j) x linking.linked name linking.calls linking.st linking.items) are stays same
     (λ w. placed_still change (λ l. send_items l j) w linking.linked name (length schedule + 1) next are)
 
 pub delivered : (x : Given) (schedule : List LinkEvent) (name : LinkName) (j : ℕ) (links next : Links) (c : Course)
@@ -174,7 +178,7 @@ delivered x schedule name j links next c port linking stays same are =
     let change : Link → Link = λ one. link_step one (arrive j) in
     stays_in_world x schedule (Deliver name j) links next c port linking (at_link change linking.linked name) (λ w at. refl)
     (events_stay change linking.linked name)
-    (items_stay change (λ l. arrive_items l j) linking.linked name linking.calls linking.st linking.items) are stays same
+    (items_stay change (λ l. arrive_items l j) x linking.linked name linking.calls linking.st linking.items) are stays same
     (λ w. placed_still change (λ l. arrive_items l j) w linking.linked name (length schedule + 1) next are)
 
 pub confirmed : (x : Given) (schedule : List LinkEvent) (name : LinkName) (j : ℕ) (links next : Links) (c : Course)
@@ -186,5 +190,5 @@ confirmed x schedule name j links next c port linking stays same are =
     let change : Link → Link = λ one. link_step one (confirm j) in
     stays_in_world x schedule (Confirm name j) links next c port linking (at_link change linking.linked name) (λ w at. refl)
     (events_stay change linking.linked name)
-    (items_stay change (λ l. confirm_items l j) linking.linked name linking.calls linking.st linking.items) are stays same
+    (items_stay change (λ l. confirm_items l j) x linking.linked name linking.calls linking.st linking.items) are stays same
     (λ w. placed_still change (λ l. confirm_items l j) w linking.linked name (length schedule + 1) next are)

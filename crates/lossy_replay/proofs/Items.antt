@@ -29,7 +29,7 @@ use Rattle.replay_contracts.specs.Replay.{answered}
 use Rattle.replay_course.specs.declared.course.Course.{Course}
 use Rattle.lossy_replay.specs.Linked.{Course as World, Linked, at_place, behind, let_by, place_of}
 use Rattle.lossy_replay.specs.Linking.{newest, noted}
-use Rattle.lossy_replay.specs.Replay.{HasItems, frames_in, world_by}
+use Rattle.lossy_replay.specs.Replay.{HasItems, frames_down, frames_in, world_by}
 use Rattle.lossy_replay.proofs.Noting.{FastLaw, GoesUp, HasFrames, SlowLaw, applied_step, last_is, newest_up}
 use Rattle.lossy_replay.proofs.Performing.{after_event}
 
@@ -511,10 +511,12 @@ ack_items laws x l events calls one st (Down j) own before c g ack =
 -- ---- all that was given
 
 pub items_on : Laws → (x : Given) (l : Linked) (events : List Event) (calls one : List Call) (st : State) (event own : Event) (before : ℕ) (c : Course)
-    → GoesOn x l events calls one st event own before c → HasItems l calls st
-    → HasItems (after_event (noted c before l event) l own) (calls ++ one) (step (setup_for x) (answered x (calls ++ one)) st own)
-items_on laws x l events calls one st event own before c g items = record {
+    → GoesOn x l events calls one st event own before c → HasItems x l calls st
+    → (after_event (noted c before l event) l own).down.items ≡ frames_down x (calls ++ one) (l.events ++ own ∷ [])
+    → HasItems x (after_event (noted c before l event) l own) (calls ++ one) (step (setup_for x) (answered x (calls ++ one)) st own)
+items_on laws x l events calls one st event own before c g items down = record {
   up = up_items laws x l events calls one st event own before c g items.up;
+  down = down;
   ctl = ctl_items laws x l events calls one st event own before c g items.ctl;
   ack = ack_items laws x l events calls one st event own before c g items.ack;
 }

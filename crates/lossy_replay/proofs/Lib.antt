@@ -9,6 +9,7 @@ mod Noting
 mod OnWays
 mod Performing
 mod Placed
+mod SentDown
 mod Small
 mod Standing
 mod Whole

@@ -50,11 +50,12 @@ QuietLaw = (x : Given) (events : List Event) (calls : List Call) (st : State) (p
 
 -- ---- the start
 
-no_items : (x : Given) (calls : List Call) (st : State) (port : PortState) → IsReplay x [] calls st port → HasItems first_linked calls st
+no_items : (x : Given) (calls : List Call) (st : State) (port : PortState) → IsReplay x [] calls st port → HasItems x first_linked calls st
 no_items x calls st port replay =
     let none : calls ≡ [] = no_calls calls replay.answered.asked in
     record {
       up = ap frames_in (sym none);
+      down = refl;
       ctl = ap (λ (s : State). map bytes_of (sent_of s)) (sym replay.answered.run);
       ack = ap (λ (s : State). map blank (applied_commands s)) (sym replay.answered.run);
     }
@@ -197,7 +198,7 @@ is_linked once x schedule links c first port new replayed run has says same_run 
           (reports_there x k.st port new replayed.run replayed.commands reports);
       once = once (setup_for x) (whole x) x.packets k.linked.events k.calls k.st k.replay.answered;
       ends = subst (λ (l : Linked). HasEnds l run) (sym same) (ends (length schedule) k.linked k.links_are);
-      items = subst (λ (l : Linked). HasItems l k.calls k.st) (sym same) k.items;
+      items = subst (λ (l : Linked). HasItems x l k.calls k.st) (sym same) k.items;
       came = λ before behind is. takes_what_came (world_by x k.calls) (linked_by x k.calls before)
           (subst (λ (cs : List Call). ArePlaced (world_by x cs) (linked_by x cs before)) (append-nil k.calls) (k.placed [] before behind is));
     }

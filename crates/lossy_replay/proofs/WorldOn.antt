@@ -37,6 +37,7 @@ use Rattle.lossy_replay.proofs.Items.{GoesOn, Laws, StateLaw, items_on}
 use Rattle.lossy_replay.proofs.Noting.{FastLaw, HasFrames, SlowLaw, has_given, noted_is}
 use Rattle.lossy_replay.proofs.Placed.{FramesStay, IsPerformed, frames_stay, placed_on}
 use Rattle.lossy_replay.proofs.Performing.{after_event, not_applied, not_let, performs}
+use Rattle.lossy_replay.proofs.SentDown.{HasSentDown, all_sent_down}
 
 -- ---- the laws that are used
 
@@ -147,8 +148,9 @@ performed_on : StateLaw → GoneLaw → FastLaw → SlowLaw → (x : Given) (sch
     → IsReplay x (linking.linked.events ++ own ∷ []) (linking.calls ++ t.one)
     (step (setup_for x) (answered x (linking.calls ++ t.one)) linking.st own) new
     → let_by linking.linked linking.st event ≡ Some own → applies (setup_for x) linking.st own ≡ true
-    → HasItems (noted_on linking.linked c after event own) (linking.calls ++ t.one)
-    (step (setup_for x) (answered x (linking.calls ++ t.one)) linking.st own)
+    → (HasSentDown x (linking.calls ++ t.one) (noted_on linking.linked c after event own)
+    → HasItems x (noted_on linking.linked c after event own) (linking.calls ++ t.one)
+    (step (setup_for x) (answered x (linking.calls ++ t.one)) linking.st own))
     → AreLinks (length schedule + 1) (noted after (length c.up.items) linking.linked event) next
     → ((more : List Call) → FramesStay (world_by x ((linking.calls ++ t.one) ++ more)) linking.st
     (step (setup_for x) (answered x (linking.calls ++ t.one)) linking.st own))
@@ -200,7 +202,8 @@ performed_on state gone fast slow x schedule event own links next c after old ne
       going = going;
       counted = counted ∙ (ap (λ (n : ℕ). n + 1) linking.counted ∙ sym (length_push l.events own));
       few = omega (arith, linking.few, long, length_push l.events own);
-      items = items;
+      items = items (subst (HasSentDown x calls) (ap (λ (cs : List Call). linked_by x cs (schedule ++ InWorld event ∷ [])) (sym (append-nil calls)) ∙ stands [])
+          (all_sent_down x calls (schedule ++ InWorld event ∷ [])));
       links_are = subst (λ (n : ℕ). AreLinks n (noted_on l c after event own) next) (sym long)
           (links_events (length schedule + 1) (noted after (length c.up.items) l event) l own next are);
       told = λ tables told_is.
@@ -258,7 +261,8 @@ world_on laws gone on places x schedule event own links next c after old new ste
     let was : HavePlaces st = subst HavePlaces (sym linking.replay.answered.run) (places (setup_for x) (answered x linking.calls) l.events) in
     let now : HavePlaces next_st = subst HavePlaces (sym replay.answered.run) (places (setup_for x) (answered x calls) (l.events ++ own ∷ [])) in
     performed_on laws.state gone laws.fast laws.slow x schedule event own links next c after old new stepped linking t turned.going turned.counted
-    turned.stays replay is may (items_on laws x l l.events linking.calls t.one st event own (length c.up.items) after g linking.items) are
+    turned.stays replay is may
+    (λ down. items_on laws x l l.events linking.calls t.one st event own (length c.up.items) after g linking.items down) are
     (λ more. frames_stay (setup_for x) (answered x calls) l st event own p (world_by x (calls ++ more))
     (λ over n. (whole x).serve_down over (frame_in (up_answer (calls ++ more) n))) (λ s n. refl) was now) p
 

@@ -76,7 +76,7 @@ pub record IsLinking (x : Given) (schedule : List LinkEvent) (links : Links) (c 
   pub going : IsGoing x c port
   pub counted : c.events ≡ length linked.events
   pub few : length linked.events ≤ length schedule
-  pub items : HasItems linked calls st
+  pub items : HasItems x linked calls st
   pub links_are : AreLinks (length schedule) linked links
   pub placed : StayPlaced x schedule calls
   pub told : (tables : Told) → port.told ≡ Some tables → linked_of (setup_for x) (world_of x) schedule ≡ linked

@@ -1,20 +1,21 @@
 -- What comes of a replay over links.
-use Rattle.std.specs.Prelude.{◌≡◌, ℕ, List, [], ◌∷◌, ◌++◌, map, slice_get, take}
+use Rattle.std.specs.Prelude.{◌≡◌, ℕ, List, [], ◌∷◌, ◌++◌, if◌then◌else◌, map, slice_get, take, Option, Some, None, true}
 use Rattle.lossy_link.specs.CommandBytes.{bytes_of}
 use Rattle.output_commit.specs.Batches.{commands_in}
 use Rattle.run_model.specs.declared.event.Event.{Event}
+use Rattle.run_model.specs.declared.event.Event.TheVariants.{Admit, Stage, Serve, Send, Apply, Ack, Hold, Down}
 use Rattle.run_model.specs.declared.link_event.LinkEvent.{LinkEvent}
+use Rattle.state_store.specs.Store.{start_store}
 use Rattle.switch_ir.specs.Port.{PortState}
 use Rattle.replay_state.specs.Drain.{is_quiet}
 use Rattle.replay_state.specs.Journal.{Call, EndOnce, down_frame, frame_in, over_in, up_answer}
 use Rattle.replay_state.specs.Journal.{CalledUp, CalledStageUp, CalledCommand, CalledDown, CalledStageDown}
 use Rattle.replay_state.specs.Journal.{Finished, SentUp, GoingUp}
-use Rattle.replay_state.specs.Program.{packet_at}
-use Rattle.replay_state.specs.State.{State, applied_commands}
-use Rattle.replay_state.specs.Step.{state_of}
+use Rattle.replay_state.specs.Program.{SplitProgram, packet_at}
+use Rattle.replay_state.specs.State.{State, applied_commands, first_state}
+use Rattle.replay_state.specs.Step.{applies, state_of, step}
 use Rattle.split_answers.specs.Through.{HasTables}
 use Rattle.switch_ir.specs.Tables.{Told}
-use Rattle.std.specs.Prelude.{Some, true}
 use Rattle.replay_contracts.specs.Given.{Given, setup_for, whole}
 use Rattle.replay_contracts.specs.Promise.{Promises, Reports, state_for}
 use Rattle.replay_contracts.specs.Replay.{IsReplay, answered}
@@ -48,10 +49,37 @@ frames_in (CalledCommand command ∷ calls) = frames_in calls
 frames_in (CalledDown fine n frame answer ∷ calls) = frames_in calls
 frames_in (CalledStageDown n answer ∷ calls) = frames_in calls
 
--- All that was given: the frames in which calls answered that packets go up, the bytes of the commands that were sent, and
--- an empty item for each that was applied.
-pub record HasItems (l : Linked) (calls : List Call) (last : State) : Type 0 where
+-- the frame in which an output goes down that the server holds, if there is one
+abbrev pub frame_let_go : SplitProgram → List Call → State → Option (ℕ × ℕ) → List (List ℕ)
+frame_let_go s calls st None = []
+frame_let_go s calls st (Some (n, need)) = down_frame s calls st n ∷ []
+
+-- what an event sends down: the frame of the output that the server lets go, where it may
+abbrev pub sent_down : Given → List Call → State → Event → List (List ℕ)
+sent_down x calls st Admit = []
+sent_down x calls st (Stage j) = []
+sent_down x calls st (Serve j) = []
+sent_down x calls st Send = []
+sent_down x calls st Apply = []
+sent_down x calls st Ack = []
+sent_down x calls st (Hold j) =
+    if applies (setup_for x) st (Hold j) then frame_let_go (whole x) calls st (slice_get st.held j) else []
+sent_down x calls st (Down j) = []
+
+-- the frames that events send down, in order: from a state on, and from the first
+abbrev pub sent_down_from : Given → List Call → State → List Event → List (List ℕ)
+sent_down_from x calls st [] = []
+sent_down_from x calls st (event ∷ events) =
+    sent_down x calls st event ++ sent_down_from x calls (step (setup_for x) (answered x calls) st event) events
+
+abbrev pub frames_down : Given → List Call → List Event → List (List ℕ)
+frames_down x calls events = sent_down_from x calls (first_state (start_store x.program.objects)) events
+
+-- All that was given: the frames in which calls answered that packets go up, those of the outputs that the server let go,
+-- the bytes of the commands that were sent, and an empty item for each that was applied.
+pub record HasItems (x : Given) (l : Linked) (calls : List Call) (last : State) : Type 0 where
   pub up : l.up.items ≡ frames_in calls
+  pub down : l.down.items ≡ frames_down x calls l.events
   pub ctl : l.ctl.items ≡ map bytes_of (take last.sent (commands_in last.batches))
   pub ack : l.ack.items ≡ map (λ command. []) (applied_commands last)
 
@@ -72,7 +100,7 @@ pub record IsLinkedReplay (x : Given) (schedule : List LinkEvent) (run : LossyRu
   pub reports : Reports x last port port run.run commands
   pub once : EndOnce calls last
   pub ends : HasEnds (linked_by x calls schedule) run
-  pub items : HasItems (linked_by x calls schedule) calls last
+  pub items : HasItems x (linked_by x calls schedule) calls last
   -- at each event of the schedule a frame that was delivered is run, or taken, as the one that it is
   pub came : (before behind : List LinkEvent) → schedule ≡ before ++ behind
       → TakeWhatCame (world_by x calls) (linked_by x calls before)
