@@ -15,7 +15,7 @@ use Rattle.resource_limits.specs.declared.counting.Counts.{Counts}
 use Rattle.resource_limits.specs.declared.exceeding.Over.{Over}
 use Rattle.resource_limits.specs.Counts.{counts_of}
 use Rattle.resource_limits.specs.Kept.{Keeps, first_over}
-use Rattle.partition.specs.Choice.{IsChosen, IsRefused}
+use Rattle.partition.specs.Choice.{IsChosen, IsRefused, IsUnrefused}
 use Rattle.gallium_cli.specs.declared.status.Status.TheVariants as statuses
 use Rattle.gallium_cli.specs.declared.refusal.Refusal.{Refusal}
 use Rattle.gallium_cli.specs.declared.refusal.Refusal.TheVariants.{Exceeded, NoMemory}
@@ -116,19 +116,19 @@ same_plan told s l m m' allowed allowed' asked found = record {
   limits = one_limits (told l) allowed allowed' asked.limits found.limits;
 }
 
-chosen_there : (m m' : Tree) (allowed allowed' : Allowed) (shrink : Bool) (split : List Part)
-    → IsSamePlan m m' allowed allowed' → IsChosen (flat_of m) allowed shrink split
-    → IsChosen (flat_of m') allowed' shrink split
-chosen_there m m' allowed allowed' shrink split same chosen =
-    subst (λ (n : Tree). IsChosen (flat_of n) allowed' shrink split) same.middlebox
-    (subst (λ (a : Allowed). IsChosen (flat_of m) a shrink split) same.limits chosen)
-
 refused_there : (m m' : Tree) (allowed allowed' : Allowed) (shrink : Bool) (over : Over)
     → IsSamePlan m m' allowed allowed' → IsRefused (flat_of m) allowed shrink over
     → IsRefused (flat_of m') allowed' shrink over
 refused_there m m' allowed allowed' shrink over same refused =
     subst (λ (n : Tree). IsRefused (flat_of n) allowed' shrink over) same.middlebox
     (subst (λ (a : Allowed). IsRefused (flat_of m) a shrink over) same.limits refused)
+
+refused_back : (m m' : Tree) (allowed allowed' : Allowed) (shrink : Bool) (over : Over)
+    → IsSamePlan m m' allowed allowed' → IsRefused (flat_of m') allowed' shrink over
+    → IsRefused (flat_of m) allowed shrink over
+refused_back m m' allowed allowed' shrink over same refused =
+    subst (λ (n : Tree). IsRefused (flat_of n) allowed shrink over) (sym same.middlebox)
+    (subst (λ (a : Allowed). IsRefused (flat_of m') a shrink over) (sym same.limits) refused)
 
 -- so what a split text is to spell is one thing
 pub same_role : (told : List ℕ → Option (List ℕ)) (s l : List ℕ) (m m' : Tree) (allowed allowed' : Allowed)
@@ -141,17 +141,7 @@ same_role told s l m m' allowed allowed' asked found =
 
 -- ## Choosing and refusing exclude each other
 
--- where a split of the told plan is there to choose, none is refused
-chosen_unrefused : (told : List ℕ → Option (List ℕ)) (s l : List ℕ) (shrink : Bool) (m m' : Tree)
-    (allowed allowed' : Allowed) (split : List Part) (over : Over) → IsGreatestOne → IsKeptUnexceeded
-    → IsToldPlan told s l m allowed → IsChosen (flat_of m) allowed shrink split
-    → IsPlan told s l m' allowed' → IsRefused (flat_of m') allowed' shrink over → ⊥
-chosen_unrefused told s l shrink m m' allowed allowed' split over one kept asked chosen found refused =
-    let same = same_plan told s l m m' allowed allowed' asked found in
-    not_both (flat_of m') allowed' shrink split over one kept found.program.bounded.formed
-    (chosen_there m m' allowed allowed' shrink split same chosen) refused
-
--- and where it is refused, none was chosen
+-- where the told plan is refused, none was chosen
 pub refused_unchosen : (told : List ℕ → Option (List ℕ)) (s l : List ℕ) (shrink : Bool) (m m' : Tree)
     (allowed allowed' : Allowed) (split : List Part) (over : Over) → IsGreatestOne → IsKeptUnexceeded
     → IsToldPlan told s l m allowed → IsRefused (flat_of m) allowed shrink over
@@ -163,12 +153,13 @@ refused_unchosen told s l shrink m m' allowed allowed' split over one kept asked
 
 -- a choice that is open is refused for want of memory alone
 pub open_over : (refusal : Refusal) (told : List ℕ → Option (List ℕ)) (s l : List ℕ) (shrink : Bool) (m : Tree)
-    (allowed : Allowed) (split : List Part) → IsGreatestOne → IsKeptUnexceeded → IsToldPlan told s l m allowed
-    → IsChosen (flat_of m) allowed shrink split → IsOverLimit refusal s l shrink told → IsEarlyFault (status_of refusal)
-open_over (Exceeded excess) told s l shrink m allowed split one kept asked chosen (m', allowed', found, (over, refused, is)) =
-    chosen_unrefused told s l shrink m m' allowed allowed' split over one kept asked chosen found refused
-open_over NoMemory told s l shrink m allowed split one kept asked chosen over = tt
-open_over _ told s l shrink m allowed split one kept asked chosen (m', allowed', found, never) = absurd never
+    (allowed : Allowed) → IsToldPlan told s l m allowed → IsUnrefused (flat_of m) allowed shrink
+    → IsOverLimit refusal s l shrink told → IsEarlyFault (status_of refusal)
+open_over (Exceeded excess) told s l shrink m allowed asked none (m', allowed', found, (over, refused, is)) =
+    let same = same_plan told s l m m' allowed allowed' asked found in
+    none over (refused_back m m' allowed allowed' shrink over same refused)
+open_over NoMemory told s l shrink m allowed asked none over = tt
+open_over _ told s l shrink m allowed asked none (m', allowed', found, never) = absurd never
 
 -- a choice is refused with one status, or for want of memory
 pub over_status : (refusal : Refusal) (told : List ℕ → Option (List ℕ)) (s l : List ℕ) (shrink : Bool)

@@ -385,8 +385,8 @@ exact_chain refusal chain status f f' laws (inr (is, why)) (inr (ns, are, refuse
 pub open_refused : (refusal : Refusal) (gate : Gate) (f f' : FilesState) → Laws
     → IsOpen f.told gate → IsRefusedAt refusal gate f f' → IsEarlyFault (status_of refusal)
 open_refused refusal (File name role) f f' laws free refused = good_refused refusal role name f f' laws free refused
-open_refused refusal (Choice s l shrink) f f' laws (m, allowed, split, asked, chosen) refused =
-    open_over refusal f.told s l shrink m allowed split laws.greatest laws.kept asked chosen refused
+open_refused refusal (Choice s l shrink) f f' laws (m, allowed, asked, none) refused =
+    open_over refusal f.told s l shrink m allowed asked none refused
 open_refused refusal (SplitFile s l p) f f' laws (m, allowed, asked, good) (m', allowed', found, refused) =
     let same = same_role f.told s l m m' allowed allowed' asked found in
     good_refused refusal (legal_split (flat_of m') allowed') p f f' laws

@@ -131,6 +131,7 @@ serial_run m split writeback packets plan replayed port over at_once alike told 
       serialises = over.serialises (meaning_for x) (source_of m packets) run alike flat;
       fast = promises.fast;
       passed = λ coarse. has_passed m split writeback packets plan.fine (events_of x plan) run at_once coarse promises;
+      views = promises.views;
       quiet = λ ends.
           over.released (meaning_for x) (source_of m packets) run alike flat (promises.released ends);
       tables = λ ends. told_there _ port.told (told.tables ends);

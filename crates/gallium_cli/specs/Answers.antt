@@ -44,6 +44,7 @@ use Rattle.replay_state.specs.Program.{manner_of}
 use Rattle.replay_state.specs.Run.{job_run}
 use Rattle.replay_state.specs.State.{State}
 use Rattle.replay_state.specs.Step.{applies}
+use Rattle.replay_state.specs.Views.{KeepViews}
 use Rattle.split_answers.specs.Through.{HasTables}
 use Rattle.replay_contracts.specs.declared.job.Replayed.{Replayed}
 use Rattle.replay_contracts.specs.Given.{Given, setup_for, whole_runs}
@@ -184,6 +185,9 @@ pub record IsSerialRun (m : Tree) (x : Given) (plan : Plan) (run : RunTold) (por
       → applies (setup_for x) (state_for x before) Admit ≡ true → HasPassed x before run → IsFastAsSeen x before run
   pub passed : plan.fine ≡ false → (before behind : List Event) → events_of x plan ≡ before ++ Admit ∷ behind
       → applies (setup_for x) (state_for x before) Admit ≡ true → HasPassed x before run
+  -- after each event, each pass that is under way sees the replicated objects of the version with which it entered
+  pub views : (before behind : List Event) → events_of x plan ≡ before ++ behind
+      → KeepViews (setup_for x) (state_for x before)
   -- where nothing is left on its way, every admitted packet was released with its verdict, and the switch has the
   -- server's tables
   pub quiet : EndsQuiet x plan → AllReleased (source_of m x.packets) run

@@ -115,12 +115,12 @@ pub record AreToldClasses (told : List ℕ → Option (List ℕ)) (chain : Chain
   pub each : (e : ℕ) (x : Element) (m : Tree) → slice_get chain.elements e ≡ Some x → slice_get ms e ≡ Some m
       → IsSomeAnd (told (file_of x.class)) (λ text. (length text ≤ size_of source) × IsSource text m)
 
--- a content is told and good, and a split is there to choose, or to take, or a report is there, or a chain is composed
+-- a content is told and good, and a split isn't refused, or is there to take, or a report is there, or a chain is composed
 abbrev pub IsOpen : (List ℕ → Option (List ℕ)) → Gate → Type 0
 IsOpen told (File name role) = IsSomeAnd (told name) (IsGood role)
 IsOpen told (Choice s l shrink) =
-    (m : Tree) × (allowed : Limits) × (split : List Part)
-    × IsToldPlan told s l m allowed × choice.IsChosen (flat_of m) allowed shrink split
+    (m : Tree) × (allowed : Limits)
+    × IsToldPlan told s l m allowed × choice.IsUnrefused (flat_of m) allowed shrink
 IsOpen told (SplitFile s l p) =
     (m : Tree) × (allowed : Limits)
     × IsToldPlan told s l m allowed × IsSomeAnd (told p) (IsGood (legal_split (flat_of m) allowed))
