@@ -1,6 +1,6 @@
 //! What a replayer tells of frames and commands.
 ghost use Rattle.std.specs.Prelude.{◌≡◌, [], IfOk};
-ghost use Rattle.schedule_replay.specs.Replayer.{HasPerformed, IsStanding, seen_as};
+ghost use Rattle.schedule_replay.specs.Replayer.{HasPerformed};
 ghost use Rattle.replayer_tests.specs.Ready.{IsReady};
 
 use crate::samples::{TELLS, job, of_bytes};
@@ -14,9 +14,8 @@ use switch_machine::ModelSwitch;
 
 fn begun<S: SwitchPort + Drop>(alloc: Global, job: &Job, port: S) -> Result<Replayer<S>, Fail>
     requires { IsReady job.now }
-    ensures stands { IfOk result (IsStanding S.seen) }
     ensures performed { IfOk result (HasPerformed S.seen []) }
-    ensures unused { IfOk result (λ replayer. (seen_as S.seen [] replayer).steps ≡ 0) }
+    ensures unused { IfOk result (λ replayer. replayer.steps ≡ 0) }
 {
     match Replayer::new(alloc, job, port) {
         Ok(replayer) => Ok(replayer),
@@ -26,9 +25,8 @@ fn begun<S: SwitchPort + Drop>(alloc: Global, job: &Job, port: S) -> Result<Repl
 
 // Performs the first events of a replay.
 fn perform<S: SwitchPort>(replayer: &mut Replayer<S>, events: &[Event]) -> Result<(), Fail>
-    requires stands { IsStanding S.seen replayer.old }
     requires performed { HasPerformed S.seen [] replayer.old }
-    requires begun { (seen_as S.seen [] replayer.old).steps ≡ 0 }
+    requires begun { replayer.old.steps ≡ 0 }
 {
     if events.len() > 16 {
         return Err(Fail::from("too many events"));

@@ -1,7 +1,6 @@
 //! The translator's replays, event by event.
-ghost use Rattle.std.specs.Prelude.{◌≡◌, ◌≤◌, ◌<◌, ◌+◌, [], length, IfOk};
+ghost use Rattle.std.specs.Prelude.{◌≡◌, ◌≤◌, ◌<◌, ◌+◌, length, IfOk};
 ghost use Rattle.run_model.specs.Sizes.{most_events};
-ghost use Rattle.schedule_replay.specs.Replayer.{IsStanding, seen_as};
 ghost use Rattle.replayer_tests.specs.Ready.{IsReady};
 
 use crate::samples::{TRANSLATOR, eight_flows, job, one_flow};
@@ -18,8 +17,7 @@ use switch_machine::{CallKind, ModelSwitch};
 
 fn begun<S: SwitchPort + Drop>(alloc: Global, job: &Job, port: S) -> Result<Replayer<S>, Fail>
     requires { IsReady job.now }
-    ensures stands { IfOk result (IsStanding S.seen) }
-    ensures unused { IfOk result (λ replayer. (seen_as S.seen [] replayer).steps ≡ 0) }
+    ensures unused { IfOk result (λ replayer. replayer.steps ≡ 0) }
 {
     match Replayer::new(alloc, job, port) {
         Ok(replayer) => Ok(replayer),
@@ -29,11 +27,10 @@ fn begun<S: SwitchPort + Drop>(alloc: Global, job: &Job, port: S) -> Result<Repl
 
 // Performs an event, and answers whether it did something just where it should.
 fn steps_so<S: SwitchPort>(replayer: &mut Replayer<S>, event: &Event, expected: Stepped) -> bool
-    requires stands { IsStanding S.seen replayer.old }
-    requires few { (seen_as S.seen [] replayer.old).steps < most_events }
-    ensures stands { IsStanding S.seen replayer.new }
-    ensures steps { (seen_as S.seen [] replayer.new).steps ≤ (seen_as S.seen [] replayer.old).steps + 1 }
+    requires few { replayer.old.steps < most_events }
+    ensures { replayer.new.steps ≤ replayer.old.steps + 1 }
 {
+    replayer.stands();
     match replayer.step(event) {
         Ok(stepped) => stepped == expected,
         Err(_) => false,
@@ -42,10 +39,8 @@ fn steps_so<S: SwitchPort>(replayer: &mut Replayer<S>, event: &Event, expected: 
 
 // Performs the first events of a replay, and answers whether just those did something that should.
 fn all_step_so<S: SwitchPort>(replayer: &mut Replayer<S>, events: &[(Event, Stepped)]) -> bool
-    requires stands { IsStanding S.seen replayer.old }
-    requires unused { (seen_as S.seen [] replayer.old).steps ≡ 0 }
+    requires unused { replayer.old.steps ≡ 0 }
     requires few { length events.now ≤ 64 }
-    ensures { IsStanding S.seen replayer.new }
 {
     let mut all = true;
     for planned in events {
@@ -60,18 +55,12 @@ fn all_step_so<S: SwitchPort>(replayer: &mut Replayer<S>, events: &[(Event, Step
 fn drained<S: SwitchPort>(
     replayer: &mut Replayer<S>,
     drains: bool,
-) -> Option<Result<u64, ReplayError>>
-    requires { IsStanding S.seen replayer.old }
-    ensures { IsStanding S.seen replayer.new }
-{
+) -> Option<Result<u64, ReplayError>> {
     if drains { Some(replayer.drain()) } else { None }
 }
 
 // The text of the report, which is empty where there is none.
-fn reported<S: SwitchPort>(alloc: Global, replayer: &mut Replayer<S>, objects: &Objects) -> Text
-    requires { IsStanding S.seen replayer.old }
-    ensures { IsStanding S.seen replayer.new }
-{
+fn reported<S: SwitchPort>(alloc: Global, replayer: &mut Replayer<S>, objects: &Objects) -> Text {
     match replayer.report() {
         Ok(replayed) => match print_run(alloc, objects, &replayed.run) {
             Ok(text) => text,

@@ -24,19 +24,41 @@ use replay_course::{Course, few_events_are_left, the_next_calls_may_be_made};
 use replay_state::a_run_is_answered_by_its_calls;
 use run_model::{Event, Events};
 use std::alloc::Global;
+use std::marker::Model;
 use switch_ir::SwitchPort;
 use writeback_table::Command;
 
 /// A replay of a split program over a switch, event by event. It performs none of the job's own events by itself. Once
 /// it has failed, it answers the same error from then on.
 #[derive(Drop)]
-pub struct Replayer<S> {
+pub struct Replayer<S: SwitchPort> {
     alloc: Global,
     job: Job,
     course: Course,
     port: S,
     steps: u32,
     failed: Option<ReplayError>,
+}
+
+impl<S: SwitchPort> Model for Replayer<S> {
+    ghost use Rattle.replay_contracts.specs.Replayer.{given_of};
+    ghost use Rattle.schedule_replay.specs.Replayer.{IsKept, Replaying};
+    ghost use Rattle.replay_course.specs.contracts.course.Course.{the_row};
+    ghost use Rattle.std.specs.Coded.{codes};
+
+    ghost Value = { Replaying S };
+
+    ghost coded = { Prim.hlevel (codes, the_row.coded) };
+
+    ghost view = { λ r. record {
+      given = given_of r.job;
+      course = r.course;
+      port = r.port;
+      steps = r.steps;
+      failed = r.failed;
+    } };
+
+    ghost invariant = { λ r. IsKept (given_of r.job) r.course (S.seen r.port) r.steps r.failed };
 }
 
 /// A switch with which no replay could begin, and why.
@@ -100,7 +122,6 @@ impl<S: SwitchPort> Replayer<S> {
         requires few_packets { length job.now.packets ≤ most_packets }
         ensures begun { IfOk result (λ made. IsNew (given_of job.now) (S.seen port) (seen_as S.seen [] made)) }
         ensures performed { IfOk result (λ made. HasPerformed S.seen [] made) }
-        ensures stands { IfOk result (λ made. IsStanding S.seen made) }
         ensures stays { IfErr result (λ refused.
             is_some (S.seen refused.port).told ≡ is_some (S.seen port).told) }
         ensures fault { IfErr result (λ refused. CountsFault refused.error (S.seen port) (S.seen refused.port)) }
@@ -120,22 +141,27 @@ impl<S: SwitchPort> Replayer<S> {
         }
     }
 
+    /// What stands of each replayer: its events so far are a replay that can go on, unless it failed.
+    pub fn stands(&self)
+        ensures { IsStanding S.seen self.now }
+    {
+        let _ = &self.failed;
+    }
+
     /// One event. It is idle exactly where it can't apply.
     pub fn step(&mut self, event: &Event) -> Result<Stepped, ReplayError>
-        requires stands { IsStanding S.seen self.old }
-        requires few { (seen_as S.seen [] self.old).steps < most_events }
+        requires few { self.old.steps < most_events }
         ensures stepped { IfOk result (λ stepped. (events : List Event) → HasPerformed S.seen events self.old
             → HasStepped (seen_as S.seen events self.old) event.now stepped
             (seen_as S.seen (events ++ event.now ∷ []) self.new)) }
         ensures performed { OnOk result ((events : List Event) → HasPerformed S.seen events self.old
             → HasPerformed S.seen (events ++ event.now ∷ []) self.new) }
-        ensures stands { IsStanding S.seen self.new }
-        ensures fails { IfErr result (λ e. (events : List Event) → (seen_as S.seen [] self.old).failed ≡ None
+        ensures fails { IfErr result (λ e. (events : List Event) → self.old.failed ≡ None
             → HasFailed (seen_as S.seen events self.old) e (seen_as S.seen events self.new)) }
-        ensures repeats { (e : ReplayError) → (seen_as S.seen [] self.old).failed ≡ Some e
+        ensures repeats { (e : ReplayError) → self.old.failed ≡ Some e
             → (result ≡ Err e)
             × ((events : List Event) → Repeats (seen_as S.seen events self.old) e (seen_as S.seen events self.new)) }
-        ensures same { (e : ReplayError) → (seen_as S.seen [] self.old).failed ≡ Some e → self.new ≡ self.old }
+        ensures same { (e : ReplayError) → self.old.failed ≡ Some e → self.new ≡ self.old }
     {
         a_journal_determines_its_replay();
         a_replay_goes_on();
@@ -163,20 +189,18 @@ impl<S: SwitchPort> Replayer<S> {
     /// its way. The answer is their number. One call of the switch has ended each pass then. Where it tells its tables,
     /// each packet was released with its verdict, and the tables are those of the server.
     pub fn drain(&mut self) -> Result<u64, ReplayError>
-        requires stands { IsStanding S.seen self.old }
         ensures emptied { IfOk result (λ count. (events : List Event) → HasPerformed S.seen events self.old
             → (more : List Event)
             × HasEmptied (seen_as S.seen events self.old) count (seen_as S.seen (events ++ more) self.new)
             × HasPerformed S.seen (events ++ more) self.new) }
         ensures bound { IfOk result (λ count.
-            count ≤ drain_bound (setup_for (seen_as S.seen [] self.old).given)) }
-        ensures stands { IsStanding S.seen self.new }
-        ensures fails { IfErr result (λ e. (events : List Event) → (seen_as S.seen [] self.old).failed ≡ None
+            count ≤ drain_bound (setup_for self.old.given)) }
+        ensures fails { IfErr result (λ e. (events : List Event) → self.old.failed ≡ None
             → HasFailed (seen_as S.seen events self.old) e (seen_as S.seen events self.new)) }
-        ensures repeats { (e : ReplayError) → (seen_as S.seen [] self.old).failed ≡ Some e
+        ensures repeats { (e : ReplayError) → self.old.failed ≡ Some e
             → (result ≡ Err e)
             × ((events : List Event) → Repeats (seen_as S.seen events self.old) e (seen_as S.seen events self.new)) }
-        ensures same { (e : ReplayError) → (seen_as S.seen [] self.old).failed ≡ Some e → self.new ≡ self.old }
+        ensures same { (e : ReplayError) → self.old.failed ≡ Some e → self.new ≡ self.old }
     {
         a_journal_determines_its_replay();
         a_quiet_switch_has_the_servers_tables();
@@ -197,18 +221,16 @@ impl<S: SwitchPort> Replayer<S> {
 
     /// What is to be reported of the events so far. The replay can go on then.
     pub fn report(&mut self) -> Result<Replayed, ReplayError>
-        requires stands { IsStanding S.seen self.old }
         ensures reported { IfOk result (λ replayed. (events : List Event) → HasPerformed S.seen events self.old
             → HasReported (seen_as S.seen events self.old) replayed (seen_as S.seen events self.new)) }
         ensures performed { OnOk result ((events : List Event) → HasPerformed S.seen events self.old
             → HasPerformed S.seen events self.new) }
-        ensures stands { IsStanding S.seen self.new }
-        ensures fails { IfErr result (λ e. (events : List Event) → (seen_as S.seen [] self.old).failed ≡ None
+        ensures fails { IfErr result (λ e. (events : List Event) → self.old.failed ≡ None
             → HasFailed (seen_as S.seen events self.old) e (seen_as S.seen events self.new)) }
-        ensures repeats { (e : ReplayError) → (seen_as S.seen [] self.old).failed ≡ Some e
+        ensures repeats { (e : ReplayError) → self.old.failed ≡ Some e
             → (result ≡ Err e)
             × ((events : List Event) → Repeats (seen_as S.seen events self.old) e (seen_as S.seen events self.new)) }
-        ensures same { (e : ReplayError) → (seen_as S.seen [] self.old).failed ≡ Some e → self.new ≡ self.old }
+        ensures same { (e : ReplayError) → self.old.failed ≡ Some e → self.new ≡ self.old }
     {
         a_journal_determines_its_replay();
         a_run_keeps_its_promises();
@@ -240,7 +262,7 @@ impl<S: SwitchPort> Replayer<S> {
     pub fn down_frame(&self, j: usize) -> Option<&Bytes>
         ensures { (events : List Event) (calls : List Call) (st : State) → HasPerformed S.seen events self.now
             → IsAt (seen_as S.seen events self.now) calls st → MatchOption result (length st.down ≤ j)
-            (λ frame. IsFrameAt (down_frame (whole (seen_as S.seen [] self.now).given) calls st) st.down j frame.now) }
+            (λ frame. IsFrameAt (down_frame (whole self.now.given) calls st) st.down j frame.now) }
     {
         a_journal_determines_its_replay();
         let (_, frame) = self.course.down.get(j)?;
@@ -260,7 +282,7 @@ impl<S: SwitchPort> Replayer<S> {
 
     /// The switch, as the calls so far left it.
     pub fn into_port(self) -> S
-        ensures { S.seen result ≡ (seen_as S.seen [] self).port }
+        ensures { result ≡ self.port }
     {
         self.port
     }

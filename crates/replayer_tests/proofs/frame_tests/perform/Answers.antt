@@ -9,7 +9,6 @@ loop-event-preserved g c =
     let i = c.loop-event.event-index in
     let before = c.loop-event.invariant in
     record {
-      stands = c.step.ensures.stands;
       performed = subst (λ es. HasPerformed g.S.SwitchPort.seen es c.step.new.self) (sym (take_more events i _ c.loop-event-test.true))
           (c.in-Ok.ensures.performed (take i events) before.performed);
       steps = (c.in-Ok.ensures.stepped (take i events) before.performed).steps ∙ ap (λ n. n + 1) before.steps;

@@ -5,16 +5,16 @@ use Rattle.schedule_replay.proofs.Framed.{down_past, down_there}
 use Rattle.schedule_replay.proofs.replayer.Replayer.down_frame.Goals as goal
 
 pub returns-in_err-frame : goal.returns-in_err-frame
-returns-in_err-frame g c = λ events calls st now is.
-    let me = c.args.self.now in
+returns-in_err-frame g c = rw (← c.self.view_is) λ events calls st now is.
+    let me = c.self.inside in
     let past = c.in_err-frame.ensures.item.0 in
     rw c.from_residual.ensures
     (down_past c.a_journal_determines_its_replay.ensures (given_of me.job) events calls st me.course (g.S.SwitchPort.seen me.port) me.steps c.args.j now is
     (grind (arith, past)))
 
 pub returns : goal.returns
-returns g c = λ events calls st now is.
-    let me = c.args.self.now in
+returns g c = rw (← c.self.view_is) λ events calls st now is.
+    let me = c.self.inside in
     let frame = c.in_ok-frame in
     let within = frame.ensures.item.0 in
     down_there c.a_journal_determines_its_replay.ensures (given_of me.job) events calls st me.course (g.S.SwitchPort.seen me.port) me.steps c.args.j

@@ -1,6 +1,4 @@
-use Rattle.std.proofs.Common.{◌++◌, ◌≤◌, sym, subst}
-use Rattle.replay_state.specs.Drain.{drain_bound}
-use Rattle.replay_contracts.specs.Given.{setup_for}
+use Rattle.std.proofs.Common.{◌++◌, sym, subst}
 use Rattle.replay_contracts.specs.Replayer.{HasEmptied, given_of}
 use Rattle.schedule_replay.specs.Replayer.{view_of}
 use Rattle.schedule_replay.proofs.Playing.{drain_performs, drain_short, drain_stands, drained_more, failed_stands, few_left, has_emptied, has_failed, way_there}
@@ -8,17 +6,17 @@ use Rattle.schedule_replay.proofs.replayer.Replayer.drain.Goals as goal
 
 pub drain-requires-clause-on_its_way : goal.drain-requires-clause-on_its_way
 drain-requires-clause-on_its_way g c =
-    let me = c.args.self.now in
-    way_there (given_of me.job) me.course (g.S.SwitchPort.seen me.port) me.steps me.failed c.requires.stands c.in_default.is
+    let me = c.self.inside in
+    way_there (given_of me.job) me.course (g.S.SwitchPort.seen me.port) me.steps me.failed c.self.invariant c.in_default.is
 
 pub drain-requires-clause-few : goal.drain-requires-clause-few
 drain-requires-clause-few g c =
-    let me = c.args.self.now in
-    few_left c.few_events_are_left.ensures.bound (given_of me.job) me.course (g.S.SwitchPort.seen me.port) me.steps me.failed c.requires.stands c.in_default.is
+    let me = c.self.inside in
+    few_left c.few_events_are_left.ensures.bound (given_of me.job) me.course (g.S.SwitchPort.seen me.port) me.steps me.failed c.self.invariant c.in_default.is
 
 pub returns-in-Ok-clause-emptied : goal.returns-in-Ok-clause-emptied
-returns-in-Ok-clause-emptied g c = λ events now.
-    let me = c.args.self.now in
+returns-in-Ok-clause-emptied g c = rw (← c.self.view_is) λ events now.
+    let me = c.self.inside in
     let x = given_of me.job in
     let old = g.S.SwitchPort.seen me.port in
     let new = g.S.SwitchPort.seen c.drain.new.port in
@@ -33,25 +31,25 @@ returns-in-Ok-clause-emptied g c = λ events now.
 
 pub returns-in-Ok-clause-bound : goal.returns-in-Ok-clause-bound
 returns-in-Ok-clause-bound g c =
-    let me = c.args.self.now in
-    subst (λ n. n ≤ drain_bound (setup_for (given_of me.job))) (sym c.from.ensures)
+    let me = c.self.inside in
+    rw (← c.self.view_is, c.from.ensures)
     (drain_short c.few_events_are_left.ensures.left (given_of me.job) c.in-Ok.events me.course c.drain.new.self (g.S.SwitchPort.seen me.port)
-    me.steps me.failed c.in_default.is c.in-Ok.ensures.left c.requires.stands)
+    me.steps me.failed c.in_default.is c.in-Ok.ensures.left c.self.invariant)
 
-pub returns-in-Ok-clause-stands : goal.returns-in-Ok-clause-stands
-returns-in-Ok-clause-stands g c =
-    let me = c.args.self.now in
+pub invariant_of-self : goal.invariant_of-self
+invariant_of-self g c =
+    let me = c.self.inside in
     drain_stands (given_of me.job) c.in-Ok.events me.course c.drain.new.self (g.S.SwitchPort.seen me.port) (g.S.SwitchPort.seen c.drain.new.port)
-    me.steps me.failed c.in_default.is c.in-Ok.ensures.drained c.in-Ok.ensures.left c.requires.stands
+    me.steps me.failed c.in_default.is c.in-Ok.ensures.drained c.in-Ok.ensures.left c.self.invariant
 
-pub returns-in-Err-clause-stands : goal.returns-in-Err-clause-stands
-returns-in-Err-clause-stands g c =
-    let me = c.args.self.now in
+pub invariant_of-self-in-Err : goal.invariant_of-self-in-Err
+invariant_of-self-in-Err g c =
+    let me = c.self.inside in
     failed_stands (given_of me.job) c.in-Err.error me.course c.drain.new.self (g.S.SwitchPort.seen me.port) (g.S.SwitchPort.seen c.drain.new.port)
-    me.steps me.failed c.requires.stands
+    me.steps me.failed c.self.invariant
 
 pub returns-in-Err-clause-fails : goal.returns-in-Err-clause-fails
-returns-in-Err-clause-fails g c = λ events none.
-    let me = c.args.self.now in
+returns-in-Err-clause-fails g c = rw (← c.self.view_is) λ events none.
+    let me = c.self.inside in
     has_failed (given_of me.job) events c.in-Err.error (g.S.SwitchPort.seen me.port) (g.S.SwitchPort.seen c.drain.new.port) me.steps me.failed none
     c.in-Err.ensures.fails

@@ -4,35 +4,35 @@ use Rattle.schedule_replay.proofs.replayer.Replayer.report.Goals as goal
 
 pub report-requires : goal.report-requires
 report-requires g c =
-    let me = c.args.self.now in
-    record { going = going_there (given_of me.job) me.course (g.S.SwitchPort.seen me.port) me.steps me.failed c.requires.stands c.in_default.is }
+    let me = c.self.inside in
+    record { going = going_there (given_of me.job) me.course (g.S.SwitchPort.seen me.port) me.steps me.failed c.self.invariant c.in_default.is }
 
 pub returns-in-Ok-clause-reported : goal.returns-in-Ok-clause-reported
-returns-in-Ok-clause-reported g c = λ events now.
-    let me = c.args.self.now in
+returns-in-Ok-clause-reported g c = rw (← c.self.view_is) λ events now.
+    let me = c.self.inside in
     has_reported c.a_journal_determines_its_replay.ensures c.a_told_replay_reports_the_run.ensures c.a_run_keeps_its_promises.ensures (given_of me.job) events
     c.in-Ok.replayed me.course (g.S.SwitchPort.seen me.port) (g.S.SwitchPort.seen c.report.new.port) me.steps me.failed c.in_default.is c.in-Ok.ensures.reports now
 
 pub returns-in-Ok-clause-performed : goal.returns-in-Ok-clause-performed
-returns-in-Ok-clause-performed g c = λ events now.
-    let me = c.args.self.now in
+returns-in-Ok-clause-performed g c = rw (← c.self.view_is) λ events now.
+    let me = c.self.inside in
     report_performs (given_of me.job) events c.in-Ok.replayed me.course (g.S.SwitchPort.seen me.port) (g.S.SwitchPort.seen c.report.new.port) me.steps
     c.in-Ok.ensures.reports now
 
-pub returns-in-Ok-clause-stands : goal.returns-in-Ok-clause-stands
-returns-in-Ok-clause-stands g c =
-    let me = c.args.self.now in
+pub invariant_of-self : goal.invariant_of-self
+invariant_of-self g c =
+    let me = c.self.inside in
     report_stands (given_of me.job) c.in-Ok.replayed me.course (g.S.SwitchPort.seen me.port) (g.S.SwitchPort.seen c.report.new.port) me.steps me.failed
-    c.in_default.is c.in-Ok.ensures.reports c.requires.stands
+    c.in_default.is c.in-Ok.ensures.reports c.self.invariant
 
-pub returns-in-Err-clause-stands : goal.returns-in-Err-clause-stands
-returns-in-Err-clause-stands g c =
-    let me = c.args.self.now in
+pub invariant_of-self-in-Err : goal.invariant_of-self-in-Err
+invariant_of-self-in-Err g c =
+    let me = c.self.inside in
     failed_stands (given_of me.job) c.in-Err.error me.course me.course (g.S.SwitchPort.seen me.port) (g.S.SwitchPort.seen c.report.new.port)
-    me.steps me.failed c.requires.stands
+    me.steps me.failed c.self.invariant
 
 pub returns-in-Err-clause-fails : goal.returns-in-Err-clause-fails
-returns-in-Err-clause-fails g c = λ events none.
-    let me = c.args.self.now in
+returns-in-Err-clause-fails g c = rw (← c.self.view_is) λ events none.
+    let me = c.self.inside in
     has_failed (given_of me.job) events c.in-Err.error (g.S.SwitchPort.seen me.port) (g.S.SwitchPort.seen c.report.new.port) me.steps me.failed none
     c.in-Err.ensures.fails
