@@ -511,7 +511,7 @@ write_is_early statuses.WriteFault h = tt
 write_is_early statuses.NoMemory h = tt
 write_is_early _ h = absurd h
 
-early_is_fault : (status : Status) → IsEarlyFault status → IsFault status
+pub early_is_fault : (status : Status) → IsEarlyFault status → IsFault status
 early_is_fault statuses.ReadFault h = tt
 early_is_fault statuses.WriteFault h = tt
 early_is_fault statuses.NoMemory h = tt
@@ -529,7 +529,7 @@ switch_is_fault _ request work h = absurd h
 -- a switch fails only behind all gates
 pub failed_passed : (refusal : Refusal) (request : Request) (work : Work) → IsSwitchFaulty refusal request work
     → AllPassed (gates_of request) work.files
-failed_passed SwitchFault request work h = h.2.passed
+failed_passed SwitchFault request work h = h.all.passed
 failed_passed _ request work h = absurd h
 
 -- the line of a refusal brings nothing but faults

@@ -17,4 +17,9 @@ pub mod Replayed
 pub mod Exact
 pub mod CauseTold
 pub mod Serial
+pub mod Comments
+pub mod Listed
+pub mod Named
+pub mod Ranges
+pub mod Compiled
 pub mod Promised

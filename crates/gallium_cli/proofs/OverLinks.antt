@@ -22,6 +22,7 @@ use Rattle.lossy_replay.specs.declared.run.LossyRun.{LossyRun}
 use Rattle.gallium_cli.specs.declared.refusal.Refusal.{Refusal}
 use Rattle.gallium_cli.specs.declared.status.Status.TheVariants as statuses
 use Rattle.gallium_cli.specs.Answers.{IsAnswer, IsSplitBy, given}
+use Rattle.gallium_cli.specs.Broken.{IsBroken, IsBrokenOn}
 use Rattle.gallium_cli.specs.Call.{work_of}
 use Rattle.gallium_cli.specs.Causes.{HasCause, IsAllRead, IsFirstRefused, ReadsAll, reads_after}
 use Rattle.gallium_cli.specs.Links.{IsLinkReplayed, IsLinkReport, IsLinkTraffic, IsSerialOverLinks}
@@ -91,6 +92,14 @@ link_answer s t c l m split writeback packets events text sent f g p p' goes fou
   link_traffic_before t c f g packets events goes traffic,
   subst (λ x. IsLinkReport x m (given m split writeback packets false) events report.0 p p') (sym put) report.1,
 )
+
+-- where its switch failed
+pub link_broken : (s t c l : List ℕ) (m : Tree) (split : List Part) (writeback : ℕ) (packets : List Packet)
+    (events : List LinkEvent) (f g : FilesState) (p p' : PortState) → GoesOn statuses.Done f g
+    → IsSplitBy (Within l false) f.told s m split writeback → IsLinkTraffic g.told t c packets events
+    → IsBrokenOn (given m split writeback packets false) p p' → IsBroken (Lossy s t c l) f.told p p'
+link_broken s t c l m split writeback packets events f g p p' goes found traffic broken =
+    (m, split, writeback, packets, events, found, link_traffic_before t c f g packets events goes traffic, broken)
 
 -- ## The run
 

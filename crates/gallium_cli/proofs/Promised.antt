@@ -42,6 +42,7 @@ use Rattle.gallium_cli.proofs.Replayed.{AreTrueReports, not_both, replay_told}
 use Rattle.gallium_cli.proofs.Serial.{serial_done}
 use Rattle.gallium_cli.proofs.Exact.{exact_ends, complete_ends}
 use Rattle.gallium_cli.proofs.CauseTold.{cause_told}
+use Rattle.gallium_cli.proofs.Compiled.{compiled_ends}
 
 -- ## A refusal isn't done
 
@@ -619,6 +620,7 @@ promised status call laws reports end =
       cause = cause_told request status call laws end;
       complete = complete_ends request status call laws end;
       exceeded = λ is. exceeded_ends request status call end (subst IsExceededStatus (sym is) tt);
+      compiled = λ s l p asked text. compiled_ends request status call laws end s l p asked text;
       replayed = λ s t r asked replay. (
         λ is. replayed_ends reports request status call end s t r asked replay (subst BlamesReport (sym is) tt),
         λ is. replayed_ends reports request status call end s t r asked replay (subst BlamesReport (sym is) tt),

@@ -130,7 +130,7 @@ past_parts [] i past = refl
 past_parts (part ∷ split) zero past = absurd (omega arith)
 past_parts (part ∷ split) (suc i) past = past_parts split i (omega arith)
 
-few_within : (f : Program) (split : List Part) (allowed : Limits) → length split ≡ length f.code → AreInRange allowed
+pub few_within : (f : Program) (split : List Part) (allowed : Limits) → length split ≡ length f.code → AreInRange allowed
     → KeepsLimits f split allowed → HasFewStages split
 few_within f split allowed count ranges keeps = record {
   pre = λ i stage is. elim (cases_lt i (length f.code)) [
@@ -290,7 +290,7 @@ pub not_both : (told : Option (List ℕ)) (P Q : List ℕ → Type 0) → ((text
 not_both None P Q never one two = one
 not_both (Some text) P Q never one two = never text one two
 
-some_follows : (told : Option (List ℕ)) (P Q : List ℕ → Type 0) → ((text : List ℕ) → P text → Q text)
+pub some_follows : (told : Option (List ℕ)) (P Q : List ℕ → Type 0) → ((text : List ℕ) → P text → Q text)
     → IsSomeAnd told P → IsSomeAnd told Q
 some_follows None P Q follows h = h
 some_follows (Some text) P Q follows h = follows text h

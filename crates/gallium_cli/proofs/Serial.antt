@@ -1,17 +1,15 @@
 -- A replay that is done tells a serial run of its source.
-use Rattle.std.proofs.Common.{◌≡◌, ℕ, true, false, List, ◌++◌, Option, Some, None, IfSome, refl}
-use Rattle.std.specs.Prelude.{Ok, IsSome}
+use Rattle.std.proofs.Common.{ℕ, false, List, Option, Some, None, IfSome, refl}
+use Rattle.std.specs.Prelude.{IsSome}
 use Rattle.std.proofs.lemmas.Bool.{false≢true}
-use Rattle.packet_fields.specs.declared.packet.Packet.{Packet}
 use Rattle.element_lang.specs.Accepted.{IsSource}
 use Rattle.element_lang.specs.Tree.{Tree}
-use Rattle.run_text.specs.Trace.{trace_of}
 use Rattle.split_model.specs.declared.split.Part.{Part}
 use Rattle.gallium_cli.specs.Answers.{IsProgram, IsSplitBy}
 use Rattle.gallium_cli.specs.Call.{Work}
 use Rattle.gallium_cli.specs.Causes.{IsDone}
 use Rattle.gallium_cli.specs.Promises.{IsReplay}
-use Rattle.gallium_cli.specs.Serial.{AreSpelled, IsSerial}
+use Rattle.gallium_cli.specs.Serial.{IsSerial}
 use Rattle.gallium_cli.specs.Words.{Request, Run, Compile, Replay, Lossy, Check, Audit, Chain, Gen, PcapIn, PcapOut}
 use Rattle.gallium_cli.specs.Words.{Splitting, ServerAlone, Within, Spelled}
 

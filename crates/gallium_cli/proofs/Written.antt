@@ -24,7 +24,13 @@ use Rattle.split_validate.specs.CountsText.{counts_text}
 use Rattle.partition.specs.Choice.{IsChosen}
 use Rattle.run_text.specs.declared.plan.Plan.{Plan}
 use Rattle.switch_ir.specs.Port.{PortState}
+use Rattle.replay_state.specs.Program.{manner_of}
+use Rattle.replay_contracts.specs.declared.job.ReplayError.{ReplayError}
+use Rattle.replay_contracts.specs.declared.job.ReplayError.TheVariants.{PortFault}
 use Rattle.replay_contracts.specs.declared.job.Replayed.{Replayed}
+use Rattle.run_text.specs.Report.{line_end}
+use Rattle.replay_contracts.specs.Given.{Given}
+use Rattle.replay_contracts.specs.Replayer.{HasBroken}
 use Rattle.gallium_cli.specs.declared.status.Status.TheVariants as statuses
 use Rattle.gallium_cli.specs.declared.refusal.Refusal.{Refusal}
 use Rattle.gallium_cli.specs.declared.refusal.Refusal.TheVariants.{WriteFault, SwitchFault, NoMemory}
@@ -32,7 +38,6 @@ use Rattle.gallium_cli.specs.Call.{work_of}
 use Rattle.traffic_generator.specs.Packets.{packets_of as made_packets}
 use Rattle.traffic_generator.specs.Summary.{summary_of}
 use Rattle.traffic_generator.specs.Translator.{translator_limits, translator_text}
-use Rattle.gallium_cli.specs.Lines.{line_end}
 use Rattle.gallium_cli.specs.Words.{Splitting, ServerAlone, Within, Spelled, is_replay}
 use Rattle.gallium_cli.specs.Words.{Request, Run, Compile, Replay, Lossy, Check, Audit, Chain, Gen, PcapIn, PcapOut}
 use Rattle.gallium_cli.specs.Roles.{gates_of, split_gates, event_gates, names_of, split_reads}
@@ -40,6 +45,7 @@ use Rattle.gallium_cli.specs.Answers.{IsAnswer, IsProgram, IsPlan, IsTraffic, Is
 use Rattle.gallium_cli.specs.Answers.{IsSplitBy, IsReport, IsReplayed, given, heading_text, compiled_text, checked_text}
 use Rattle.gallium_cli.specs.Roles.{IsOnlySource}
 use Rattle.gallium_cli.specs.Answers.{IsMadeSplit, IsSummary, made_plan}
+use Rattle.gallium_cli.specs.Broken.{IsBroken, IsBrokenOn, IsMadeBroken}
 use Rattle.gallium_cli.specs.Loads.{GoesOn, raised_by}
 use Rattle.gallium_cli.specs.Puts.{IsPut, IsNotPut}
 use Rattle.gallium_cli.specs.Causes.{IsFirstRefused, IsAllRead, IsNotWritten, IsSwitchKept, IsDone, HasCause}
@@ -87,21 +93,37 @@ memory_cause _ request f f' p p' o is few kept = cc
 -- a switch that failed
 pub switch_cause : (refusal : Refusal) (request : Request) (f f' : FilesState) (p p' : PortState) (o : SinkState)
     → refusal ≡ SwitchFault → is_replay request ≡ true → Rose p.faults p'.faults
-    → IsAllRead request (work_of f f' p p' o o) → IsSwitchKept (is_replay request) p p'
+    → IsAllRead request (work_of f f' p p' o o) → IsBroken request f.told p p' → IsSwitchKept (is_replay request) p p'
     → HasCause refusal (Some request) (work_of f f' p p' o o)
-switch_cause SwitchFault request f f' p p' o is replays rose all kept =
-    (inr (inl ((replays, rose, all), refl)), all_some request f f' all.reads, kept)
-switch_cause _ request f f' p p' o is replays rose all kept = cc
+switch_cause SwitchFault request f f' p p' o is replays rose all broken kept = (
+  inr (inl (record { replays = replays; rose = rose; all = all; broken = broken }, refl)),
+  all_some request f f' all.reads,
+  kept,
+)
+switch_cause _ request f f' p p' o is replays rose all broken kept = cc
 
 -- a replay that came to no report
 pub replay_cause : (refusal : Refusal) (request : Request) (f f' : FilesState) (p p' : PortState) (o : SinkState)
     → ((refusal ≡ NoMemory) × (p'.faults ≡ p.faults)) ⊎ ((refusal ≡ SwitchFault) × Rose p.faults p'.faults)
-    → is_replay request ≡ true → IsAllRead request (work_of f f' p p' o o) → IsSwitchKept (is_replay request) p p'
+    → is_replay request ≡ true → IsAllRead request (work_of f f' p p' o o)
+    → (refusal ≡ SwitchFault → IsBroken request f.told p p') → IsSwitchKept (is_replay request) p p'
     → HasCause refusal (Some request) (work_of f f' p p' o o)
-replay_cause refusal request f f' p p' o (inl memory) replays all kept =
+replay_cause refusal request f f' p p' o (inl memory) replays all broken kept =
     memory_cause refusal request f f' p p' o memory.0 (all_some request f f' all.reads) kept
-replay_cause refusal request f f' p p' o (inr switch) replays all kept =
-    switch_cause refusal request f f' p p' o switch.0 replays switch.1 all kept
+replay_cause refusal request f f' p p' o (inr switch) replays all broken kept =
+    switch_cause refusal request f f' p p' o switch.0 replays switch.1 all (broken switch.0) kept
+
+-- what a switch that failed is left with, by the flat program of a middlebox
+pub broken_on : (m : Tree) (f : Program) (split : List Part) (writeback : ℕ) (packets : List Packet) (fine : Bool)
+    (e : ReplayError) (p p' : PortState) → f ≡ flat_of m → e ≡ PortFault
+    → (let x : Given =
+    record { program = f; split = split; writeback = writeback; packets = packets; manner = manner_of fine } in
+    HasBroken x e p p' → IsBrokenOn (given m split writeback packets fine) p p')
+broken_on m f split writeback packets fine e p p' is fault broken =
+    let at : Program → Given =
+    λ g. record { program = g; split = split; writeback = writeback; packets = packets; manner = manner_of fine } in
+    subst (λ (g : Program). HasBroken (at g) PortFault p p') is
+    (subst (λ (end : ReplayError). HasBroken (at f) end p p') fault broken)
 
 -- ## Answers
 
@@ -268,6 +290,14 @@ replay_answer s t c by m split writeback packets plan text sent f g p p' goes fo
   subst (λ x. IsReport x m (given m split writeback packets plan.fine) plan report.0 p p') (sym put) report.1,
 )
 
+-- where its switch failed
+pub replay_broken : (s t c : List ℕ) (by : Splitting) (m : Tree) (split : List Part) (writeback : ℕ)
+    (packets : List Packet) (plan : Plan) (f g : FilesState) (p p' : PortState) → GoesOn statuses.Done f g
+    → IsSplitBy by f.told s m split writeback → IsTraffic g.told t c packets plan
+    → IsBrokenOn (given m split writeback packets plan.fine) p p' → IsBroken (Replay s t c by) f.told p p'
+replay_broken s t c by m split writeback packets plan f g p p' goes found traffic broken =
+    (m, split, writeback, packets, plan, found, traffic_before t c f g packets plan goes traffic, broken)
+
 -- ## Made work
 
 -- the chosen split of the middlebox that packets are made for
@@ -308,6 +338,20 @@ made_summary text seed count m split writeback packets plan replayed p p' made p
           subst (λ (made : Plan). IsReplayed m (given m split writeback (made_packets seed count) made.fine) made replayed p p') plan_is
           (subst (λ (ps : List Packet). IsReplayed m (given m split writeback ps plan.fine) plan replayed p p') packets_are replay);
     }
+
+-- where its switch failed
+pub made_broken : (seed count : ℕ) (m : Tree) (split : List Part) (writeback : ℕ) (packets : List Packet) (plan : Plan)
+    (p p' : PortState) → IsMadeSplit m split writeback → packets ≡ made_packets seed count → plan ≡ made_plan count
+    → IsBrokenOn (given m split writeback packets plan.fine) p p' → IsMadeBroken seed count p p'
+made_broken seed count m split writeback packets plan p p' made packets_are plan_is broken = record {
+  m = m;
+  split = split;
+  writeback = writeback;
+  made = made;
+  broken =
+      subst (λ (made : Plan). IsBrokenOn (given m split writeback (made_packets seed count) made.fine) p p') plan_is
+      (subst (λ (ps : List Packet). IsBrokenOn (given m split writeback ps plan.fine) p p') packets_are broken);
+}
 
 -- the text that was put on out is that summary
 pub summary_put : (text sent : List ℕ) (seed count : ℕ) (p p' : PortState) → IsSummary text seed count p p'

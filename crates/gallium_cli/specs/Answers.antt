@@ -24,7 +24,7 @@ use Rattle.resource_limits.specs.Limits.{AreInRange}
 use Rattle.partition.specs.Choice.{IsChosen}
 use Rattle.run_text.specs.declared.plan.Plan.{Plan}
 use Rattle.run_text.specs.Trace.{trace_of, schedule_of}
-use Rattle.run_text.specs.Report.{report_of}
+use Rattle.run_text.specs.Report.{line_end, report_of}
 use Rattle.run_text.specs.Answer.{answer_of}
 use Rattle.run_text.specs.Printed.{trace_text}
 use Rattle.pcap_trace.specs.declared.pcap.Pcap.{Pcap}
@@ -60,7 +60,6 @@ use Rattle.gallium_cli.specs.Seen.{IsFastAsSeen}
 use Rattle.gallium_cli.specs.Words as words
 use Rattle.gallium_cli.specs.Words.{Splitting, ServerAlone, Within, Spelled}
 use Rattle.gallium_cli.specs.Words.{Request, Run, Compile, Replay, Lossy, Check, Audit, Gen, PcapIn, PcapOut}
-use Rattle.gallium_cli.specs.Lines.{line_end}
 use Rattle.gallium_cli.specs.Roles.{source, program, limits, legal_split, trace, schedule, capture, size_of}
 use Rattle.gallium_cli.specs.Roles.{true_report, AreLimits, IsCaptured, IsOnlySource, IsShort}
 use Rattle.gallium_cli.specs.Chains.{IsWired, AreClasses, IsOneSource, connected}
@@ -144,6 +143,13 @@ IsSplitBy (Within l shrink) told s m split writeback =
 IsSplitBy (Spelled l p) told s m split writeback =
     (allowed : Limits) × IsPlan told s l m allowed × IsGivenSplit told p (flat_of m) allowed split
     × (writeback ≡ allowed.writeback)
+
+-- The told contents spell a middlebox and limits, and the text tells the split that is chosen within them, which may
+-- shrink to keep them or not.
+abbrev pub IsCompiled : (List ℕ → Option (List ℕ)) → List ℕ → List ℕ → Bool → List ℕ → Type 0
+IsCompiled told s l shrink text =
+    (m : Tree) × (split : List Part) × (writeback : ℕ)
+    × IsSplitBy (Within l shrink) told s m split writeback × (text ≡ compiled_text (flat_of m) split writeback)
 
 -- ## Replays
 
@@ -296,9 +302,7 @@ IsToldTrace told t packets = IfSome (told t) (λ text. (length text ≤ size_of 
 abbrev pub IsAnswer : List ℕ → Request → (List ℕ → Option (List ℕ)) → PortState → PortState → Type 0
 IsAnswer text (Run s t) told port port_after =
     (m : Tree) × (packets : List Packet) × IsInput told s t m packets × (text ≡ serial_answer m packets)
-IsAnswer text (Compile s l shrink) told port port_after =
-    (m : Tree) × (split : List Part) × (writeback : ℕ)
-    × IsSplitBy (Within l shrink) told s m split writeback × (text ≡ compiled_text (flat_of m) split writeback)
+IsAnswer text (Compile s l shrink) told port port_after = IsCompiled told s l shrink text
 IsAnswer text (Replay s t c by) told port port_after =
     (m : Tree) × (split : List Part) × (writeback : ℕ) × (packets : List Packet) × (plan : Plan) × (replayed : Replayed)
     × IsSplitBy by told s m split writeback × IsTraffic told t c packets plan

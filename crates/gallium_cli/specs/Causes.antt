@@ -29,6 +29,7 @@ use Rattle.gallium_cli.specs.Chains.{IsChainRefused, IsChainPassed, AreAllNames,
 use Rattle.gallium_cli.specs.Roles.{gates_of, names_of}
 use Rattle.gallium_cli.specs.Splits.{excess_of}
 use Rattle.gallium_cli.specs.Answers.{IsPlan, IsAuditInput, IsAnswer}
+use Rattle.gallium_cli.specs.Broken.{IsBroken}
 use Rattle.gallium_cli.specs.Loads.{IsFileRefused, GoesOn, raised_by}
 
 -- why no split of a program is chosen: the greatest one exceeds a limit, and this one first, or no memory was found
@@ -119,10 +120,13 @@ IsDone (Some request) work =
     × ReadsAll request work.files work.files_after
     × IsSwitchKept (is_replay request) work.port work.port_after
 
--- all that a replay asks for is read and accepted, and then the switch failed, so that its count of faults rose
-abbrev pub IsFailedReplay : Request → Work → Type 0
-IsFailedReplay request work =
-    (is_replay request ≡ true) × Rose work.port.faults work.port_after.faults × IsAllRead request work
+-- All that a replay asks for is read and accepted, and then the switch failed, so that its count of faults rose. It is as
+-- it was otherwise, or it was loaded with the code of the split that is asked for, keeps it, and may have been called more.
+pub record IsFailedReplay (request : Request) (work : Work) : Type 0 where
+  pub replays : is_replay request ≡ true
+  pub rose : Rose work.port.faults work.port_after.faults
+  pub all : IsAllRead request work
+  pub broken : IsBroken request work.files.told work.port work.port_after
 
 abbrev pub IsSwitchFaulty : Refusal → Request → Work → Type 0
 IsSwitchFaulty SwitchFault request work = IsFailedReplay request work

@@ -10,6 +10,7 @@ pub mod Chains
 pub mod Seen
 pub mod Links
 pub mod Answers
+pub mod Broken
 pub mod Puts
 pub mod Call
 pub mod Causes

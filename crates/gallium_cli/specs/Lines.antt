@@ -23,6 +23,7 @@ use Rattle.run_text.specs.declared.refusal.LineKind.TheVariants as kinds
 use Rattle.run_text.specs.declared.refusal.LinesError.{LinesError}
 use Rattle.run_text.specs.declared.refusal.LinesError.TheVariants as lines
 use Rattle.gallium_cli.specs.declared.status.Status.{Status}
+use Rattle.run_text.specs.Report.{line_end}
 use Rattle.gallium_cli.specs.declared.status.Status.TheVariants as statuses
 use Rattle.gallium_cli.specs.declared.refusal.Excess.{Excess}
 use Rattle.gallium_cli.specs.declared.refusal.Untruth.{Untruth}
@@ -35,9 +36,6 @@ use Rattle.gallium_cli.specs.declared.refusal.Refusal.TheVariants.{SwitchFault, 
 use Rattle.gallium_cli.specs.declared.refusal.Refusal.TheVariants.{ClassSource, ClassTooLong, ClassReadFault}
 use Rattle.gallium_cli.specs.declared.refusal.Refusal.TheVariants as refusals
 use Rattle.gallium_cli.specs.declared.refusal.Uncomposed.{Uncomposed}
-
-abbrev pub line_end : List ℕ
-line_end = 10 ∷ []
 
 -- how many there are, and how many there may be
 abbrev pub numbers_text : ℕ → ℕ → List ℕ

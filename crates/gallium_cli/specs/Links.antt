@@ -9,7 +9,7 @@ use Rattle.run_model.specs.declared.link_event.LinkEvent.{LinkEvent}
 use Rattle.run_model.specs.declared.run.Run.{Run as RunTold}
 use Rattle.run_model.specs.Serialises.{Serialises, AllReleased, IsDrained}
 use Rattle.run_text.specs.LinkSchedule.{link_schedule_of}
-use Rattle.run_text.specs.Report.{report_of}
+use Rattle.run_text.specs.Report.{line_end, report_of}
 use Rattle.run_text.specs.Trace.{trace_of}
 use Rattle.switch_ir.specs.Port.{PortState}
 use Rattle.replay_state.specs.Drain.{is_quiet}
@@ -24,7 +24,6 @@ use Rattle.lossy_replay.specs.Replay.{HasEnds, IsLinkedReplay, events_through, w
 use Rattle.lossy_replay.specs.declared.run.LossyRun.{LossyRun}
 use Rattle.lossy_replay.specs.declared.run.Tally4.{Tally4}
 use Rattle.run_audit.specs.Source.{source_of}
-use Rattle.gallium_cli.specs.Lines.{line_end}
 use Rattle.gallium_cli.specs.Roles.{trace, link_schedule, size_of}
 use Rattle.gallium_cli.specs.Seen.{IsFastAsSeen}
 

@@ -1,5 +1,5 @@
 -- What the program promises of a whole call.
-use Rattle.std.specs.Prelude.{◌≡◌, ◌<◌, ◌≤◌, ◌⊎◌, ◌≢◌, ℕ, true, false, List, [], ◌∷◌, length, slice_get}
+use Rattle.std.specs.Prelude.{◌≡◌, ◌<◌, ◌≤◌, ◌⊎◌, ◌≢◌, ℕ, Bool, true, false, List, [], ◌∷◌, length, slice_get}
 use Rattle.std.specs.Prelude.{Option, Some, None, Ok}
 use Rattle.std.specs.Prelude.{IsSome, IsSomeAnd, is_some}
 use Rattle.std.specs.Io.KnownBytes.{append_known}
@@ -8,7 +8,6 @@ use Rattle.packet_fields.specs.declared.packet.Packet.{Packet}
 use Rattle.element_lang.specs.Tree.{Tree}
 use Rattle.element_lang.specs.Accepted.{IsSource}
 use Rattle.flatten.specs.Flatten.{flat_of}
-use Rattle.split_model.specs.declared.split.Part.{Part}
 use Rattle.resource_limits.specs.declared.limits.Limits.{Limits}
 use Rattle.resource_limits.specs.declared.exceeding.Over.{Over}
 use Rattle.partition.specs.Choice as choice
@@ -42,7 +41,7 @@ use Rattle.gallium_cli.specs.Loads.{IsLongProgram, AreBadLimits, IsBadTrace, IsB
 use Rattle.gallium_cli.specs.Splits.{SpellsLegal, IsBadSplit, excess_of}
 use Rattle.gallium_cli.specs.Reports.{TellsRun, IsUntrue}
 use Rattle.gallium_cli.specs.Chains.{AreNames, class_files, file_of, connected, uncomposed_of}
-use Rattle.gallium_cli.specs.Answers.{IsReplayOf}
+use Rattle.gallium_cli.specs.Answers.{IsCompiled, IsReplayOf}
 use Rattle.run_text.specs.Trace.{trace_of}
 use Rattle.gallium_cli.specs.Causes.{IsDone, IsFailedReplay, CountsFaults, Ends, ReadsAll, ReadsSome}
 use Rattle.gallium_cli.specs.Serial.{IsSerial}
@@ -104,6 +103,14 @@ pub record IsReplayReport (told : List ℕ → Option (List ℕ)) (s t r : List 
   pub source : IsSomeAnd (told s) (λ text. IsSource text m)
   pub trace : IsSomeAnd (told t) (λ text. trace_of text ≡ Ok packets)
   pub replay : IsSomeAnd (told r) (IsReplayOf m packets)
+
+-- they are told, and the third is the text that tells the split of the middlebox of the first that is chosen within the
+-- limits of the second, which may shrink to keep them or not
+pub record IsCompileText (told : List ℕ → Option (List ℕ)) (s l p : List ℕ) : Type 0 where
+  pub shrink : Bool
+  pub source : IsSome (told s)
+  pub limits : IsSome (told l)
+  pub text : IsSomeAnd (told p) (IsCompiled told s l shrink)
 
 -- the contents are told, and spell this chain
 abbrev pub IsToldWiring : (List ℕ → Option (List ℕ)) → List ℕ → ChainTold → Type 0
@@ -348,6 +355,10 @@ pub record Promises (status : Status) (call : Call) : Type 0 where
   pub cause : IsCauseTold (request_of call.words) status call
   pub complete : IsComplete (request_of call.words) status call
   pub exceeded : status ≡ Exceeded → MayExceed (request_of call.words)
+  -- the text that tells the chosen split of this source is never refused as a split of it within the same limits: it is
+  -- read, and is legal, and keeps them; so it is accepted, unless it is too long or there is a fault
+  pub compiled : (s l p : List ℕ) → request_of call.words ≡ Some (Check s l p)
+      → IsCompileText call.work.files.told s l p → (status ≡ TooLong) ⊎ IsUnlessFault Done status
   -- the report of a replay of this source over this trace is never refused: each is one in form, and is true
   pub replayed : (s t r : List ℕ) → request_of call.words ≡ Some (Audit s t r)
       → IsReplayReport call.work.files.told s t r → (status ≢ Report) × (status ≢ Untrue)

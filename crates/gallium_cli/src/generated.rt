@@ -16,6 +16,7 @@ ghost use Rattle.traffic_generator.specs.Packets.{packets_of as made_packets};
 ghost use Rattle.traffic_generator.specs.Translator.{translator_text};
 ghost use Rattle.gallium_cli.specs.Roles.{IsOnlySource};
 ghost use Rattle.gallium_cli.specs.Answers.{IsMadeSplit, IsSummary, made_plan};
+ghost use Rattle.gallium_cli.specs.Broken.{IsMadeBroken};
 ghost use Rattle.gallium_cli.specs.Call.{work_of};
 ghost use Rattle.gallium_cli.specs.Causes.{CountsFaults, HasCause, IsDone};
 ghost use Rattle.gallium_cli.specs.Lines.{status_of};
@@ -119,6 +120,8 @@ fn summary<S: SwitchPort>(
     ensures err { IfErr result (λ refusal.
         ((refusal ≡ Refusal.NoMemory) × ((S.seen port.new).faults ≡ (S.seen port.old).faults))
         ⊎ ((refusal ≡ Refusal.SwitchFault) × Rose (S.seen port.old).faults (S.seen port.new).faults)) }
+    ensures broken { IfErr result (λ refusal. refusal ≡ Refusal.SwitchFault
+        → IsMadeBroken seed count.packets (S.seen port.old) (S.seen port.new)) }
 {
     let middlebox = made_split(alloc)?;
     let (packets, plan) = made_traffic(alloc, seed, count)?;

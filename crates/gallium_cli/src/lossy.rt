@@ -8,6 +8,7 @@ ghost use Rattle.run_model.specs.Sizes.{most_packets};
 ghost use Rattle.run_text.specs.Report.{report_of};
 ghost use Rattle.lossy_replay.specs.declared.run.LossyRun.{LossyRun};
 ghost use Rattle.gallium_cli.specs.Answers.{given};
+ghost use Rattle.gallium_cli.specs.Broken.{IsBrokenOn};
 ghost use Rattle.gallium_cli.specs.Call.{work_of};
 ghost use Rattle.gallium_cli.specs.Causes.{CountsFaults, HasCause, IsDone, IsFirstRefused};
 ghost use Rattle.gallium_cli.specs.Lines.{status_of};
@@ -82,6 +83,9 @@ fn replayed<S: SwitchPort>(
     ensures err { IfErr result (λ refusal.
         ((refusal ≡ Refusal.NoMemory) × ((S.seen port.new).faults ≡ (S.seen port.old).faults))
         ⊎ ((refusal ≡ Refusal.SwitchFault) × Rose (S.seen port.old).faults (S.seen port.new).faults)) }
+    ensures broken { IfErr result (λ refusal. refusal ≡ Refusal.SwitchFault → IsBrokenOn
+        (given (tree split_middlebox.program.middlebox) split_middlebox.split split_middlebox.writeback packets false)
+        (S.seen port.old) (S.seen port.new)) }
 {
     a_packet_is_fast_by_what_is_seen();
     stores_are_kept();
@@ -171,6 +175,9 @@ fn report<S: SwitchPort>(
     ensures err { IfErr result (λ refusal.
         ((refusal ≡ Refusal.NoMemory) × ((S.seen port.new).faults ≡ (S.seen port.old).faults))
         ⊎ ((refusal ≡ Refusal.SwitchFault) × Rose (S.seen port.old).faults (S.seen port.new).faults)) }
+    ensures broken { IfErr result (λ refusal. refusal ≡ Refusal.SwitchFault → IsBrokenOn
+        (given (tree split_middlebox.program.middlebox) split_middlebox.split split_middlebox.writeback packets false)
+        (S.seen port.old) (S.seen port.new)) }
 {
     match replayed(alloc, split_middlebox, packets, events, port) {
         Ok((middlebox, run)) => match text_of(alloc, &middlebox, &run) {

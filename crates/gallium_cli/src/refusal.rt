@@ -1,8 +1,9 @@
 //! Why nothing is answered, and the line that says so.
 ghost use Rattle.std.specs.Prelude.{◌≡◌, ◌++◌, IfOk, string_bytes};
+ghost use Rattle.run_text.specs.Report.{line_end};
 ghost use Rattle.gallium_cli.specs.declared.refusal.Refusal.{Refusal};
 ghost use Rattle.gallium_cli.specs.declared.refusal.Excess.{Excess};
-ghost use Rattle.gallium_cli.specs.Lines.{status_of, line_of, line_end, what_text, kind_text};
+ghost use Rattle.gallium_cli.specs.Lines.{status_of, line_of, what_text, kind_text};
 ghost use Rattle.gallium_cli.specs.Lines.{source_text, class_line, chain_line, amount_text, composing_line};
 ghost use Rattle.gallium_cli.specs.Lines.{source_line, limits_line, excess_line, split_line, lines_line, owner_text};
 ghost use Rattle.gallium_cli.specs.Lines.{pcap_line, audit_line, report_line};

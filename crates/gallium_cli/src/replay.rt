@@ -6,6 +6,7 @@ ghost use Rattle.flat_ir.specs.Program.{program_of};
 ghost use Rattle.run_model.specs.Sizes.{most_events, most_packets};
 ghost use Rattle.replay_contracts.specs.declared.job.Replayed.{Replayed};
 ghost use Rattle.gallium_cli.specs.Answers.{IsReplayed, IsReport, IsTraffic, given};
+ghost use Rattle.gallium_cli.specs.Broken.{IsBrokenOn};
 ghost use Rattle.gallium_cli.specs.Call.{work_of};
 ghost use Rattle.gallium_cli.specs.Causes.{CountsFaults, HasCause, IsDone, IsFirstRefused};
 ghost use Rattle.gallium_cli.specs.Lines.{status_of};
@@ -79,6 +80,9 @@ pub fn replayed<S: SwitchPort>(
     ensures err { IfErr result (λ refusal.
         ((refusal ≡ Refusal.NoMemory) × ((S.seen port.new).faults ≡ (S.seen port.old).faults))
         ⊎ ((refusal ≡ Refusal.SwitchFault) × Rose (S.seen port.old).faults (S.seen port.new).faults)) }
+    ensures broken { IfErr result (λ refusal. refusal ≡ Refusal.SwitchFault → IsBrokenOn
+        (given (tree split_middlebox.program.middlebox) split_middlebox.split split_middlebox.writeback packets plan.fine)
+        (S.seen port.old) (S.seen port.new)) }
 {
     a_packet_is_fast_by_what_is_seen();
     stores_are_kept();
@@ -132,6 +136,9 @@ fn report<S: SwitchPort>(
     ensures err { IfErr result (λ refusal.
         ((refusal ≡ Refusal.NoMemory) × ((S.seen port.new).faults ≡ (S.seen port.old).faults))
         ⊎ ((refusal ≡ Refusal.SwitchFault) × Rose (S.seen port.old).faults (S.seen port.new).faults)) }
+    ensures broken { IfErr result (λ refusal. refusal ≡ Refusal.SwitchFault → IsBrokenOn
+        (given (tree split_middlebox.program.middlebox) split_middlebox.split split_middlebox.writeback packets plan.fine)
+        (S.seen port.old) (S.seen port.new)) }
 {
     match replayed(alloc, split_middlebox, packets, plan, port) {
         Ok((middlebox, told)) => match print_run(alloc, &middlebox.objects, &told.run) {

@@ -1,6 +1,7 @@
 mod Apart
 mod Applying
 mod AtWork
+mod Breaking
 mod Carrying
 mod Giving
 mod GoingOn

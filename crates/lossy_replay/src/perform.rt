@@ -5,7 +5,7 @@ ghost use Rattle.run_model.specs.LinkEvents.{IsLinkSchedule};
 ghost use Rattle.run_model.specs.Sizes.{most_packets};
 ghost use Rattle.split_model.specs.Bounds.{HasFewStages};
 ghost use Rattle.split_answers.specs.Whole.{IsSplit};
-ghost use Rattle.replay_contracts.specs.Replayer.{CountsFault, given_of};
+ghost use Rattle.replay_contracts.specs.Replayer.{CountsFault, HasBroken, given_of};
 ghost use Rattle.lossy_replay.specs.Replay.{IsLinkedReplay, IsLinkedRun};
 
 use crate::links::Links;
@@ -22,8 +22,9 @@ use switch_ir::SwitchPort;
 
 /// Loads a switch with the code of a job, and performs the events of a schedule over links: those of the world only
 /// where they apply and the links let them happen. Each other event of the world leaves no trace. No call of the switch
-/// failed then. After an error it is told of the switch only that just one call of it failed, or that none did and there
-/// was no memory; it tells its tables where it told them before.
+/// failed then. After an error exactly one call failed, or none where memory ran out, and the switch tells its tables
+/// where it told them before. Either it is as it was, since its code was never loaded; or it has that code, and its
+/// journal has the load and what was called behind it.
 pub fn replay_lossy<S: SwitchPort>(
     alloc: Global,
     job: &Job,
@@ -44,6 +45,7 @@ pub fn replay_lossy<S: SwitchPort>(
     ensures stays { is_some (S.seen port.new).told ≡ is_some (S.seen port.old).told }
     ensures no_fault { OnOk result ((S.seen port.new).faults ≡ (S.seen port.old).faults) }
     ensures fault { IfErr result (λ e. CountsFault e (S.seen port.old) (S.seen port.new)) }
+    ensures fails { IfErr result (λ e. HasBroken (given_of job.now) e (S.seen port.old) (S.seen port.new)) }
 {
     a_quiet_switch_has_the_servers_tables();
     a_run_is_answered_by_its_calls();

@@ -10,7 +10,8 @@ use Rattle.split_model.specs.declared.split.Slow.TheVariants.{Carried, Server, P
 use Rattle.split_model.specs.declared.split.Part.{Part}
 use Rattle.split_model.specs.Split.{pre_stage, post_stage, stage_after}
 use Rattle.split_model.specs.Bounds.{HasFewStages}
-use Rattle.split_validate.specs.SplitText.{first_line, line_end, part_line, part_lines, pre_text, slow_text, split_text}
+use Rattle.flat_ir.specs.Listing.{line_end}
+use Rattle.split_validate.specs.SplitText.{first_line, part_line, part_lines, pre_text, slow_text, split_text}
 use Rattle.split_validate.specs.SplitSteps.{title}
 use Rattle.split_validate.proofs.Gone.{AreLow, IsLow, IsLowPre, IsLowSlow, last, part_told, parts_told, split_told}
 use Rattle.split_validate.proofs.Numbers.{decimal_digits}

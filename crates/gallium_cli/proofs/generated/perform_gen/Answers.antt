@@ -12,7 +12,7 @@ returns-in_err-text-clause-err g c = λ files.
     rw (p.1, p.2)
     (replay_cause _ (Gen c.args.seed c.args.count.packets) files files
     (g.S.SwitchPort.seen c.args.port.now) (g.S.SwitchPort.seen c.summary.new.port) (g.O.Sink.seen c.args.out.now)
-    found.err refl (record { passed = tt; reads = refl }) found.stays)
+    found.err refl (record { passed = tt; reads = refl }) found.broken found.stays)
 
 pub returns-in_err-text-clause-fault : goal.returns-in_err-text-clause-fault
 returns-in_err-text-clause-fault g c = λ files.

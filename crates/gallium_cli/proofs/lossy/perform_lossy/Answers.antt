@@ -3,7 +3,7 @@ use Rattle.std.proofs.lemmas.Result.{err_from_is_err_and}
 use Rattle.gallium_cli.specs.Roles.{link_gates}
 use Rattle.gallium_cli.specs.Words.{Lossy}
 use Rattle.gallium_cli.proofs.Counted.{gate_counts, goes_further, put_counts, replay_counts, unput_counts}
-use Rattle.gallium_cli.proofs.OverLinks.{link_answer, link_read, link_reads, link_split_refused, link_traffic_refused}
+use Rattle.gallium_cli.proofs.OverLinks.{link_answer, link_broken, link_read, link_reads, link_split_refused, link_traffic_refused}
 use Rattle.gallium_cli.proofs.Written.{put_answer, replay_cause, unput_answer}
 use Rattle.gallium_cli.proofs.lossy.perform_lossy.Goals as goal
 
@@ -32,6 +32,8 @@ returns-in_err-text-clause-err g c =
     (g.S.SwitchPort.seen c.args.port.now) (g.S.SwitchPort.seen c.report.new.port) (g.O.Sink.seen c.args.out.now)
     c.in_err-text.ensures.err refl
     (link_read _ _ _ _ _ _ _ _ _ _ _ _ _ _ _ found.ok found.stays came.ok found.read came.read)
+    (λ failed. link_broken _ _ _ _ _ _ _ _ _ _ _ (g.S.SwitchPort.seen c.args.port.now) (g.S.SwitchPort.seen c.report.new.port)
+    found.stays found.ok came.ok (c.in_err-text.ensures.broken failed))
     c.in_err-text.ensures.stays)
 
 pub returns-clause-ok : goal.returns-clause-ok

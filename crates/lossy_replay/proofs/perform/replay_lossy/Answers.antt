@@ -2,6 +2,7 @@ use Rattle.std.proofs.Common.{arith, length, ◌∙◌}
 use Rattle.std.proofs.lemmas.Option.{slice_get-get_or}
 use Rattle.std.proofs.lemmas.Result.{err_from_is_err_and}
 use Rattle.replay_contracts.specs.Replayer.{given_of}
+use Rattle.lossy_replay.proofs.Breaking.{breaks_behind}
 use Rattle.lossy_replay.proofs.Whole.{all_linked, at_all, counts_behind, inside_all, is_linked, is_linked_run, linked_more, on_its_way, past_all, starts, stays_reported}
 use Rattle.lossy_replay.proofs.perform.replay_lossy.Goals as goal
 
@@ -78,3 +79,23 @@ returns-clause-no_fault g c =
     (stays_reported (given_of c.args.job.now) _ c.loop-event.links c.loop-event.course (g.S.SwitchPort.seen c.args.port.now)
     (g.S.SwitchPort.seen c.loop-event.port) (g.S.SwitchPort.seen c.report.new.port) c.in_ok-replayed.replayed c.loop-event.invariant
     c.in_ok-replayed.ensures.reports).faults
+
+pub returns-in_err-course-clause-fails : goal.returns-in_err-course-clause-fails
+returns-in_err-course-clause-fails g c =
+    let p = err_from_is_err_and c.from_residual.result c.from_residual.ensures.1 in rw (p.1, p.2) c.in_err-course.ensures.fails
+
+pub returns-in_err-step-clause-fails : goal.returns-in_err-step-clause-fails
+returns-in_err-step-clause-fails g c =
+    let p = err_from_is_err_and c.from_residual-in_err-step.result c.from_residual-in_err-step.ensures.1 in
+    rw (p.1, p.2) (breaks_behind (given_of c.args.job.now) _ _ c.loop-event.links c.loop-event.course
+    (g.S.SwitchPort.seen c.args.port.now) (g.S.SwitchPort.seen c.start.new.port) (g.S.SwitchPort.seen c.loop-event.port)
+    (g.S.SwitchPort.seen c.step.new.port) c.in_ok-course.ensures.loads c.in_ok-course.ensures.started.stays
+    c.loop-event.invariant c.in_err-step.ensures.fails)
+
+pub returns-in_err-replayed-clause-fails : goal.returns-in_err-replayed-clause-fails
+returns-in_err-replayed-clause-fails g c =
+    let p = err_from_is_err_and c.from_residual-in_err-replayed.result c.from_residual-in_err-replayed.ensures.1 in
+    rw (p.1, p.2) (breaks_behind (given_of c.args.job.now) _ _ c.loop-event.links c.loop-event.course
+    (g.S.SwitchPort.seen c.args.port.now) (g.S.SwitchPort.seen c.start.new.port) (g.S.SwitchPort.seen c.loop-event.port)
+    (g.S.SwitchPort.seen c.report.new.port) c.in_ok-course.ensures.loads c.in_ok-course.ensures.started.stays
+    c.loop-event.invariant c.in_err-replayed.ensures.fails)
