@@ -1,6 +1,7 @@
 -- The listing of a flat program: a comment line for each block, instruction and part of the output.
 use Rattle.std.specs.Prelude.{ℕ, suc, Bool, true, false, List, [], ◌∷◌, ◌++◌, codes, decimal, slice_get, unwrap_or}
 use Rattle.std.specs.Option.{option_map}
+use Rattle.gal_io.specs.Lines.{line_end}
 use Rattle.gal_bits.specs.declared.op.Op.{Op}
 use Rattle.gal_bits.specs.declared.op.Op.TheVariants.{Select}
 use Rattle.gal_bits.specs.Operators.{operator_row}
@@ -11,10 +12,6 @@ use Rattle.flat_ir.specs.declared.program.Block.{Block}
 use Rattle.flat_ir.specs.declared.program.FieldValue.{FieldValue}
 use Rattle.flat_ir.specs.Program.{Program, Step, Work}
 use Rattle.flat_ir.specs.Program.Work.{const, field, apply, shift, select, byte, look, put, del}
-
--- every line ends with LF
-abbrev pub line_end : List ℕ
-line_end = 10 ∷ []
 
 abbrev pub value_text : ValueId → List ℕ
 value_text v = decimal v.instruction ++ (codes "." ++ decimal v.result)

@@ -2,6 +2,10 @@
 use Rattle.std.specs.Prelude.{ℕ, Bool, true, ◌-◌, ◌==◌, List, [], ◌∷◌, length, take, map, slice_index, if◌then◌else◌}
 use Rattle.std.specs.List.{onto_first}
 
+-- every line ends with LF
+abbrev pub line_end : List ℕ
+line_end = 10 ∷ []
+
 -- the bytes between line feeds, of which each ends a line; what follows the last one is a line where it has a byte
 abbrev pub fed_lines : List ℕ → List (List ℕ)
 fed_lines [] = []
@@ -19,3 +23,8 @@ lines text = map without_return (fed_lines text)
 abbrev pub is_skipped : List ℕ → Bool
 is_skipped [] = true
 is_skipped (first ∷ rest) = first == 35
+
+-- the lines that aren't skipped
+abbrev pub told_of : List (List ℕ) → List (List ℕ)
+told_of [] = []
+told_of (line ∷ ls) = if is_skipped line then told_of ls else line ∷ told_of ls

@@ -6,8 +6,7 @@ use Rattle.std.specs.List.{list_all, onto_first}
 use Rattle.std.specs.Fmt.{decimal, digits, digits_onto, digit_glyph}
 use Rattle.std.proofs.lemmas.Bool.{and_parts, leb-true}
 use Rattle.std.proofs.lemmas.Bool.Decides.{nat_tests}
-use Rattle.gal_io.specs.Lines.{fed_lines, lines, without_return, is_skipped}
-use Rattle.split_validate.specs.SplitLines.{told_of}
+use Rattle.gal_io.specs.Lines.{fed_lines, lines, without_return, is_skipped, told_of}
 
 -- ## Bytes that end no line
 

@@ -4,7 +4,7 @@ use Rattle.std.proofs.Common.{refl, sym, ap, ◌∙◌, append_assoc}
 use Rattle.std.specs.Prelude.{codes}
 use Rattle.std.specs.Fmt.{decimal}
 use Rattle.std.proofs.lemmas.List.{append-nil}
-use Rattle.gal_io.specs.Lines.{lines}
+use Rattle.gal_io.specs.Lines.{lines, line_end, told_of}
 use Rattle.gal_bits.specs.declared.op.Op.{Op}
 use Rattle.gal_bits.specs.declared.op.Op.TheVariants.{Add, Sub, Mul, Div, Rem, And, Or, Xor, Not, Shl, Shr, Eq, Ne}
 use Rattle.gal_bits.specs.declared.op.Op.TheVariants.{Lt, Le, Cast, Select, Adjust}
@@ -24,7 +24,7 @@ use Rattle.flat_ir.specs.declared.program.Block.{Block}
 use Rattle.flat_ir.specs.declared.program.FieldValue.{FieldValue}
 use Rattle.flat_ir.specs.Program.{Program, Step, Work}
 use Rattle.flat_ir.specs.Program.Work.{const, field, apply, shift, select, byte, look, put, del}
-use Rattle.flat_ir.specs.Listing.{block_line, block_lines, keyed_text, line_end, listing, loop_mark, name_of}
+use Rattle.flat_ir.specs.Listing.{block_line, block_lines, keyed_text, listing, loop_mark, name_of}
 use Rattle.flat_ir.specs.Listing.{operator_text, polarity_text}
 use Rattle.flat_ir.specs.Listing.{send_line, step_line, step_lines, value_text, values_text, work_text, write_line}
 use Rattle.flat_ir.specs.Listing.{write_lines}
@@ -33,7 +33,7 @@ use Rattle.split_model.specs.declared.split.Slow.TheVariants.{Carried, Server, P
 use Rattle.split_model.specs.declared.split.Part.{Part}
 use Rattle.split_model.specs.Bounds.{HasFewStages}
 use Rattle.split_validate.specs.SplitText.{first_line, part_line, part_lines, pre_text, slow_text, split_text}
-use Rattle.split_validate.specs.SplitLines.{IsSplitText, told_of}
+use Rattle.split_validate.specs.SplitLines.{IsSplitText}
 use Rattle.split_validate.specs.CountsText.{counts_text}
 use Rattle.resource_limits.specs.Counts.{counts_of, greatest}
 use Rattle.resource_limits.specs.declared.counting.Counts.{Counts}

@@ -5,6 +5,7 @@ use Rattle.std.specs.Prelude.{OnOk, codes}
 use Rattle.gal_io.specs.Count.{Rose}
 use Rattle.gal_io.specs.Files.{FilesState}
 use Rattle.gal_io.specs.Sink.{SinkState}
+use Rattle.gal_io.specs.Lines.{line_end}
 use Rattle.packet_fields.specs.declared.packet.Packet.{Packet}
 use Rattle.element_lang.specs.Tree.{Tree}
 use Rattle.flat_ir.specs.Program.{Program}
@@ -28,7 +29,6 @@ use Rattle.replay_state.specs.Program.{manner_of}
 use Rattle.replay_contracts.specs.declared.job.ReplayError.{ReplayError}
 use Rattle.replay_contracts.specs.declared.job.ReplayError.TheVariants.{PortFault}
 use Rattle.replay_contracts.specs.declared.job.Replayed.{Replayed}
-use Rattle.run_text.specs.Report.{line_end}
 use Rattle.replay_contracts.specs.Given.{Given}
 use Rattle.replay_contracts.specs.Replayer.{HasBroken}
 use Rattle.gallium_cli.specs.declared.status.Status.TheVariants as statuses

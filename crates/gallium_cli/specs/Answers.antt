@@ -2,6 +2,7 @@
 use Rattle.std.specs.Prelude.{◌≡◌, ◌≤◌, ◌⊎◌, ℕ, List, ◌∷◌, ◌++◌, length, slice_get, Option, IfSome, IsSome, IsSomeAnd}
 use Rattle.std.specs.Prelude.{Ok, Bool, true, false, IsTrue, codes, decimal}
 use Rattle.std.specs.List.{AllByRecursion as Each}
+use Rattle.gal_io.specs.Lines.{line_end}
 use Rattle.packet_fields.specs.declared.packet.Packet.{Packet}
 use Rattle.state_store.specs.Store.{start_store}
 use Rattle.element_lang.specs.Tree.{Tree}
@@ -24,7 +25,7 @@ use Rattle.resource_limits.specs.Limits.{AreInRange}
 use Rattle.partition.specs.Choice.{IsChosen}
 use Rattle.run_text.specs.declared.plan.Plan.{Plan}
 use Rattle.run_text.specs.Trace.{trace_of, schedule_of}
-use Rattle.run_text.specs.Report.{line_end, report_of}
+use Rattle.run_text.specs.Report.{report_of}
 use Rattle.run_text.specs.Answer.{answer_of}
 use Rattle.run_text.specs.Printed.{trace_text}
 use Rattle.pcap_trace.specs.declared.pcap.Pcap.{Pcap}

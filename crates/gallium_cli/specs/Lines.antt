@@ -1,5 +1,6 @@
 -- The status and the line of each refusal.
 use Rattle.std.specs.Prelude.{ℕ, List, [], ◌∷◌, ◌++◌, Option, Some, None, codes, decimal}
+use Rattle.gal_io.specs.Lines.{line_end}
 use Rattle.element_lang.specs.declared.sizes.What.{What}
 use Rattle.element_lang.specs.declared.sizes.What.TheVariants.{Depth, Objects, Entries, Writes}
 use Rattle.chain_compose.specs.declared.error.ComposeError.{ComposeError}
@@ -23,7 +24,6 @@ use Rattle.run_text.specs.declared.refusal.LineKind.TheVariants as kinds
 use Rattle.run_text.specs.declared.refusal.LinesError.{LinesError}
 use Rattle.run_text.specs.declared.refusal.LinesError.TheVariants as lines
 use Rattle.gallium_cli.specs.declared.status.Status.{Status}
-use Rattle.run_text.specs.Report.{line_end}
 use Rattle.gallium_cli.specs.declared.status.Status.TheVariants as statuses
 use Rattle.gallium_cli.specs.declared.refusal.Excess.{Excess}
 use Rattle.gallium_cli.specs.declared.refusal.Untruth.{Untruth}

@@ -1,6 +1,7 @@
 -- What a replay over links is told.
 use Rattle.std.specs.Prelude.{◌≡◌, ◌≤◌, ℕ, List, ◌++◌, ◌∷◌, length, Option, IfSome, IsSome, IsSomeAnd}
 use Rattle.std.specs.Prelude.{Ok, true, IsTrue, codes, decimal}
+use Rattle.gal_io.specs.Lines.{line_end}
 use Rattle.packet_fields.specs.declared.packet.Packet.{Packet}
 use Rattle.element_lang.specs.Tree.{Tree}
 use Rattle.run_model.specs.declared.event.Event.{Event}
@@ -9,7 +10,7 @@ use Rattle.run_model.specs.declared.link_event.LinkEvent.{LinkEvent}
 use Rattle.run_model.specs.declared.run.Run.{Run as RunTold}
 use Rattle.run_model.specs.Serialises.{Serialises, AllReleased, IsDrained}
 use Rattle.run_text.specs.LinkSchedule.{link_schedule_of}
-use Rattle.run_text.specs.Report.{line_end, report_of}
+use Rattle.run_text.specs.Report.{report_of}
 use Rattle.run_text.specs.Trace.{trace_of}
 use Rattle.switch_ir.specs.Port.{PortState}
 use Rattle.replay_state.specs.Drain.{is_quiet}

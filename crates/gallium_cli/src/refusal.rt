@@ -1,6 +1,6 @@
 //! Why nothing is answered, and the line that says so.
 ghost use Rattle.std.specs.Prelude.{◌≡◌, ◌++◌, IfOk, string_bytes};
-ghost use Rattle.run_text.specs.Report.{line_end};
+ghost use Rattle.gal_io.specs.Lines.{line_end};
 ghost use Rattle.gallium_cli.specs.declared.refusal.Refusal.{Refusal};
 ghost use Rattle.gallium_cli.specs.declared.refusal.Excess.{Excess};
 ghost use Rattle.gallium_cli.specs.Lines.{status_of, line_of, what_text, kind_text};

@@ -16,6 +16,10 @@ pub record Batch : Type 0 where
 abbrev pub commands_in : List Batch → List Command
 commands_in batches = all_commands (map (λ b. b.updates) batches)
 
+-- the last command that was sent, where so many were
+abbrev pub last_of : List Batch → ℕ → Option Command
+last_of batches sent = if sent == 0 then None else slice_get (commands_in batches) (sent - 1)
+
 abbrev pub versions_of : Option Batch → ℕ
 versions_of None = 0
 versions_of (Some b) = b.versions

@@ -5,7 +5,7 @@ use Rattle.std.specs.List.{AllByRecursion as Each}
 use Rattle.writeback_table.specs.declared.command.Update.{Update}
 use Rattle.writeback_table.specs.declared.command.Command.{Command}
 use Rattle.writeback_table.specs.Commands.{bit_through}
-use Rattle.output_commit.specs.Batches.{Batch, commands_in, fits, merged}
+use Rattle.output_commit.specs.Batches.{Batch, commands_in, fits, merged, last_of}
 use Rattle.output_commit.specs.Batches as batches
 use Rattle.output_commit.specs.declared.output.Output.{Output}
 use Rattle.output_commit.specs.declared.output.Release.{Release}
@@ -61,7 +61,7 @@ after_send c =
 
 -- the last command that was sent
 abbrev pub last_sent : Commit → Option Command
-last_sent c = if c.sent == 0 then None else slice_get (commands c) (c.sent - 1)
+last_sent c = last_of c.batches c.sent
 
 -- the first command that was sent and isn't applied
 abbrev pub next : Commit → Option Command

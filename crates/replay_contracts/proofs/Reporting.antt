@@ -8,7 +8,7 @@ use Rattle.state_store.specs.Store.{Store, object_at, rows_of}
 use Rattle.writeback_table.specs.declared.command.Command.{Command}
 use Rattle.writeback_table.specs.Batches.{seen_after}
 use Rattle.writeback_table.specs.Commands.{bit_through, pair_through}
-use Rattle.writeback_table.specs.Pair.{Pair, visible, visible_rows}
+use Rattle.writeback_table.specs.Pair.{Pair, visible, visible_rows, first_pair}
 use Rattle.run_model.specs.declared.event.Event.{Event}
 use Rattle.run_model.specs.declared.event.Event.TheVariants.{Admit}
 use Rattle.run_model.specs.declared.run.ObjectRows.{ObjectRows}
@@ -24,8 +24,7 @@ use Rattle.output_commit.specs.Batches.{commands_in}
 use Rattle.replay_state.specs.State.{State, applied_commands}
 use Rattle.replay_state.specs.Step.{applies}
 use Rattle.replay_state.specs.Views.{KeepViews}
-use Rattle.replay_state.specs.Tables.{Shows}
-use Rattle.split_answers.specs.Through.{first_pair}
+use Rattle.replay_state.specs.Tables.{IsShown}
 use Rattle.replay_contracts.specs.Given.{Given, meaning_for, setup_for, whole, whole_runs}
 use Rattle.replay_contracts.specs.Promise.{Promises, Reports, state_for, told_parts}
 
@@ -46,10 +45,10 @@ module _ (test : ℕ → Bool) (tables : Told) (store : Store) (rows : (o : ℕ)
   parts_same n (o ∷ os) = one_part n o os (test n) refl (parts_same (suc n) os)
 
 module _ (x : Given) (events : List Event) (st : State) where
-  pub seen_of : Shows (setup_for x) st (seen_store st)
+  pub seen_of : IsShown (setup_for x) st (seen_store st)
       → (o : ℕ) → (whole x).replicated o ≡ true
-      → seen_after o (first_pair x.program x.writeback o) (applied_commands st) (length (applied_commands st)) ≡ (object_at (seen_store st) o).contents
-  seen_of shows o rep = seen_first o (first_pair x.program x.writeback o) (commands_in st.batches) st.done ∙ shows o rep
+      → seen_after o (first_pair x.program.objects x.writeback o) (applied_commands st) (length (applied_commands st)) ≡ (object_at (seen_store st) o).contents
+  seen_of shows o rep = seen_first o (first_pair x.program.objects x.writeback o) (commands_in st.batches) st.done ∙ shows o rep
 
   pub run_told : (old new : PortState) (run : Run) (commands : ℕ) (tables : Told) → old.told ≡ Some tables → Reports x st old new run commands → st ≡ state_for x events
       → ((o : ℕ) → (whole x).replicated o ≡ true → visible_rows tables.bit (pair_at tables.pairs o) ≡ rows_of (object_at (seen_store st) o))

@@ -6,6 +6,7 @@ use Rattle.std.proofs.lemmas.Option.{same_Some, none-some, slice_get_within}
 use Rattle.std.specs.List.{list_any}
 use Rattle.std.specs.Prelude.{slice_get, IfSome}
 use Rattle.std.specs.List.{AllByRecursion as Each}
+use Rattle.writeback_table.specs.Pair.{first_pair}
 use Rattle.flat_ir.specs.Arrivals.{IsArrival}
 use Rattle.flat_ir.specs.Program.{Program}
 use Rattle.packet_fields.specs.declared.packet.Packet.{Packet}
@@ -36,7 +37,7 @@ use Rattle.replay_state.specs.declared.pass.Pass.{Pass}
 use Rattle.replay_state.specs.State.{State, applied_commands, fate_of}
 use Rattle.replay_state.specs.Step.{state_of, waits}
 use Rattle.replay_state.specs.Tables.{IsSeen}
-use Rattle.split_answers.specs.Through.{IsThrough, first_pair}
+use Rattle.split_answers.specs.Through.{IsThrough}
 use Rattle.split_answers.specs.Whole.{IsSplit, whole_of}
 use Rattle.replay_contracts.specs.Given.{Given, code_for, setup_for, whole, whole_runs}
 use Rattle.replay_contracts.specs.Replay.{IsReplay}
@@ -61,7 +62,7 @@ abbrev RoomLaw : Type 0
 RoomLaw = (f : Program) (split : List Part) (writeback : ℕ) (commands : List Command) (command : Command)
     (told : Told) → IsSplit f split writeback → IsThrough (emitted f split writeback) commands told
     → IsCommandOf (emitted f split writeback) command
-    → ((o : ℕ) → is_replicated f split o ≡ true → room_for o (pair_through o (first_pair f writeback o) commands) command ≡ true)
+    → ((o : ℕ) → is_replicated f split o ≡ true → room_for o (pair_through o (first_pair f.objects writeback o) commands) command ≡ true)
     → has_room_in told.pairs command ≡ true
 
 pub is_split_program : SplitLaws → (x : Given) (c : Course) (port : PortState) → IsGoing x c port → IsSplitProgram (whole x) x.packets

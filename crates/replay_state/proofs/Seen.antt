@@ -7,7 +7,7 @@ use Rattle.std.proofs.lemmas.List.{take_all, length-map}
 use Rattle.state_store.specs.Kept.{IsKept}
 use Rattle.state_store.specs.Store.{Store, object_at, start_store}
 use Rattle.writeback_table.specs.declared.command.Update.{Update}
-use Rattle.writeback_table.specs.Pair.{Pair}
+use Rattle.writeback_table.specs.Pair.{Pair, first_pair}
 use Rattle.writeback_table.specs.Commands.{ons, bit_through, pair_through, room_for}
 use Rattle.writeback_table.specs.Batches.{seen_after, object_after, changed_by, count_of, TakesAll, IsReady, IsSeenInOrder}
 use Rattle.replay_state.specs.Answers.{Answers, Setup}
@@ -17,7 +17,7 @@ use Rattle.run_model.specs.declared.event.Event.{Event}
 use Rattle.replay_state.specs.Step.{step, steps, tick, idled, finished, went_up, decided, released}
 use Rattle.replay_state.specs.Drain.{is_quiet}
 use Rattle.replay_state.specs.Sound.{AreSound, IsSoundAt}
-use Rattle.replay_state.specs.Tables.{first_pair, IsSeen, HasNewestTables}
+use Rattle.replay_state.specs.Tables.{IsSeen, HasNewestTables}
 use Rattle.replay_state.proofs.Lists.{push_cases}
 use Rattle.replay_state.proofs.Fates.{at_first, at_last, at_up}
 use Rattle.replay_state.proofs.Sane.{Sane, sane_closed, sane_tick, sane_idle, sane_first}
@@ -191,13 +191,13 @@ module _ (setup : Setup) (a : Answers) (law : AreSound setup a) where
 
 -- ---- lookups see the visible version
 
-pub ready_from : (setup : Setup) (w : State) → History setup w → (o : ℕ) → setup.replicated o ≡ true → IsReady o (first_pair setup o) (updates_in w.batches)
+pub ready_from : (setup : Setup) (w : State) → History setup w → (o : ℕ) → setup.replicated o ≡ true → IsReady o (first_pair setup.objects setup.writeback o) (updates_in w.batches)
 ready_from setup w h o rep = record { empty = refl; taken = begun_taken o setup.writeback w.stores w.store 0 (object_at (begin setup) o) w.batches (h o rep) }
 
 pub seen_from : Law → (setup : Setup) (w : State) → History setup w → IsSeen setup w
 seen_from law setup w h = record {
   shows = λ o rep.
-      let kept = law o (first_pair setup o) (updates_in w.batches) (ready_from setup w h o rep) in
+      let kept = law o (first_pair setup.objects setup.writeback o) (updates_in w.batches) (ready_from setup w h o rep) in
       let same = commands_are w.batches in
       let k : ℕ = ons (take w.done (commands_in w.batches)) in
       let most = ons_most (commands_in w.batches) w.done in
@@ -206,12 +206,12 @@ seen_from law setup w h = record {
       let version : 0 + versions_first w.batches k ≡ visible w.batches w.done = let v = visible_counts w.batches w.done in omega arith in
       let begun : object_at (store_at w.stores (visible w.batches w.done)) o ≡ object_after o (object_at (begin setup) o) (take k (updates_in w.batches)) =
       ap (λ v. object_at (store_at w.stores v) o) (sym version) ∙ here in
-      subst (λ l. seen_after o (first_pair setup o) l w.done ≡ (object_after o (object_at (begin setup) o) (take (ons (take w.done l)) (updates_in w.batches))).contents) (sym same) (kept.seen w.done)
+      subst (λ l. seen_after o (first_pair setup.objects setup.writeback o) l w.done ≡ (object_after o (object_at (begin setup) o) (take (ons (take w.done l)) (updates_in w.batches))).contents) (sym same) (kept.seen w.done)
       ∙ ap (λ x. x.contents) (sym begun);
   room = λ o command rep here.
-      let kept = law o (first_pair setup o) (updates_in w.batches) (ready_from setup w h o rep) in
+      let kept = law o (first_pair setup.objects setup.writeback o) (updates_in w.batches) (ready_from setup w h o rep) in
       let same = commands_are w.batches in
-      subst (λ l. room_for o (pair_through o (first_pair setup o) (take w.done l)) command ≡ true) (sym same)
+      subst (λ l. room_for o (pair_through o (first_pair setup.objects setup.writeback o) (take w.done l)) command ≡ true) (sym same)
       (kept.room w.done command (ap (λ l. slice_get l w.done) (sym same) ∙ here));
 }
 
@@ -227,8 +227,8 @@ newest_tables law setup w k q =
     record {
       bit = ap (bit_through false) (all ∙ same) ∙ all_bit (updates_in w.batches);
       each = λ o rep.
-          let kept = law o (first_pair setup o) (updates_in w.batches) (ready_from setup w h o rep) in
-          ap (pair_through o (first_pair setup o)) (all ∙ same) ∙ kept.pair_ends
+          let kept = law o (first_pair setup.objects setup.writeback o) (updates_in w.batches) (ready_from setup w h o rep) in
+          ap (pair_through o (first_pair setup.objects setup.writeback o)) (all ∙ same) ∙ kept.pair_ends
           ∙ ap (λ m. record { main = m; staged = fin.empty; room = setup.writeback }) (sym (begun_end o setup.writeback w.stores w.store 0 (object_at (begin setup) o) w.batches (h o rep)));
     }
 

@@ -7,7 +7,7 @@ use Rattle.state_store.specs.Kept.{IsKept}
 use Rattle.state_store.specs.Store.{object_at}
 use Rattle.writeback_table.specs.declared.command.Update.{Update}
 use Rattle.writeback_table.specs.declared.command.Command.{Command}
-use Rattle.writeback_table.specs.Pair.{visible}
+use Rattle.writeback_table.specs.Pair.{visible, first_pair}
 use Rattle.writeback_table.specs.Commands.{commands_of, pair_through}
 use Rattle.replay_state.specs.Answers.{Answers, Setup}
 use Rattle.output_commit.specs.Batches.{Batch, commands_in, merged}
@@ -16,7 +16,7 @@ use Rattle.run_model.specs.declared.event.Event.{Event}
 use Rattle.replay_state.specs.Step.{step, steps, disturbs, waits}
 use Rattle.replay_state.specs.Step.{pass_of}
 use Rattle.replay_state.specs.Sound.{AreSound}
-use Rattle.replay_state.specs.Tables.{first_pair, pair_now}
+use Rattle.replay_state.specs.Tables.{pair_now}
 use Rattle.replay_state.specs.Views.{KeepViews}
 use Rattle.run_model.specs.Members.{Member}
 use Rattle.run_model.proofs.Members.{get_member}
@@ -85,7 +85,7 @@ module _ (tables : Law) (looks : Looks) (setup : Setup) (a : Answers) (law : Are
   same_views : (w x : State) → x.passes ≡ w.passes → x.batches ≡ w.batches → x.done ≡ w.done → x.stores ≡ w.stores → x.version ≡ w.version → Views setup w → Views setup x
   same_views w x p b d s v h = record {
     views = λ z m o rep.
-        ap (λ l. visible z.bit (pair_through o (first_pair setup o) l)) (λ i. take (d i) (commands_in (b i)))
+        ap (λ l. visible z.bit (pair_through o (first_pair setup.objects setup.writeback o) l)) (λ i. take (d i) (commands_in (b i)))
         ∙ h.views z (subst (λ l. Member z l) p m) o rep ∙ sym (ap (λ l. (object_at (store_at l z.version) o).contents) s);
     low = λ z m. let low = h.low z (subst (λ l. Member z l) p m) in omega arith;
   }
@@ -126,7 +126,7 @@ module _ (tables : Law) (looks : Looks) (setup : Setup) (a : Answers) (law : Are
         views = λ x m o rep.
             let low = h.low x m in
             let there = get_or_append_left w.stores (a.after w.store p ∷ []) [] x.version (omega arith) in
-            ap (λ cs. visible x.bit (pair_through o (first_pair setup o) cs)) same ∙ h.views x m o rep ∙ sym (ap (λ s. (object_at s o).contents) there);
+            ap (λ cs. visible x.bit (pair_through o (first_pair setup.objects setup.writeback o) cs)) same ∙ h.views x m o rep ∙ sym (ap (λ s. (object_at s o).contents) there);
         low = λ x m. let low = h.low x m in omega arith;
       }
 
@@ -142,11 +142,11 @@ module _ (tables : Law) (looks : Looks) (setup : Setup) (a : Answers) (law : Are
       record {
         views = λ x m o rep.
             let ready = ready_from setup w k.history o rep in
-            let kept = tables o (first_pair setup o) (updates_in w.batches) ready in
-            let stays = stays_seen looks o (first_pair setup o) (updates_in w.batches) ready kept x.bit w.done c (ap (λ l. slice_get l w.done) (sym same) ∙ g.1) (subst (λ l. w.done < length l) same low) (free w.passes c wait x m) in
-            let stays_here : visible x.bit (pair_through o (first_pair setup o) (take (suc w.done) (commands_in w.batches))) ≡ visible x.bit (pair_now setup w o) =
-            subst (λ l. visible x.bit (pair_through o (first_pair setup o) (take (suc w.done) l)) ≡ visible x.bit (pair_through o (first_pair setup o) (take w.done l))) (sym same) stays in
-            ap (λ n. visible x.bit (pair_through o (first_pair setup o) (take n (commands_in w.batches)))) count ∙ stays_here ∙ h.views x m o rep;
+            let kept = tables o (first_pair setup.objects setup.writeback o) (updates_in w.batches) ready in
+            let stays = stays_seen looks o (first_pair setup.objects setup.writeback o) (updates_in w.batches) ready kept x.bit w.done c (ap (λ l. slice_get l w.done) (sym same) ∙ g.1) (subst (λ l. w.done < length l) same low) (free w.passes c wait x m) in
+            let stays_here : visible x.bit (pair_through o (first_pair setup.objects setup.writeback o) (take (suc w.done) (commands_in w.batches))) ≡ visible x.bit (pair_now setup w o) =
+            subst (λ l. visible x.bit (pair_through o (first_pair setup.objects setup.writeback o) (take (suc w.done) l)) ≡ visible x.bit (pair_through o (first_pair setup.objects setup.writeback o) (take w.done l))) (sym same) stays in
+            ap (λ n. visible x.bit (pair_through o (first_pair setup.objects setup.writeback o) (take n (commands_in w.batches)))) count ∙ stays_here ∙ h.views x m o rep;
         low = h.low;
       }
 
@@ -168,7 +168,7 @@ module _ (tables : Law) (looks : Looks) (setup : Setup) (a : Answers) (law : Are
             record {
               stored = sc.sent w low h.stored;
               views = record {
-                views = λ x m o rep. ap (λ cs. visible x.bit (pair_through o (first_pair setup o) cs)) same ∙ h.views.views x m o rep;
+                views = λ x m o rep. ap (λ cs. visible x.bit (pair_through o (first_pair setup.objects setup.writeback o) cs)) same ∙ h.views.views x m o rep;
                 low = h.views.low;
               };
             };

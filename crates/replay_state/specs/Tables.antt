@@ -3,33 +3,24 @@ use Rattle.std.specs.Prelude.{◌≡◌, ℕ, true, false, Some, slice_get}
 use Rattle.std.specs.FinMap as map
 use Rattle.state_store.specs.Store.{Store, object_at, start_store}
 use Rattle.writeback_table.specs.declared.command.Command.{Command}
-use Rattle.writeback_table.specs.Pair.{Pair}
+use Rattle.writeback_table.specs.Pair.{Pair, first_pair}
 use Rattle.writeback_table.specs.Commands.{pair_through, room_for}
-use Rattle.writeback_table.specs.Batches.{seen_after}
+use Rattle.writeback_table.specs.Batches.{Shows}
 use Rattle.replay_state.specs.Answers.{Setup}
 use Rattle.output_commit.specs.Batches.{commands_in}
 use Rattle.replay_state.specs.State.{State, applied_commands, store_at, seen, bit_behind}
 
--- the tables of object o before any command: the main table is the object of the start store, and nothing is staged
-abbrev pub first_pair : Setup → ℕ → Pair
-first_pair setup o = record {
-  main = object_at (start_store setup.objects) o;
-  staged = map.empty;
-  room = setup.writeback;
-}
-
 -- its tables after the commands that were applied
 abbrev pub pair_now : Setup → State → ℕ → Pair
-pair_now setup st o = pair_through o (first_pair setup o) (applied_commands st)
+pair_now setup st o = pair_through o (first_pair setup.objects setup.writeback o) (applied_commands st)
 
 -- lookups of replicated objects see those of a store
-abbrev pub Shows : Setup → State → Store → Type 0
-Shows setup st store = (o : ℕ) → setup.replicated o ≡ true
-    → seen_after o (first_pair setup o) (commands_in st.batches) st.done ≡ (object_at store o).contents
+abbrev pub IsShown : Setup → State → Store → Type 0
+IsShown setup st store = Shows setup.replicated setup.objects setup.writeback (commands_in st.batches) st.done store
 
 pub record IsSeen (setup : Setup) (st : State) : Type 0 where
   -- lookups see the objects of the visible version
-  pub shows : Shows setup st (store_at st.stores (seen st))
+  pub shows : IsShown setup st (store_at st.stores (seen st))
   -- the next command finds room
   pub room : (o : ℕ) (command : Command) → setup.replicated o ≡ true
       → slice_get (commands_in st.batches) st.done ≡ Some command

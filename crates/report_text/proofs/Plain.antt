@@ -6,7 +6,7 @@ use Rattle.std.specs.List.{AllByRecursion, list_all}
 use Rattle.std.proofs.lemmas.Bool.{and_parts}
 use Rattle.std.proofs.lemmas.Bool.Decides.{nat_tests}
 use Rattle.std.proofs.lemmas.Fmt.{decimal_nonempty}
-use Rattle.gal_io.specs.Lines.{lines, is_skipped}
+use Rattle.gal_io.specs.Lines.{lines, is_skipped, told_of}
 use Rattle.gal_io.specs.Number.{spaced_numbers}
 use Rattle.packet_fields.specs.declared.verdict.Verdict.{Verdict}
 use Rattle.packet_fields.specs.declared.verdict.Verdict.TheVariants.{Drop, Send}
@@ -19,7 +19,6 @@ use Rattle.report_text.specs.declared.head.PacketCounts.{PacketCounts}
 use Rattle.report_text.specs.declared.head.EventCounts.{EventCounts}
 use Rattle.report_text.specs.declared.head.Versions.{Versions}
 use Rattle.report_text.specs.Form.{IsFate, IsVerdict, is_plain}
-use Rattle.report_text.specs.Lines.{told_of}
 use Rattle.run_text.proofs.Numbers.{decimal_digits}
 use Rattle.run_text.proofs.PrintedLines.{all_both, line_plain, plain}
 use Rattle.run_text.proofs.PrintedBack.{body_plain, digits_plain, digits_told}

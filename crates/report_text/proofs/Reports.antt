@@ -7,7 +7,7 @@ use Rattle.std.proofs.lemmas.List.{append-nil, take-append-drop}
 use Rattle.std.proofs.lemmas.Bool.Decides.{nat_tests}
 use Rattle.std.proofs.Math.Pow.{pow_mono}
 use Rattle.std.proofs.lemmas.Option.{same_Some}
-use Rattle.gal_io.specs.Lines.{lines, is_skipped}
+use Rattle.gal_io.specs.Lines.{lines, is_skipped, told_of}
 use Rattle.state_store.specs.declared.object.ObjectDecl.{ObjectDecl}
 use Rattle.state_store.specs.declared.object.Row.{Row}
 use Rattle.state_store.specs.Kept.{have_widths}
@@ -19,7 +19,7 @@ use Rattle.report_text.specs.declared.head.PacketCounts.{PacketCounts}
 use Rattle.report_text.specs.declared.stage.Stage.{Stage}
 use Rattle.report_text.specs.declared.stage.Stage.TheVariants.{Title, Packets, Events, Version, Drained, Fates, Server, Switch, Table, Ended}
 use Rattle.report_text.specs.Form.{InForm, IsFate, IsPart, IsRowOf, are_widths}
-use Rattle.report_text.specs.Lines.{AreLinesOf, Begins, IsFirstWrong, IsRefused, IsReport, told_of}
+use Rattle.report_text.specs.Lines.{AreLinesOf, Begins, IsFirstWrong, IsRefused, IsReport}
 use Rattle.report_text.specs.declared.error.RunTextError.TheVariants.{Line}
 use Rattle.report_text.specs.Parse.{◌>>=◌}
 use Rattle.report_text.specs.Machine.{State, at_start, ended, ended_by, line_read, resume, run_of, step, taken}

@@ -2,6 +2,7 @@
 use Rattle.std.proofs.Common.{◌≡◌, ℕ, suc, Bool, true, false, List, [], ◌∷◌, ◌++◌, length, map, refl, sym, ap, ◌∙◌, append_assoc}
 use Rattle.std.specs.Prelude.{codes, slice_get}
 use Rattle.std.specs.Fmt.{decimal}
+use Rattle.gal_io.specs.Lines.{line_end}
 use Rattle.packet_fields.specs.declared.verdict.Verdict.TheVariants.{Drop, Send}
 use Rattle.state_store.specs.declared.object.ObjectDecl.{ObjectDecl}
 use Rattle.state_store.specs.declared.object.Row.{Row}
@@ -10,7 +11,7 @@ use Rattle.run_model.specs.declared.fate.Fate.TheVariants.{Pass, Up, Held, Slow,
 use Rattle.run_model.specs.declared.run.ObjectRows.{ObjectRows}
 use Rattle.run_model.specs.declared.run.Run.{Run}
 use Rattle.run_text.specs.Printed.{lined}
-use Rattle.run_text.specs.Report.{drained_line, events_line, fate_line, fate_lines, fate_text, line_end, name_in, order_line, packets_line, part_lines, report_of, row_lines, tables_text, version_line}
+use Rattle.run_text.specs.Report.{drained_line, events_line, fate_line, fate_lines, fate_text, name_in, order_line, packets_line, part_lines, report_of, row_lines, tables_text, version_line}
 use Rattle.report_text.specs.declared.head.PacketCounts.{PacketCounts}
 use Rattle.report_text.specs.declared.head.EventCounts.{EventCounts}
 use Rattle.report_text.specs.declared.head.Versions.{Versions}

@@ -1,17 +1,12 @@
 -- The lines of a text that is a report, and the first line at which it is none.
 use Rattle.std.specs.Prelude.{◌≡◌, ◌<◌, ◌≤◌, ℕ, suc, List, [], ◌∷◌, ◌++◌, length, take, if◌then◌else◌}
-use Rattle.gal_io.specs.Lines.{lines, is_skipped}
+use Rattle.gal_io.specs.Lines.{lines, told_of}
 use Rattle.state_store.specs.declared.object.ObjectDecl.{ObjectDecl}
 use Rattle.run_model.specs.declared.run.Run.{Run}
 use Rattle.run_text.specs.Report.{report_of}
 use Rattle.report_text.specs.Form.{InForm}
 use Rattle.report_text.specs.declared.error.RunTextError.{RunTextError}
 use Rattle.report_text.specs.declared.error.RunTextError.TheVariants.{Line}
-
--- the lines that aren't skipped
-abbrev pub told_of : List (List ℕ) → List (List ℕ)
-told_of [] = []
-told_of (line ∷ ls) = if is_skipped line then told_of ls else line ∷ told_of ls
 
 -- Lines of a report: the run that they tell is in the form, and they are those of its printed text, and skipped ones.
 pub record AreLinesOf (declared : List ObjectDecl) (ls : List (List ℕ)) (run : Run) : Type 0 where

@@ -1,9 +1,10 @@
 -- The text that a run alone writes.
 use Rattle.std.specs.Prelude.{ℕ, suc, List, [], ◌∷◌, ◌++◌, codes, decimal}
+use Rattle.gal_io.specs.Lines.{line_end}
 use Rattle.packet_fields.specs.declared.verdict.Verdict.{Verdict}
 use Rattle.state_store.specs.declared.object.ObjectDecl.{ObjectDecl}
 use Rattle.run_model.specs.declared.run.ObjectRows.{ObjectRows}
-use Rattle.run_text.specs.Report.{line_end, verdict_text, part_lines}
+use Rattle.run_text.specs.Report.{verdict_text, part_lines}
 
 abbrev pub verdict_line : ℕ → Verdict → List ℕ
 verdict_line number verdict = codes "packet " ++ (decimal number ++ (codes " " ++ (verdict_text verdict ++ line_end)))

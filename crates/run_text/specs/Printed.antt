@@ -1,13 +1,13 @@
 -- The texts of a trace and of a schedule as they are printed.
 use Rattle.std.specs.Prelude.{◌≡◌, ℕ, Bool, true, false, List, [], ◌∷◌, ◌++◌, codes, decimal, map, nat_le, Result, Ok}
 use Rattle.std.specs.List.{list_all}
-use Rattle.gal_io.specs.Lines.{is_skipped}
+use Rattle.gal_io.specs.Lines.{is_skipped, line_end}
 use Rattle.packet_fields.specs.declared.packet.Packet.{Packet}
 use Rattle.run_model.specs.declared.event.Event.{Event}
 use Rattle.run_model.specs.declared.event.Event.TheVariants.{Admit, Stage, Serve, Send, Apply, Ack, Hold, Down}
 use Rattle.run_text.specs.declared.plan.Plan.{Plan}
 use Rattle.run_text.specs.declared.refusal.LineKind.{LineKind}
-use Rattle.run_text.specs.Report.{body_text, line_end}
+use Rattle.run_text.specs.Report.{body_text}
 
 -- lines, each with its end
 abbrev pub lined : List (List ℕ) → List ℕ

@@ -2,6 +2,7 @@
 use Rattle.std.specs.Prelude.{ℕ, suc, Bool, true, false, List, [], ◌∷◌, ◌++◌, length, codes, decimal, Option, Some}
 use Rattle.std.specs.Prelude.{None, slice_get}
 use Rattle.hex.specs.Hex.{encode_lower}
+use Rattle.gal_io.specs.Lines.{line_end}
 use Rattle.gal_io.specs.Number.{spaced_numbers}
 use Rattle.packet_fields.specs.declared.verdict.Verdict.{Verdict}
 use Rattle.packet_fields.specs.declared.verdict.Verdict.TheVariants.{Drop, Send}
@@ -11,10 +12,6 @@ use Rattle.state_store.specs.declared.object.Row.{Row}
 use Rattle.state_store.specs.declared.object.ObjectDecl.{ObjectDecl}
 use Rattle.run_model.specs.declared.run.ObjectRows.{ObjectRows}
 use Rattle.run_model.specs.declared.run.Run.{Run}
-
--- every line ends with LF
-abbrev pub line_end : List ℕ
-line_end = 10 ∷ []
 
 -- the bytes of a packet in lower-case hexadecimal digits, or `-` for none
 abbrev pub body_text : List ℕ → List ℕ

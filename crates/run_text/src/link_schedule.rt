@@ -1,11 +1,11 @@
 //! The text of a schedule over links.
 ghost use Rattle.std.specs.Prelude.{◌≡◌, ◌≤◌, ◌⊎◌, ◌++◌, ◌∷◌, length, decimal, map, All, OnOk, IfOk, IfErr};
 ghost use Rattle.std.specs.Prelude.{Ok, Err, false};
+ghost use Rattle.gal_io.specs.Lines.{line_end};
 ghost use Rattle.run_model.specs.LinkEvents.{IsLinkSchedule, takes_stage};
 ghost use Rattle.run_text.specs.LinkSchedule.{letter_event, link_event_line, link_named, link_schedule_of, place_line};
 ghost use Rattle.run_text.specs.LinkSchedule.{link_event_text, link_name, link_schedule_text, place_text};
 ghost use Rattle.run_text.specs.Printed.{IsLineOf, lined};
-ghost use Rattle.run_text.specs.Report.{line_end};
 ghost use Rattle.run_text.specs.Trace.{largest};
 
 use crate::line_value::{LineValue, read_values, split_at_space};

@@ -1,9 +1,9 @@
 //! The text of a trace.
 ghost use Rattle.std.specs.Prelude.{◌≡◌, ◌≤◌, ◌⊎◌, ◌++◌, length, false, codes, decimal, IfOk, IfErr, OnOk, Ok, Err};
+ghost use Rattle.gal_io.specs.Lines.{line_end};
 ghost use Rattle.packet_fields.specs.Arrivals.{AreArrivals};
 ghost use Rattle.packet_fields.specs.Sizes.{largest_packet};
 ghost use Rattle.run_text.specs.Printed.{IsLineOf, packet_text, trace_text};
-ghost use Rattle.run_text.specs.Report.{line_end};
 ghost use Rattle.run_model.specs.Sizes.{most_packets};
 ghost use Rattle.run_text.specs.Trace.{body_of, packet_line, trace_of};
 

@@ -6,14 +6,14 @@ use Rattle.std.proofs.lemmas.Option.{slice_get-map}
 use Rattle.run_model.specs.declared.event.Event.{Event}
 use Rattle.switch_ir.specs.Port.{PortState}
 use Rattle.writeback_table.specs.declared.command.Command.{Command}
-use Rattle.output_commit.specs.Batches.{Batch, commands_in}
+use Rattle.output_commit.specs.Batches.{Batch, commands_in, last_of}
 use Rattle.output_commit.specs.Commit.{last_sent}
 use Rattle.replay_state.specs.Journal.{Call, down_frame, frame_in, up_answer}
 use Rattle.replay_state.specs.State.{State}
 use Rattle.replay_contracts.specs.Given.{Given, whole}
 use Rattle.replay_contracts.specs.Replay.{IsReplay}
 use Rattle.replay_course.specs.declared.course.Course.{Course}
-use Rattle.schedule_replay.specs.Frames.{IsFrameAt, last_command}
+use Rattle.schedule_replay.specs.Frames.{IsFrameAt}
 use Rattle.schedule_replay.specs.Replayer.{IsPerforming}
 use Rattle.schedule_replay.proofs.Playing.{OneLaw, shown_at}
 
@@ -66,15 +66,11 @@ down_past one x events calls st c port steps j now is few =
 
 -- ## Commands
 
--- the last command that was sent, by its parts
-abbrev last_of : ℕ → List Batch → Option Command
-last_of sent batches = if sent == 0 then None else slice_get (commands_in batches) (sent - 1)
-
 pub last_there : OneLaw → (x : Given) (events : List Event) (calls : List Call) (st : State) (c : Course) (port : PortState) (steps : ℕ)
-    → IsPerforming x events c port steps → IsReplay x events calls st port → last_sent c.commit ≡ last_command st
+    → IsPerforming x events c port steps → IsReplay x events calls st port → last_sent c.commit ≡ last_of st.batches st.sent
 last_there one x events calls st c port steps now is =
     let shown = shown_at one x events c port steps calls st now is in
-    ap (λ n. last_of n c.commit.batches) shown.sent ∙ ap (λ bs. last_of st.sent bs) shown.batches
+    ap (λ n. last_of c.commit.batches n) shown.sent ∙ ap (λ bs. last_of bs st.sent) shown.batches
 
 -- so there is one exactly where one was sent
 some_there : {X : Type 0} (xs : List X) (i : ℕ) → i < length xs → is_some (slice_get xs i) ≡ true
@@ -82,7 +78,7 @@ some_there [] i within = grind (arith, within)
 some_there (x ∷ xs) zero within = refl
 some_there (x ∷ xs) (suc i) within = some_there xs i (omega arith)
 
-some_sent : (sent : ℕ) (batches : List Batch) → sent ≤ length (commands_in batches) → is_some (last_of sent batches) ≡ nat_lt 0 sent
+some_sent : (sent : ℕ) (batches : List Batch) → sent ≤ length (commands_in batches) → is_some (last_of batches sent) ≡ nat_lt 0 sent
 some_sent sent batches within =
     let there : 0 < sent → is_some (slice_get (commands_in batches) (sent - 1)) ≡ true =
     λ some. some_there (commands_in batches) (sent - 1) (omega arith) in

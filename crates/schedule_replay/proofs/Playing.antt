@@ -22,7 +22,7 @@ use Rattle.replay_course.specs.declared.course.Course.{Course}
 use Rattle.replay_course.specs.Going.{HasTurned, IsGoing, MayCall}
 use Rattle.replay_course.specs.Shown.{IsShown}
 use Rattle.replay_course.specs.UnderWay.{HasGone, Drains, IsOnItsWay, course_left}
-use Rattle.schedule_replay.specs.Replayer.{IsKept, IsPerforming, view_of}
+use Rattle.schedule_replay.specs.Replayer.{IsKept, IsPerforming, replayer_of}
 use Rattle.schedule_replay.proofs.Concluding.{BoundLaw, LeftLaw, OnceLaw, PromiseLaw, QuietLaw, ReportsOf, RunLaw, kept_replay}
 
 -- ## The laws that are used
@@ -128,7 +128,7 @@ begun_performs left x c first port gone =
     let u = gone.under_way in
     record { under_way = u; left = first_left (course_left x c) 0 (drain_bound (setup_for x)) (left x [] u.calls u.st c port u.replay u.shown u.going) }
 
-begun_is_new : (x : Given) (c : Course) (first port : PortState) → HasGone x [] c first port → IsNew x first (view_of x [] 0 port None)
+begun_is_new : (x : Given) (c : Course) (first port : PortState) → HasGone x [] c first port → IsNew x first (replayer_of x [] 0 port None)
 begun_is_new x c first port gone =
     let u = gone.under_way in
     let calls : u.calls ≡ [] = no_calls u.calls u.replay.answered.asked in
@@ -142,8 +142,8 @@ begun_is_new x c first port gone =
     }
 
 -- the job is a copy of the one that was given
-pub copy_is_new : (x y : Given) (c : Course) (first port : PortState) → y ≡ x → HasGone x [] c first port → IsNew x first (view_of y [] 0 port None)
-copy_is_new x y c first port same gone = subst (λ z. IsNew x first (view_of z [] 0 port None)) (sym same) (begun_is_new x c first port gone)
+pub copy_is_new : (x y : Given) (c : Course) (first port : PortState) → y ≡ x → HasGone x [] c first port → IsNew x first (replayer_of y [] 0 port None)
+copy_is_new x y c first port same gone = subst (λ z. IsNew x first (replayer_of z [] 0 port None)) (sym same) (begun_is_new x c first port gone)
 
 pub copy_performs : LeftLaw → (x y : Given) (c : Course) (first port : PortState) → y ≡ x → HasGone x [] c first port → IsPerforming y [] c port 0
 copy_performs left x y c first port same gone = subst (λ z. IsPerforming z [] c port 0) (sym same) (begun_performs left x c first port gone)
@@ -178,7 +178,7 @@ step_performs law less x events event stepped c after old new steps turned now =
 
 pub has_stepped : OneLaw → OnLaw → (x : Given) (events : List Event) (event : Event) (stepped : Stepped) (c after : Course) (old new : PortState) (steps : ℕ)
     (failed : Option ReplayError) → failed ≡ None → HasTurned x event stepped c old after new → IsPerforming x events c old steps
-    → HasStepped (view_of x events steps old failed) event stepped (view_of x (events ++ event ∷ []) (steps + 1) new failed)
+    → HasStepped (replayer_of x events steps old failed) event stepped (replayer_of x (events ++ event ∷ []) (steps + 1) new failed)
 has_stepped one law x events event stepped c after old new steps failed none turned now = record {
   given = refl;
   events = refl;
@@ -249,8 +249,8 @@ settled once promise_law quiet_law x events calls last port ready replay drained
 
 pub has_emptied : OneLaw → OnceLaw → PromiseLaw → QuietLaw → (x : Given) (events : List Event) (count : ℕ) (c after : Course) (old new : PortState) (steps : ℕ) (failed : Option ReplayError)
     → failed ≡ None → (done : Drains x count c old after new) (now : IsPerforming x events c old steps)
-    → HasEmptied (view_of x events steps old failed) count
-    (view_of x (events ++ drained_more x events count c after old new steps done now) steps new failed)
+    → HasEmptied (replayer_of x events steps old failed) count
+    (replayer_of x (events ++ drained_more x events count c after old new steps done now) steps new failed)
 has_emptied one once promise_law quiet_law x events count c after old new steps failed none done now =
     let u = now.under_way in
     let all = done.turns events u.calls u.st u.replay u.shown in
@@ -320,7 +320,7 @@ report_performs x events replayed c old new steps says now =
 
 pub has_reported : OneLaw → RunLaw → PromiseLaw → (x : Given) (events : List Event) (replayed : Replayed) (c : Course) (old new : PortState) (steps : ℕ)
     (failed : Option ReplayError) → failed ≡ None → ReportsOf x c old new replayed → IsPerforming x events c old steps
-    → HasReported (view_of x events steps old failed) replayed (view_of x events steps new failed)
+    → HasReported (replayer_of x events steps old failed) replayed (replayer_of x events steps new failed)
 has_reported one run_law promise_law x events replayed c old new steps failed none says now =
     let u = now.under_way in
     let ready = u.going.prepared.ready in
@@ -349,7 +349,7 @@ report_stands x replayed c old new steps failed none says stands =
 -- ## Errors
 
 pub has_failed : (x : Given) (events : List Event) (e : ReplayError) (old new : PortState) (steps : ℕ) (failed : Option ReplayError) → failed ≡ None
-    → Fails e old new → HasFailed (view_of x events steps old failed) e (view_of x events steps new (Some e))
+    → Fails e old new → HasFailed (replayer_of x events steps old failed) e (replayer_of x events steps new (Some e))
 has_failed x events e old new steps failed none fails = record {
   before = none;
   failed = refl;

@@ -21,8 +21,8 @@ pub record Replaying (S : Type 0) : Type 0 where
   pub failed : Option ReplayError
 
 -- with the events that it performed, by its parts
-abbrev pub view_of : Given → List Event → ℕ → PortState → Option ReplayError → Seen
-view_of x events steps port failed = record {
+abbrev pub replayer_of : Given → List Event → ℕ → PortState → Option ReplayError → Seen
+replayer_of x events steps port failed = record {
   given = x;
   events = events;
   steps = steps;
@@ -31,7 +31,7 @@ view_of x events steps port failed = record {
 }
 
 abbrev pub seen_as : {S : Type 0} → (S → PortState) → List Event → Replaying S → Seen
-seen_as seen events r = view_of r.given events r.steps (seen r.port) r.failed
+seen_as seen events r = replayer_of r.given events r.steps (seen r.port) r.failed
 
 -- the events are a replay that the course shows; what is left of them and of drain is within the steps and the bound
 pub record IsPerforming (x : Given) (events : List Event) (c : Course) (port : PortState) (steps : ℕ) : Type 0 where
@@ -47,7 +47,7 @@ pub record IsKept (x : Given) (c : Course) (port : PortState) (steps : ℕ) (fai
   pub few_packets : length x.packets ≤ most_packets
   pub within : steps ≤ most_events
   pub events : List Event
-  pub alive : IsAlive (view_of x events steps port failed)
+  pub alive : IsAlive (replayer_of x events steps port failed)
   pub performed : failed ≡ None → IsPerforming x events c port steps
 
 abbrev pub IsStanding : {S : Type 0} → (S → PortState) → Replaying S → Type 0

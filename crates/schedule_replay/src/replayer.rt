@@ -110,7 +110,8 @@ fn begin<S: SwitchPort>(alloc: Global, job: &Job, port: &mut S) -> Result<Begun,
 impl<S: SwitchPort> Replayer<S> {
     ghost use Rattle.replay_contracts.specs.Replayer.{HasEmptied, HasFailed, HasReported, HasStepped, IsNew, Repeats};
     ghost use Rattle.replay_contracts.specs.Replayer.{IsAt};
-    ghost use Rattle.schedule_replay.specs.Frames.{IsFrameAt, last_command};
+    ghost use Rattle.output_commit.specs.Batches.{last_of};
+    ghost use Rattle.schedule_replay.specs.Frames.{IsFrameAt};
     ghost use Rattle.schedule_replay.specs.Replayer.{HasPerformed, IsStanding, seen_as};
 
     /// Loads the switch with the code of a job. After an error the switch is handed back; it tells its tables where it
@@ -272,7 +273,7 @@ impl<S: SwitchPort> Replayer<S> {
     /// The last command that was sent. It is `None` exactly where none was sent.
     pub fn sent_command(&self) -> Option<Command>
         ensures last { (events : List Event) (calls : List Call) (st : State) → HasPerformed S.seen events self.now
-            → IsAt (seen_as S.seen events self.now) calls st → result ≡ last_command st }
+            → IsAt (seen_as S.seen events self.now) calls st → result ≡ last_of st.batches st.sent }
         ensures none { (events : List Event) (calls : List Call) (st : State) → HasPerformed S.seen events self.now
             → IsAt (seen_as S.seen events self.now) calls st → is_some result ≡ nat_lt 0 st.sent }
     {

@@ -27,7 +27,7 @@ use Rattle.switch_ir.specs.UnderWay.{EndsWith, HasEntered, HasGoneOn, PassState,
 use Rattle.replay_state.specs.Journal.{UpAnswer}
 use Rattle.replay_state.specs.Told.{IsRight}
 use Rattle.split_answers.specs.Through.{IsThrough, end_of}
-use Rattle.split_answers.specs.UnderWay.{Knows, Shows, Views, staging}
+use Rattle.split_answers.specs.UnderWay.{Knows, AreShown, Views, staging}
 use Rattle.split_answers.specs.Whole.{whole_of, IsSplit}
 use Rattle.split_answers.proofs.Declared.{can_change, looked_up_declared, started_at}
 use Rattle.split_answers.proofs.InStages.{Agreements, AgreeLast, ended_over, ends_down, ends_up, entered_over, staged_over}
@@ -47,14 +47,14 @@ module _ (f : Program) (split : List Part) (writeback : ℕ) (is : IsSplit f spl
 
   module _ (commands : List Command) (told : Told) (through : IsThrough code commands told) where
     -- lookups by a bit see what they see of other tables that show the store
-    keep : Shows f split writeback commands st → KeepLookedUp f split (seen_tables told)
+    keep : AreShown f split writeback commands st → KeepLookedUp f split (seen_tables told)
     keep shows o d looked at =
         table_or_not (IsKeptObject d (object_at (seen_tables told) o)) d
         (λ table. subst (IsKeptObject d) (started_at f.objects o d at ∙ sym (constant_viewed f split writeback is commands told through told.bit o d at table looked)) (is.kept.each o d at))
         (λ changes. subst (IsKeptObject d) (sym (has_replicated f split writeback is commands told through st shows kept o (can_change f split o d is.legal looked at changes))) (kept.each o d at))
 
     module _ (before : List Command) (first : Told) (through_first : IsThrough code before first) where
-      sees : (pre bit : Bool) → Views f split writeback bit commands st → Shows f split writeback before st → Sees (staging pre code) (view_of bit told.pairs) (seen_tables first)
+      sees : (pre bit : Bool) → Views f split writeback bit commands st → AreShown f split writeback before st → Sees (staging pre code) (view_of bit told.pairs) (seen_tables first)
       sees pre bit views shows o e =
           let looked = looked_up_there f split writeback pre o e in
           let d = looked_up_declared f split o is.bounded.formed looked in
@@ -69,7 +69,7 @@ module _ (f : Program) (split : List Part) (writeback : ℕ) (is : IsSplit f spl
 
   -- ## The entry
 
-  enters : (pre : Bool) (given : Reading) (packet : Packet) (commands : List Command) (told : Told) (pass : PassState) → IsThrough code commands told → Shows f split writeback commands st
+  enters : (pre : Bool) (given : Reading) (packet : Packet) (commands : List Command) (told : Told) (pass : PassState) → IsThrough code commands told → AreShown f split writeback commands st
       → ((v : ValueId) → is_had (staging pre code) 0 v ≡ false → given v ≡ 0)
       → HasEntered (staging pre code) (λ g. g ≡ given) packet (Some told) pass → Knows f split writeback pre given packet told.bit st pass
   enters pre given packet commands told pass through shows none entered =
@@ -91,11 +91,11 @@ module _ (f : Program) (split : List Part) (writeback : ℕ) (is : IsSplit f spl
         no_more = none_over f split writeback pre is.bounded.formed given (seen_tables told) packet (keep commands told through shows) none;
       }
 
-  pub enters_up : (packet : Packet) (commands : List Command) (told : Told) (pass : PassState) → IsThrough code commands told → Shows f split writeback commands st
+  pub enters_up : (packet : Packet) (commands : List Command) (told : Told) (pass : PassState) → IsThrough code commands told → AreShown f split writeback commands st
       → HasEntered (pre_staging code) (λ g. g ≡ nothing) packet (Some told) pass → Knows f split writeback true nothing packet told.bit st pass
   enters_up packet commands told pass through shows entered = enters true nothing packet commands told pass through shows (λ v e. refl) entered
 
-  pub enters_down : (values : Reading) (packet : Packet) (commands : List Command) (told : Told) (pass : PassState) → IsThrough code commands told → Shows f split writeback commands st
+  pub enters_down : (values : Reading) (packet : Packet) (commands : List Command) (told : Told) (pass : PassState) → IsThrough code commands told → AreShown f split writeback commands st
       → ((v : ValueId) → is_had (post_staging code) 0 v ≡ false → values v ≡ 0)
       → HasEntered (post_staging code) (λ g. g ≡ values) packet (Some told) pass → Knows f split writeback false values packet told.bit st pass
   enters_down values packet commands told pass through shows none entered = enters false values packet commands told pass through shows none entered

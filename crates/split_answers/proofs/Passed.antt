@@ -19,7 +19,7 @@ use Rattle.split_model.specs.Crossing.{crosses_down, crosses_up, guards_write, i
 use Rattle.split_model.specs.Laws.{CarriedStand, ShowsReplicated, IsExact, HasDeclaredTables, IsPostedAlike}
 use Rattle.split_model.specs.Layouts.{crossing, down_layout, up_layout, values_of}
 use Rattle.split_model.specs.Legal.{IsLegal}
-use Rattle.split_model.specs.Passes.{Shows, down_verdict, is_fast, pre_values}
+use Rattle.split_model.specs.Passes.{AgreeOnShown, down_verdict, is_fast, pre_values}
 use Rattle.split_model.specs.Split.{is_carried, is_server}
 use Rattle.transfer_header.specs.Frames.{frame_of, IsFrame, IsFrameOf}
 use Rattle.transfer_header.specs.Told.{reads_in, AreToldByPlace, IsToldByPlace}
@@ -40,8 +40,8 @@ use Rattle.split_answers.proofs.Seen.{AreSeen, has_replicated, is_loaded}
 pub record UpLaws : Type 0 where
   pub computes : (f : Program) (split : List Part) (writeback : ℕ) → IsLegal f split → Computes f split (emitted f split writeback)
   pub tables : (f : Program) (st : Store) → IsKept f.objects st → HasConstantTables f st
-  pub shows : (f : Program) (split : List Part) (st tables : Store) → HasConstantTables f st → HasDeclaredTables f split tables → ShowsReplicated f split st tables → Shows f split tables st
-  pub exact : (f : Program) (split : List Part) (st tables : Store) (packet : Packet) → IsWellFormed f → IsLegal f split → Shows f split tables st → IsExact f split st tables packet
+  pub shows : (f : Program) (split : List Part) (st tables : Store) → HasConstantTables f st → HasDeclaredTables f split tables → ShowsReplicated f split st tables → AgreeOnShown f split tables st
+  pub exact : (f : Program) (split : List Part) (st tables : Store) (packet : Packet) → IsWellFormed f → IsLegal f split → AgreeOnShown f split tables st → IsExact f split st tables packet
   pub carried : (f : Program) (split : List Part) (st tables : Store) (packet : Packet) → IsWellFormed f → IsLegal f split → HasConstantTables f st → HasDeclaredTables f split tables → CarriedStand f split st tables packet
   pub alike : (kind : ℕ) (layout : List Crossing) (number port : ℕ) (values others : Crossing → ℕ) (packet : List ℕ) → Agree layout values others → frame_of kind layout number port values packet ≡ frame_of kind layout number port others packet
 

@@ -22,10 +22,9 @@ use Rattle.writeback_table.specs.declared.command.To.TheVariants.{Value, Gone}
 use Rattle.writeback_table.specs.declared.command.Update.{Update}
 use Rattle.writeback_table.specs.Batches.{seen_after}
 use Rattle.writeback_table.specs.Commands.{bit_through, names, pair_after, pair_through, room_for}
-use Rattle.writeback_table.specs.Pair.{Pair, Staged, applied, change_to, has_room, visible, with_staged}
+use Rattle.writeback_table.specs.Pair.{Pair, Staged, applied, change_to, has_room, visible, with_staged, first_pair}
 use Rattle.server_runtime.specs.Serving.{IsUpdateIn}
 use Rattle.split_answers.specs.Whole.{IsSplit}
-use Rattle.split_answers.specs.Through.{first_pair}
 use Rattle.switch_ir.specs.declared.port.RowsEnd.TheVariants as rows
 use Rattle.switch_ir.specs.Emitted.{emitted, is_looked_up}
 use Rattle.switch_ir.specs.Port.{EndsSeen, IsCommandOf, IsReplicatedIn, IsUpdateOf}
@@ -79,7 +78,7 @@ sees_start true d writeback =
 
 -- the world begins with the same
 pub same_start : (f : Program) (split : List Part) (writeback o : ℕ) (d : ObjectDecl) → slice_get f.objects o ≡ Some d → is_table d.kind ≡ false
-    → first_pair f writeback o ≡ starting d writeback
+    → first_pair f.objects writeback o ≡ starting d writeback
 same_start f split writeback o d is changes =
     let P : Object → ℕ → Pair = λ x n. record { main = x; staged = finmap.empty; room = n } in
     ap (λ x. P x writeback) (started_at f.objects o d is)
@@ -139,7 +138,7 @@ seen_all o pair commands = ap (λ cs. visible (bit_through false cs) (pair_throu
 
 -- what lookups of a replicated object see is what the world says
 abbrev pub AreSeen : Program → List Part → ℕ → Store → List Command → Type 0
-AreSeen f split writeback st commands = (o : ℕ) → is_replicated f split o ≡ true → seen_after o (first_pair f writeback o) commands (length commands) ≡ (object_at st o).contents
+AreSeen f split writeback st commands = (o : ℕ) → is_replicated f split o ≡ true → seen_after o (first_pair f.objects writeback o) commands (length commands) ≡ (object_at st o).contents
 
 module _ (f : Program) (split : List Part) (writeback : ℕ) (is : IsSplit f split writeback) (commands : List Command) (told : Told) (through : IsThrough (emitted f split writeback) commands told) where
   -- constant tables have their declared rows, whatever the bit
@@ -155,22 +154,22 @@ module _ (f : Program) (split : List Part) (writeback : ℕ) (is : IsSplit f spl
   is_loaded = record { rows = constant_viewed told.bit }
 
   -- the pair of a replicated object is the world's
-  pub pair_is : (o : ℕ) → is_replicated f split o ≡ true → pair_at told.pairs o ≡ pair_through o (first_pair f writeback o) commands
+  pub pair_is : (o : ℕ) → is_replicated f split o ≡ true → pair_at told.pairs o ≡ pair_through o (first_pair f.objects writeback o) commands
   pair_is o shown =
       let d = is_declared f split writeback o is shown in
       through.pairs o d.0 d.1 ∙ ap (λ p. pair_through o p commands) (sym (same_start f split writeback o d.0 (declared_parts f split o d.0 d.1.declared).1 d.1.changes))
 
   -- by the bit that stands now, lookups see what the world says
-  pub seen_now : (o : ℕ) → visible told.bit (pair_through o (first_pair f writeback o) commands) ≡ seen_after o (first_pair f writeback o) commands (length commands)
+  pub seen_now : (o : ℕ) → visible told.bit (pair_through o (first_pair f.objects writeback o) commands) ≡ seen_after o (first_pair f.objects writeback o) commands (length commands)
   seen_now o =
-      ap (λ b. visible b (pair_through o (first_pair f writeback o) commands)) through.bit
-      ∙ sym (seen_all o (first_pair f writeback o) commands)
+      ap (λ b. visible b (pair_through o (first_pair f.objects writeback o) commands)) through.bit
+      ∙ sym (seen_all o (first_pair f.objects writeback o) commands)
 
-  contents_seen : (o : ℕ) → is_replicated f split o ≡ true → visible told.bit (pair_at told.pairs o) ≡ seen_after o (first_pair f writeback o) commands (length commands)
+  contents_seen : (o : ℕ) → is_replicated f split o ≡ true → visible told.bit (pair_at told.pairs o) ≡ seen_after o (first_pair f.objects writeback o) commands (length commands)
   contents_seen o shown = ap (visible told.bit) (pair_is o shown) ∙ seen_now o
 
   -- where lookups by a bit see the rows of a store that is kept, they see its object
-  pub replicated_viewed : (bit : Bool) (st : Store) (o : ℕ) → is_replicated f split o ≡ true → visible bit (pair_through o (first_pair f writeback o) commands) ≡ (object_at st o).contents
+  pub replicated_viewed : (bit : Bool) (st : Store) (o : ℕ) → is_replicated f split o ≡ true → visible bit (pair_through o (first_pair f.objects writeback o) commands) ≡ (object_at st o).contents
       → IsKept f.objects st → object_at (view_of bit told.pairs) o ≡ object_at st o
   replicated_viewed bit st o shown sees kept =
       let d = is_declared f split writeback o is shown in
@@ -185,24 +184,24 @@ module _ (f : Program) (split : List Part) (writeback : ℕ) (is : IsSplit f spl
   pub has_replicated : (st : Store) → AreSeen f split writeback st commands → IsKept f.objects st → ShowsReplicated f split st (seen_tables told)
   has_replicated st seen kept o shown = replicated_viewed told.bit st o shown (seen_now o ∙ seen o shown) kept
 
-  pub rows_seen : (st : Store) (o : ℕ) (list : List Row) → is_replicated f split o ≡ true → seen_after o (first_pair f writeback o) commands (length commands) ≡ (object_at st o).contents
+  pub rows_seen : (st : Store) (o : ℕ) (list : List Row) → is_replicated f split o ≡ true → seen_after o (first_pair f.objects writeback o) commands (length commands) ≡ (object_at st o).contents
       → EndsSeen told o (rows.Rows list) → list ≡ rows_of (object_at st o)
   rows_seen st o list shown seen ends = ends ∙ ap (λ (c : Contents). rows_from (finmap.entries c)) (contents_seen o shown ∙ seen)
 
   -- ## Room
 
   has_room_there : (o : ℕ) (d : ObjectDecl) (command : Command) → names o command ≡ true → IsReplicatedIn (emitted f split writeback) o d
-      → ((k : ℕ) → is_replicated f split k ≡ true → room_for k (pair_through k (first_pair f writeback k) commands) command ≡ true)
+      → ((k : ℕ) → is_replicated f split k ≡ true → room_for k (pair_through k (first_pair f.objects writeback k) commands) command ≡ true)
       → has_room (pair_at told.pairs o) command ≡ true
   has_room_there o d command named there room =
       let shown = is_replicated_there f split writeback o d is there in
-      let pair : Pair = pair_through o (first_pair f writeback o) commands in
+      let pair : Pair = pair_through o (first_pair f.objects writeback o) commands in
       ap (λ p. has_room p command) (pair_is o shown)
       ∙ sym (cond-true (names o command) (has_room pair command) true named)
       ∙ room o shown
 
   pub room_found : (command : Command) → IsCommandOf (emitted f split writeback) command
-      → ((o : ℕ) → is_replicated f split o ≡ true → room_for o (pair_through o (first_pair f writeback o) commands) command ≡ true)
+      → ((o : ℕ) → is_replicated f split o ≡ true → room_for o (pair_through o (first_pair f.objects writeback o) commands) command ≡ true)
       → has_room_in told.pairs command ≡ true
   room_found (Stage update) own room = has_room_there update.object own.0 (Stage update) (eq-eqb update.object update.object refl) own.1 room
   room_found On own room = refl
@@ -213,7 +212,7 @@ module _ (f : Program) (split : List Part) (writeback : ℕ) (is : IsSplit f spl
   -- ## Where nothing is left
 
   pub are_newest : (st : Store) → bit_through false commands ≡ false
-      → ((o : ℕ) → is_replicated f split o ≡ true → pair_through o (first_pair f writeback o) commands ≡ record { main = object_at st o; staged = finmap.empty; room = writeback })
+      → ((o : ℕ) → is_replicated f split o ≡ true → pair_through o (first_pair f.objects writeback o) commands ≡ record { main = object_at st o; staged = finmap.empty; room = writeback })
       → HasTables f split writeback st told
   are_newest st clear quiet = record {
     bit = through.bit ∙ clear;

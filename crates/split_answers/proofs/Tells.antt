@@ -16,7 +16,7 @@ use Rattle.transfer_header.specs.Frames.{IsFrame}
 use Rattle.writeback_table.specs.declared.command.Command.{Command}
 use Rattle.writeback_table.specs.Batches.{seen_after}
 use Rattle.writeback_table.specs.Commands.{bit_through, pair_through}
-use Rattle.writeback_table.specs.Pair.{Pair, visible}
+use Rattle.writeback_table.specs.Pair.{Pair, visible, first_pair}
 use Rattle.run_model.specs.declared.event.Event.{Event}
 use Rattle.run_model.specs.declared.event.Event.TheVariants.{Admit, Stage, Serve, Send, Apply, Ack, Hold, Down}
 use Rattle.switch_ir.specs.declared.port.DownEnd.TheVariants as down
@@ -34,7 +34,7 @@ use Rattle.replay_state.specs.Journal.{Call, CalledUp, CalledStageUp, CalledComm
 use Rattle.replay_state.specs.Journal.{or_else, only_for, up_end, up_answer, down_answer, told, up_ends, down_ends, down_frame}
 use Rattle.replay_state.specs.Journal.{Question, AsksUp, AsksStageUp, AsksCommand, AsksDown, AsksStageDown, question_of, asks, asked, asks_down, is_up_end}
 use Rattle.replay_state.specs.Places.{HavePlaces}
-use Rattle.replay_state.specs.Tables.{Shows}
+use Rattle.replay_state.specs.Tables.{IsShown}
 use Rattle.replay_state.specs.Told.{IsRight, Tells}
 use Rattle.split_answers.specs.Over.{AreAnswersOver, IsGiven}
 use Rattle.split_answers.specs.Through.{IsThrough, end_of}
@@ -170,16 +170,16 @@ module _ (f : Program) (split : List Part) (writeback : ℕ) (packets : List Pac
   abbrev store : Store
   store = store_at st.stores (seen st)
 
-  tells_admit : Shows setup st store
+  tells_admit : IsShown setup st store
       → ((number : ℕ) (packet : Packet) (answer : UpAnswer) → IsArrival packet
-      → ((o : ℕ) → is_replicated f split o ≡ true → seen_after o (through.first_pair f writeback o) applied (length applied) ≡ (object_at store o).contents)
+      → ((o : ℕ) → is_replicated f split o ≡ true → seen_after o (first_pair f.objects writeback o) applied (length applied) ≡ (object_at store o).contents)
       → EndsUp code tables number packet (end_of answer) → is_up_end answer ≡ true → IsRight s store number packet (Some answer))
       → map question_of one ≡ asks setup s packets (calls ++ one) st Admit → Each (IsGiven code) one → AreAnswersOver code tables one → Tells setup s packets (calls ++ one) st Admit
   tells_admit shows up e given over none =
       let n = length st.progress in
       let u = one_up code tables one _ _ n (packet_at packets n) (ap (λ k. eqb k 0) none) e given over in
-      let seen_is : (o : ℕ) → is_replicated f split o ≡ true → seen_after o (through.first_pair f writeback o) applied (length applied) ≡ (object_at store o).contents =
-      λ o rep. seen_first o (through.first_pair f writeback o) (commands_in st.batches) st.done ∙ shows o rep in
+      let seen_is : (o : ℕ) → is_replicated f split o ≡ true → seen_after o (first_pair f.objects writeback o) applied (length applied) ≡ (object_at store o).contents =
+      λ o rep. seen_first o (first_pair f.objects writeback o) (commands_in st.batches) st.done ∙ shows o rep in
       let right = up n (packet_at packets n) u.answer u.arrives seen_is u.over u.ended in
       let no_end : up_ends n calls ≡ 0 = once.up n ∙ ap (λ o. one_if (has_passed o)) (get_past st.progress) in
       record {
@@ -200,9 +200,9 @@ module _ (f : Program) (split : List Part) (writeback : ℕ) (packets : List Pac
         post = λ t. ap told (fresh_down n no_end ∙ d.is) ∙ post frame d.verdict d.framed d.over;
       }
 
-  pub tells : Shows setup st store
+  pub tells : IsShown setup st store
       → ((number : ℕ) (packet : Packet) (answer : UpAnswer) → IsArrival packet
-      → ((o : ℕ) → is_replicated f split o ≡ true → seen_after o (through.first_pair f writeback o) applied (length applied) ≡ (object_at store o).contents)
+      → ((o : ℕ) → is_replicated f split o ≡ true → seen_after o (first_pair f.objects writeback o) applied (length applied) ≡ (object_at store o).contents)
       → EndsUp code tables number packet (end_of answer) → is_up_end answer ≡ true → IsRight s store number packet (Some answer))
       → ((frame : List ℕ) (verdict : Verdict) → IsFrame 2 code.down frame → EndsDown code tables frame (down.Verdict verdict) → verdict ≡ s.post frame)
       → (event : Event) → map question_of one ≡ asks setup s packets (calls ++ one) st event → Each (IsGiven code) one → AreAnswersOver code tables one

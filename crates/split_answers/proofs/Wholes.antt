@@ -23,7 +23,7 @@ use Rattle.packet_fields.specs.Sizes.{largest_packet}
 use Rattle.transfer_header.specs.Frames.{frame_of, IsFrameOf}
 use Rattle.transfer_header.specs.Told.{number_in, packet_in, port_in, reads_in, IsToldByPlace}
 use Rattle.transfer_header.specs.Values.{low_bits, value_by}
-use Rattle.split_model.specs.Passes.{sent_down, served, Shows}
+use Rattle.split_model.specs.Passes.{sent_down, served, AgreeOnShown}
 use Rattle.split_model.specs.Shown.{is_replicated, writes_to}
 use Rattle.server_runtime.specs.Serving.{frame_run, is_followed, packet_frame, served_frame, updates_of, IsWholeRun}
 use Rattle.replay_state.specs.Program.{IsSplitProgram, IsSplitRun}
@@ -51,9 +51,9 @@ pub record Laws : Type 0 where
       → IsKept f.objects st → n ≤ length f.code → KeepsWidths f (after f st packet n)
   pub tables : (f : Program) (st : Store) → IsKept f.objects st → HasConstantTables f st
   pub shows : (f : Program) (split : List Part) (st tables : Store)
-      → HasConstantTables f st → HasDeclaredTables f split tables → ShowsReplicated f split st tables → Shows f split tables st
+      → HasConstantTables f st → HasDeclaredTables f split tables → ShowsReplicated f split st tables → AgreeOnShown f split tables st
   pub exact : (f : Program) (split : List Part) (st tables : Store) (packet : Packet)
-      → IsWellFormed f → IsLegal f split → Shows f split tables st → IsExact f split st tables packet
+      → IsWellFormed f → IsLegal f split → AgreeOnShown f split tables st → IsExact f split st tables packet
   pub reads : (f : Program) (split : List Part) (st : Store) (packet : Packet)
       → IsWellFormed f → IsLegal f split → IsShownAlone f split st packet
   pub told : (f : Program) (split : List Part) (st : Store) (packet : Packet) (up : Reading) (n : ℕ)
@@ -72,7 +72,7 @@ module _ (laws : Laws) (f : Program) (split : List Part) (writeback : ℕ) (is :
   within o shown n le = omega (arith, (kept_then n le).count, kept_there f split o is.bounded.formed shown)
 
   alike : (other : Store) → IsKept f.objects other → IsAlike (whole_of f split writeback).replicated other store
-      → Shows f split other store
+      → AgreeOnShown f split other store
   alike other keeps same =
       laws.shows f split store other (laws.tables f store kept) (loaded f split other (laws.tables f other keeps)) same
 

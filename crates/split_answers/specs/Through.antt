@@ -29,11 +29,6 @@ pub record IsThrough (code : Code) (commands : List Command) (told : Told) : Typ
       → pair_at told.pairs o ≡ start_pair code.writeback (Some d)
   pub bit : told.bit ≡ bit_through false commands
 
--- the tables of object o before any command: the main table is the object of the start store, and nothing is staged
-abbrev pub first_pair : Program → ℕ → ℕ → Pair
-first_pair f writeback o =
-    record { main = object_at (start_store f.objects) o; staged = finmap.empty; room = writeback }
-
 -- how a call ends that answers so
 abbrev pub end_of : UpAnswer → UpEnd
 end_of (Finished verdict) = up.Finished verdict

@@ -8,9 +8,9 @@ use Rattle.flat_ir.specs.Program.{Program}
 use Rattle.split_model.specs.declared.split.Part.{Part}
 use Rattle.split_model.specs.Shown.{is_replicated}
 use Rattle.transfer_header.specs.Frames.{IsFrame}
-use Rattle.writeback_table.specs.Batches.{seen_after}
+use Rattle.writeback_table.specs.Batches.{Shows}
 use Rattle.writeback_table.specs.Commands.{pair_through}
-use Rattle.writeback_table.specs.Pair.{visible}
+use Rattle.writeback_table.specs.Pair.{visible, first_pair}
 use Rattle.writeback_table.specs.declared.command.Command.{Command}
 use Rattle.switch_ir.specs.Code.{Code}
 use Rattle.switch_ir.specs.Emitted.{emitted}
@@ -24,7 +24,7 @@ use Rattle.replay_state.specs.Journal.{Call, down_frame}
 use Rattle.replay_state.specs.Program.{packet_at}
 use Rattle.replay_state.specs.declared.pass.Pass.{Pass}
 use Rattle.replay_state.specs.State.{State, store_at}
-use Rattle.split_answers.specs.Through.{IsThrough, first_pair}
+use Rattle.split_answers.specs.Through.{IsThrough}
 use Rattle.split_answers.specs.Whole.{whole_of}
 
 -- ## On every switch
@@ -56,14 +56,13 @@ pub record AreOnSwitch (setup : Setup) (packets : List Packet) (st : State) (pas
 -- ## On one that tells its tables
 
 -- lookups after these commands see the replicated objects of a store
-abbrev pub Shows : Program → List Part → ℕ → List Command → Store → Type 0
-Shows f split writeback commands store = (o : ℕ) → is_replicated f split o ≡ true
-    → seen_after o (first_pair f writeback o) commands (length commands) ≡ (object_at store o).contents
+abbrev pub AreShown : Program → List Part → ℕ → List Command → Store → Type 0
+AreShown f split writeback commands store = Shows (is_replicated f split) f.objects writeback commands (length commands) store
 
 -- so do those that go by this bit
 abbrev pub Views : Program → List Part → ℕ → Bool → List Command → Store → Type 0
 Views f split writeback bit commands store = (o : ℕ) → is_replicated f split o ≡ true
-    → visible bit (pair_through o (first_pair f writeback o) commands) ≡ (object_at store o).contents
+    → visible bit (pair_through o (first_pair f.objects writeback o) commands) ≡ (object_at store o).contents
 
 -- the pass before the server, or behind it
 abbrev pub staging : Bool → Code → Staging
@@ -88,7 +87,7 @@ pub record Knows (f : Program) (split : List Part) (writeback : ℕ) (pre : Bool
   pub commands : List Command
   pub through : IsThrough (emitted f split writeback) commands first
   pub first_bit : first.bit ≡ bit
-  pub shows : Shows f split writeback commands store
+  pub shows : AreShown f split writeback commands store
   -- what it knows; and what it has not counts as 0
   pub over : IsOver (staging pre (emitted f split writeback)) given (seen_tables first) packet own.stage pass.numbers
   pub no_more : HasNoMore (staging pre (emitted f split writeback)) given (seen_tables first) packet

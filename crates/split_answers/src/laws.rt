@@ -13,7 +13,7 @@ ghost use Rattle.run_model.specs.declared.event.Event.{Event};
 ghost use Rattle.run_model.specs.declared.event.Event.TheVariants.{Stage};
 ghost use Rattle.server_runtime.specs.Serving.{IsUpdateIn};
 ghost use Rattle.split_answers.specs.Over.{AreAnswersOver, IsGiven};
-ghost use Rattle.split_answers.specs.Through.{HasTables, IsThrough, end_of, first_pair};
+ghost use Rattle.split_answers.specs.Through.{HasTables, IsThrough, end_of};
 ghost use Rattle.split_answers.specs.Whole.{whole_of, IsSplit};
 ghost use Rattle.split_model.specs.Layouts.{down_layout};
 ghost use Rattle.split_model.specs.Shown.{is_replicated};
@@ -26,6 +26,7 @@ ghost use Rattle.std.specs.FinMap as map;
 ghost use Rattle.std.specs.List.{AllByRecursion as Each};
 ghost use Rattle.std.specs.Prelude.{◌≡◌, ◌++◌, ◌∷◌, [], ℕ, List, true, false, length, ◌≤◌, ◌^◌, Some};
 ghost use Rattle.std.specs.Prelude as prelude;
+ghost use Rattle.writeback_table.specs.Pair.{first_pair};
 ghost use Rattle.switch_ir.specs.Code.{Code};
 ghost use Rattle.switch_ir.specs.Emitted.{emitted};
 ghost use Rattle.switch_ir.specs.Port.{EndsDown, EndsSeen, EndsUp, IsCommandOf, IsReplicatedIn, IsUpdateOf};
@@ -95,7 +96,7 @@ pub fn told_tables_are_those_of_the_commands()
     ensures { (f : Program) (split : List Part) (writeback o : ℕ) (commands : List Command) (told : Told)
         → IsSplit f split writeback → IsThrough (emitted f split writeback) commands told
         → is_replicated f split o ≡ true
-        → pair_at told.pairs o ≡ pair_through o (first_pair f writeback o) commands }
+        → pair_at told.pairs o ≡ pair_through o (first_pair f.objects writeback o) commands }
 {}
 
 /// The code of a split program has tables for its replicated objects, and for no other object that can change.
@@ -115,7 +116,7 @@ pub fn a_told_command_finds_room()
         (told : Told) → IsSplit f split writeback → IsThrough (emitted f split writeback) commands told
         → IsCommandOf (emitted f split writeback) command
         → ((o : ℕ) → is_replicated f split o ≡ true
-        → room_for o (pair_through o (first_pair f writeback o) commands) command ≡ true)
+        → room_for o (pair_through o (first_pair f.objects writeback o) commands) command ≡ true)
         → has_room_in told.pairs command ≡ true }
 {}
 
@@ -127,7 +128,7 @@ pub fn a_told_pass_up_is_right()
         → IsSplit f split writeback → IsKept f.objects st → IsArrival packet
         → IsThrough (emitted f split writeback) commands told
         → ((o : ℕ) → is_replicated f split o ≡ true
-        → seen_after o (first_pair f writeback o) commands (length commands)
+        → seen_after o (first_pair f.objects writeback o) commands (length commands)
         ≡ (object_at st o).contents)
         → EndsUp (emitted f split writeback) told number packet (end_of answer) → is_up_end answer ≡ true
         → IsRight (whole_of f split writeback) st number packet (Some answer) }
@@ -162,7 +163,7 @@ pub fn told_rows_are_the_visible_stores()
         (o : ℕ) (list : List Row)
         → IsSplit f split writeback → IsThrough (emitted f split writeback) commands told
         → is_replicated f split o ≡ true
-        → seen_after o (first_pair f writeback o) commands (length commands)
+        → seen_after o (first_pair f.objects writeback o) commands (length commands)
         ≡ (object_at st o).contents
         → EndsSeen told o (rows.Rows list) → list ≡ rows_of (object_at st o) }
 {}
@@ -174,7 +175,7 @@ pub fn quiet_tables_are_the_stores()
         → IsSplit f split writeback → IsThrough (emitted f split writeback) commands told
         → bit_through false commands ≡ false
         → ((o : ℕ) → is_replicated f split o ≡ true
-        → pair_through o (first_pair f writeback o) commands
+        → pair_through o (first_pair f.objects writeback o) commands
         ≡ record { main = object_at st o; staged = map.empty; room = writeback })
         → HasTables f split writeback st told }
 {}

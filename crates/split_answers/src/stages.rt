@@ -9,7 +9,7 @@ ghost use Rattle.packet_fields.specs.declared.verdict.Verdict.{Verdict};
 ghost use Rattle.replay_state.specs.Journal.{UpAnswer, is_up_end};
 ghost use Rattle.replay_state.specs.Told.{IsRight};
 ghost use Rattle.split_answers.specs.Through.{IsThrough, end_of};
-ghost use Rattle.split_answers.specs.UnderWay.{Knows, Shows, Views, staging};
+ghost use Rattle.split_answers.specs.UnderWay.{Knows, AreShown, Views, staging};
 ghost use Rattle.split_answers.specs.Whole.{whole_of, IsSplit};
 ghost use Rattle.split_model.specs.declared.split.Part.{Part};
 ghost use Rattle.state_store.specs.Kept.{IsKept};
@@ -36,14 +36,14 @@ pub fn a_told_pass_in_stages_is_right()
     ensures enters_up { (f : Program) (split : List Part) (writeback : ℕ) (st : Store) (commands : List Command)
         (told : Told) (packet : Packet) (pass : PassState)
         → IsSplit f split writeback → IsKept f.objects st → IsArrival packet
-        → IsThrough (emitted f split writeback) commands told → Shows f split writeback commands st
+        → IsThrough (emitted f split writeback) commands told → AreShown f split writeback commands st
         → HasEntered (pre_staging (emitted f split writeback)) IsNothing packet (Some told) pass
         → Knows f split writeback true nothing packet told.bit st pass }
     ensures enters_down { (f : Program) (split : List Part) (writeback : ℕ) (st : Store) (commands : List Command)
         (told : Told) (frame : List ℕ) (pass : PassState)
         → (let code = emitted f split writeback in
         IsSplit f split writeback → IsKept f.objects st → IsFrame 2 code.down frame
-        → IsThrough code commands told → Shows f split writeback commands st
+        → IsThrough code commands told → AreShown f split writeback commands st
         → OfItsParts code frame (λ number packet values.
         HasEntered (post_staging code) (IsHandedDown code values packet) packet (Some told) pass
         → Knows f split writeback false (down_given code values packet) packet told.bit st pass)) }

@@ -21,7 +21,7 @@ use Rattle.split_model.specs.declared.split.Slow.TheVariants.{Server}
 use Rattle.split_model.specs.Counts.{is_post_shown}
 use Rattle.split_model.specs.Laws.{CarriedStand, ShowsReplicated, HasDeclaredTables}
 use Rattle.split_model.specs.Legal.{IsLegal}
-use Rattle.split_model.specs.Passes.{Shows, pre_values}
+use Rattle.split_model.specs.Passes.{AgreeOnShown, pre_values}
 use Rattle.split_model.specs.Shown.{is_shown, looks_at}
 use Rattle.split_model.specs.Split.{pre_stage, is_pre, is_post, is_carried, is_carried_up}
 use Rattle.split_model.proofs.Below.{Agreements, AreItsValues, each_weaker, each_both}
@@ -41,7 +41,7 @@ pub tables_agree : (f : Program) (split : List Part) (st tables : Store) → Has
 tables_agree f split st tables has loaded o e shown =
     let d = declared_at f.objects o e in loaded.rows o d.0 d.1 d.2 shown ∙ sym (has.tables o d.0 d.1 d.2)
 
-pub replicated_show : (f : Program) (split : List Part) (st tables : Store) → HasConstantTables f st → HasDeclaredTables f split tables → ShowsReplicated f split st tables → Shows f split tables st
+pub replicated_show : (f : Program) (split : List Part) (st tables : Store) → HasConstantTables f st → HasDeclaredTables f split tables → ShowsReplicated f split st tables → AgreeOnShown f split tables st
 replicated_show f split st tables has loaded replicated o shown =
     ⊎_elim
     (λ constant. tables_agree f split st tables has loaded o constant (or_left (is_shown f split o) (is_post_shown f split o) shown))

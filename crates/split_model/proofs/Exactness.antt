@@ -20,7 +20,7 @@ use Rattle.split_model.specs.declared.split.Part.{Part}
 use Rattle.split_model.specs.Split.{pre_stage, is_pre}
 use Rattle.split_model.specs.Legal.{IsLegal}
 use Rattle.split_model.specs.Shown.{looks_at}
-use Rattle.split_model.specs.Passes.{pre_values, meets_rest, Shows}
+use Rattle.split_model.specs.Passes.{pre_values, meets_rest, AgreeOnShown}
 use Rattle.split_model.specs.Laws.{IsExact}
 use Rattle.split_model.proofs.Below.{Agreements, AreItsValues, Lines, each_weaker}
 use Rattle.split_model.proofs.Passing.{any_passes}
@@ -126,7 +126,7 @@ module _ (f : Program) (split : List Part) (st tables : Store) (packet : Packet)
         not_live true go not = absurd (false≢true (sym not ∙ go refl))
         not_live false go not = refl
 
-    module _ (shows : Shows f split tables st) where
+    module _ (shows : AgreeOnShown f split tables st) where
       sight : (i : ℕ) → i < length f.code → is_pre split i ≡ true → (now : Store) → now ≡ st → (work : Work) → work_at i ≡ work → SameSight tables now work
       sight i within pre now e (look object keys) is =
           shows object (any_passes (length f.code) (λ j. is_pre split j && looks_at object (work_at j)) i within (and_from (is_pre split i) (looks_at object (work_at i)) pre (ap (looks_at object) is ∙ eq-eqb object object refl)))

@@ -10,7 +10,7 @@ use Rattle.flat_ir.specs.Run.{Change, with_changes, with_values, flat_store, fla
 use Rattle.state_store.specs.Kinds.{is_constant}
 use Rattle.flat_ir.specs.Laws.{IsItsChanges, KeepsTables}
 use Rattle.split_model.specs.declared.split.Part.{Part}
-use Rattle.split_model.specs.Passes.{is_fast, Shows, replicated_changes}
+use Rattle.split_model.specs.Passes.{is_fast, AgreeOnShown, replicated_changes}
 use Rattle.split_model.specs.Shown.{is_shown, is_replicated}
 use Rattle.split_model.specs.Laws.{IsExact, IsShownAlone}
 
@@ -42,7 +42,7 @@ module _ (alone : (st : Store) (number : ℕ) (object : Object) → IsChangedAlo
       changed_alone f split o shown cs (with_values st c.object c.key c.values) parts.1
       ∙ valued_alone st c o c.values (λ e. false≢true (sym parts.0 ∙ ap (is_replicated f split) (sym e) ∙ shown))
 
-  leaves : (f : Program) (split : List Part) (st : Store) (packet : Packet) → IsItsChanges f st packet → KeepsTables f st packet → replicated_changes f split (flat_changes f st packet) ≡ [] → Shows f split (flat_store f st packet) st
+  leaves : (f : Program) (split : List Part) (st : Store) (packet : Packet) → IsItsChanges f st packet → KeepsTables f st packet → replicated_changes f split (flat_changes f st packet) ≡ [] → AgreeOnShown f split (flat_store f st packet) st
   leaves f split st packet its keeps none o shown =
       ⊎_elim
       (λ constant. keeps o (length f.code) constant (omega arith))
@@ -53,9 +53,9 @@ module _ (alone : (st : Store) (number : ℕ) (object : Object) → IsChangedAlo
   or_else d None = d
   or_else d (Some x) = x
 
-  pub shown_alone : (f : Program) (split : List Part) (st : Store) (packet : Packet) → IsItsChanges f st packet → KeepsTables f st packet → ((at tables : Store) → Shows f split tables at → IsExact f split at tables packet) → IsShownAlone f split st packet
+  pub shown_alone : (f : Program) (split : List Part) (st : Store) (packet : Packet) → IsItsChanges f st packet → KeepsTables f st packet → ((at tables : Store) → AgreeOnShown f split tables at → IsExact f split at tables packet) → IsShownAlone f split st packet
   shown_alone f split st packet its keeps exact =
-      let same : (other : Store) → Shows f split other st → is_fast f split other packet ≡ is_fast f split st packet = λ other shows. sym (exact other other (λ o e. refl)).finishes ∙ (exact st other shows).finishes in
+      let same : (other : Store) → AgreeOnShown f split other st → is_fast f split other packet ≡ is_fast f split st packet = λ other shows. sym (exact other other (λ o e. refl)).finishes ∙ (exact st other shows).finishes in
       record {
         fast = same;
         verdict = λ other shows fast.

@@ -15,7 +15,7 @@ use Rattle.split_model.specs.declared.split.Part.{Part}
 use Rattle.split_model.specs.Split.{is_carried, is_post, is_pre, any_step}
 use Rattle.split_model.specs.Counts.{is_post_shown}
 use Rattle.split_model.specs.Crossing.{crosses_up, crosses_down, is_among, is_written_value}
-use Rattle.split_model.specs.Passes.{pre_verdict, pre_values, is_fast, meets_rest, Shows, IsHanded, server_run}
+use Rattle.split_model.specs.Passes.{pre_verdict, pre_values, is_fast, meets_rest, AgreeOnShown, IsHanded, server_run}
 use Rattle.split_model.specs.Passes.{replicated_changes, post_values, post_verdict, sent_down, down_verdict}
 use Rattle.split_model.specs.Shown.{is_shown, is_replicated}
 
@@ -55,10 +55,10 @@ pub record IsWhole (f : Program) (split : List Part) (st tables : Store) (packet
 -- Whether a packet is fast, and its verdict then, hang on what preprocessing reads of the store alone; and a run that
 -- changes no replicated object leaves what it reads.
 pub record IsShownAlone (f : Program) (split : List Part) (st : Store) (packet : Packet) : Type 0 where
-  pub fast : (other : Store) → Shows f split other st → is_fast f split other packet ≡ is_fast f split st packet
-  pub verdict : (other : Store) → Shows f split other st → is_fast f split st packet ≡ true
+  pub fast : (other : Store) → AgreeOnShown f split other st → is_fast f split other packet ≡ is_fast f split st packet
+  pub verdict : (other : Store) → AgreeOnShown f split other st → is_fast f split st packet ≡ true
       → flat_verdict f other packet ≡ flat_verdict f st packet
-  pub leaves : replicated_changes f split (flat_changes f st packet) ≡ [] → Shows f split (flat_store f st packet) st
+  pub leaves : replicated_changes f split (flat_changes f st packet) ≡ [] → AgreeOnShown f split (flat_store f st packet) st
 
 -- Where the numbers that are handed up are the same, so are the store and the changes that the server leaves, and its
 -- numbers of values that cross down or that it sets fields to.

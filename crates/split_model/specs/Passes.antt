@@ -62,8 +62,8 @@ abbrev pub is_fast : Program → List Part → Store → Packet → Bool
 is_fast f split st packet = not (meets_rest f split (flat_run f st packet).reads)
 
 -- the switch's tables are the store's, as far as preprocessing reads them
-abbrev pub Shows : Program → List Part → Store → Store → Type 0
-Shows f split tables st = (o : ℕ) → is_shown f split o ≡ true → object_at tables o ≡ object_at st o
+abbrev pub AgreeOnShown : Program → List Part → Store → Store → Type 0
+AgreeOnShown f split tables st = (o : ℕ) → is_shown f split o ≡ true → object_at tables o ≡ object_at st o
 
 -- ## The server
 

@@ -14,7 +14,7 @@ ghost use Rattle.split_model.specs.declared.split.Part.{Part};
 ghost use Rattle.split_model.specs.Crossing.{crosses_down, crosses_up, is_written_value};
 ghost use Rattle.split_model.specs.Split.{post_stage, pre_stage};
 ghost use Rattle.split_model.specs.Legal.{IsLegal};
-ghost use Rattle.split_model.specs.Passes.{IsHanded, Shows, pre_values, post_values, served};
+ghost use Rattle.split_model.specs.Passes.{IsHanded, AgreeOnShown, pre_values, post_values, served};
 ghost use Rattle.split_model.specs.Passes.{done_below, given_down, pass};
 ghost use Rattle.split_model.specs.Laws.{CarriedStand, FitAcross, GoesByStages, HasEveryPart, ShowsReplicated};
 ghost use Rattle.split_model.specs.Laws.{IsExact, HasDeclaredTables};
@@ -36,13 +36,13 @@ pub fn kept_stores_have_tables()
 /// Tables that have the declared constant ones, and the store's replicated objects, show the store.
 pub fn replicated_objects_show()
     ensures { (f : Program) (split : List Part) (st tables : Store)
-        → HasConstantTables f st → HasDeclaredTables f split tables → ShowsReplicated f split st tables → Shows f split tables st }
+        → HasConstantTables f st → HasDeclaredTables f split tables → ShowsReplicated f split st tables → AgreeOnShown f split tables st }
 {}
 
 /// Preprocessing over tables that show a store finishes exactly the packets that are fast over it, with their verdicts.
 pub fn preprocessing_is_exact()
     ensures { (f : Program) (split : List Part) (st tables : Store) (packet : Packet)
-        → IsWellFormed f → IsLegal f split → Shows f split tables st → IsExact f split st tables packet }
+        → IsWellFormed f → IsLegal f split → AgreeOnShown f split tables st → IsExact f split st tables packet }
 {
     a_run_is_its_values();
     readings_that_agree();

@@ -4,8 +4,7 @@ use Rattle.std.specs.Str.{all_ascii_digits, bytes_eq}
 use Rattle.std.specs.List.{AllByRecursion, list_all, onto_first}
 use Rattle.std.proofs.lemmas.Bool.{and_parts, leb-true}
 use Rattle.std.proofs.lemmas.Bool.Decides.{nat_tests}
-use Rattle.gal_io.specs.Lines.{fed_lines, lines, without_return, is_skipped}
-use Rattle.split_validate.specs.SplitLines.{told_of}
+use Rattle.gal_io.specs.Lines.{fed_lines, lines, without_return, is_skipped, told_of}
 use Rattle.split_validate.proofs.Words.{unspaced}
 
 abbrev pub plain : ℕ → Bool

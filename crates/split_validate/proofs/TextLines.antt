@@ -4,11 +4,11 @@ use Rattle.std.specs.List.{AllByRecursion}
 use Rattle.std.proofs.lemmas.Bool.{cases_lt}
 use Rattle.std.proofs.lemmas.List.{append-nil, take-append-drop}
 use Rattle.std.proofs.lemmas.Option.{same_Some}
-use Rattle.gal_io.specs.Lines.{lines, is_skipped}
+use Rattle.gal_io.specs.Lines.{lines, is_skipped, told_of}
 use Rattle.split_model.specs.declared.split.Part.{Part}
 use Rattle.split_model.specs.Bounds.{HasFewStages}
 use Rattle.split_validate.specs.SplitText.{split_text}
-use Rattle.split_validate.specs.SplitLines.{AreLinesOf, Begins, IsFirstWrong, IsRefused, IsSplitText, told_of}
+use Rattle.split_validate.specs.SplitLines.{AreLinesOf, Begins, IsFirstWrong, IsRefused, IsSplitText}
 use Rattle.split_validate.specs.declared.reading.SplitTextError.TheVariants.{Line}
 use Rattle.split_validate.specs.SplitSteps.{ended, line_read, step, taken, title}
 use Rattle.split_validate.specs.declared.reading.Progress.{Progress}

@@ -4,13 +4,12 @@ use Rattle.std.specs.Fmt.{decimal}
 use Rattle.std.specs.List.{AllByRecursion, list_all}
 use Rattle.std.proofs.lemmas.Fmt.{decimal_nonempty}
 use Rattle.std.proofs.lemmas.Option.{same_Some}
-use Rattle.gal_io.specs.Lines.{lines}
+use Rattle.gal_io.specs.Lines.{lines, line_end}
 use Rattle.split_model.specs.declared.split.Slow.{Slow}
 use Rattle.split_model.specs.declared.split.Slow.TheVariants.{Carried, Server, Post}
 use Rattle.split_model.specs.declared.split.Part.{Part}
 use Rattle.split_model.specs.Split.{pre_stage, post_stage, stage_after}
 use Rattle.split_model.specs.Bounds.{HasFewStages}
-use Rattle.flat_ir.specs.Listing.{line_end}
 use Rattle.split_validate.specs.SplitText.{first_line, part_line, part_lines, pre_text, slow_text, split_text}
 use Rattle.split_validate.specs.SplitSteps.{title}
 use Rattle.split_validate.proofs.Gone.{AreLow, IsLow, IsLowPre, IsLowSlow, last, part_told, parts_told, split_told}

@@ -1,16 +1,11 @@
 -- The lines of a text that is a split, and the first line at which it is none.
 use Rattle.std.specs.Prelude.{◌≡◌, ◌<◌, ◌≤◌, ℕ, suc, List, [], ◌∷◌, ◌++◌, length, take, if◌then◌else◌}
-use Rattle.gal_io.specs.Lines.{lines, is_skipped}
+use Rattle.gal_io.specs.Lines.{lines, told_of}
 use Rattle.split_model.specs.declared.split.Part.{Part}
 use Rattle.split_model.specs.Bounds.{HasFewStages}
 use Rattle.split_validate.specs.SplitText.{split_text}
 use Rattle.split_validate.specs.declared.reading.SplitTextError.{SplitTextError}
 use Rattle.split_validate.specs.declared.reading.SplitTextError.TheVariants.{Line}
-
--- the lines that aren't skipped
-abbrev pub told_of : List (List ℕ) → List (List ℕ)
-told_of [] = []
-told_of (line ∷ ls) = if is_skipped line then told_of ls else line ∷ told_of ls
 
 -- Lines of the text of a split for so many instructions: it has a part for each of them and no stage above 4,096, and
 -- the lines are those of its printed text, and skipped ones.

@@ -1,6 +1,6 @@
 -- The text of a split: a line that gives its number of instructions, a line for each of them, and a last line.
 use Rattle.std.specs.Prelude.{ℕ, suc, List, [], ◌∷◌, ◌++◌, length, Option, Some, None, codes, decimal}
-use Rattle.flat_ir.specs.Listing.{line_end}
+use Rattle.gal_io.specs.Lines.{line_end}
 use Rattle.split_model.specs.declared.split.Slow.{Slow}
 use Rattle.split_model.specs.declared.split.Slow.TheVariants.{Carried, Server, Post}
 use Rattle.split_model.specs.declared.split.Part.{Part}

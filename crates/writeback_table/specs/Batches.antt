@@ -2,10 +2,11 @@
 use Rattle.std.specs.Prelude.{◌≡◌, ◌≤◌, ◌<◌, ◌+◌, ◌==◌, ℕ, Bool, true, false, List, [], ◌∷◌, ◌++◌, ⊤, Some, length}
 use Rattle.std.specs.Prelude.{take, slice_get, if◌then◌else◌}
 use Rattle.std.specs.FinMap as map
-use Rattle.state_store.specs.Store.{Contents, Object}
+use Rattle.state_store.specs.Store.{Contents, Object, Store, object_at}
+use Rattle.state_store.specs.declared.object.ObjectDecl.{ObjectDecl}
 use Rattle.writeback_table.specs.declared.command.Update.{Update}
 use Rattle.writeback_table.specs.declared.command.Command.{Command}
-use Rattle.writeback_table.specs.Pair.{Pair, visible, changed, takes}
+use Rattle.writeback_table.specs.Pair.{Pair, first_pair, visible, changed, takes}
 use Rattle.writeback_table.specs.Commands.{commands_of, ons, pair_through, bit_through, room_for}
 
 -- the change of object o by one update, by all of a batch in turn, and by all batches in turn
@@ -54,6 +55,11 @@ pub record IsReady (o : ℕ) (pair : Pair) (batches : List (List Update)) : Type
 -- the table of object o that lookups see after the first n of the commands, from bit 0
 abbrev pub seen_after : ℕ → Pair → List Command → ℕ → Contents
 seen_after o pair commands n = visible (bit_through false (take n commands)) (pair_through o pair (take n commands))
+
+-- after the first n of the commands, lookups of the marked objects see those of a store
+abbrev pub Shows : (ℕ → Bool) → List ObjectDecl → ℕ → List Command → ℕ → Store → Type 0
+Shows marked objects writeback commands n store = (o : ℕ) → marked o ≡ true
+    → seen_after o (first_pair objects writeback o) commands n ≡ (object_at store o).contents
 
 -- What is seen of object o while the commands of the batches are applied one by one.
 pub record IsSeenInOrder (o : ℕ) (pair : Pair) (batches : List (List Update)) : Type 0 where

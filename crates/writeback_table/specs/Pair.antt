@@ -3,7 +3,8 @@ use Rattle.std.specs.Prelude.{ℕ, Bool, true, false, ◌||◌, List, [], ◌∷
 use Rattle.std.specs.Prelude.{replicate, if◌then◌else◌}
 use Rattle.std.specs.FinMap as map
 use Rattle.std.specs.FinMap.{FinMap}
-use Rattle.state_store.specs.Store.{Contents, Object, key_cmp, put_answer, is_stored, put_row, del_row, rows_from}
+use Rattle.state_store.specs.Store.{Contents, Object, key_cmp, object_at, put_answer, is_stored, put_row, del_row, rows_from, start_store}
+use Rattle.state_store.specs.declared.object.ObjectDecl.{ObjectDecl}
 use Rattle.state_store.specs.declared.object.Row.{Row}
 use Rattle.writeback_table.specs.declared.command.To.{To}
 use Rattle.writeback_table.specs.declared.command.To.TheVariants.{Value, Gone}
@@ -20,6 +21,10 @@ pub record Pair : Type 0 where
   pub staged : Staged
   -- how many rows may be staged
   pub room : ℕ
+
+-- the tables of object o before any command: the main table is the object of the start store, and nothing is staged
+abbrev pub first_pair : List ObjectDecl → ℕ → ℕ → Pair
+first_pair objects writeback o = record { main = object_at (start_store objects) o; staged = map.empty; room = writeback }
 
 -- ---- what a lookup sees
 

@@ -8,7 +8,7 @@ use Rattle.replay_state.specs.Places.{HavePlaces}
 use Rattle.replay_state.specs.Run.{seen_store}
 use Rattle.replay_state.specs.State.{State, applied_commands}
 use Rattle.replay_state.specs.Step.{step}
-use Rattle.replay_state.specs.Tables.{Shows}
+use Rattle.replay_state.specs.Tables.{IsShown}
 use Rattle.replay_state.specs.Views.{KeepViews}
 use Rattle.split_answers.specs.UnderWay.{staging}
 use Rattle.replay_contracts.specs.Given.{code_for, setup_for, whole, whole_runs}
@@ -54,7 +54,7 @@ returns c x events event calls one st old new ready h asks called =
           let sound = c.whole_runs_are_sound.ensures.sound s x.packets x.manner law in
           let views = subst (KeepViews setup) (sym told.tied.same) (c.passes_keep_their_views.ensures setup (whole_runs x) events sound) in
           let kept = subst (λ (w : State). IsKept x.program.objects (seen_store w)) (sym told.tied.same) (c.stores_keep_what_was_declared.ensures.seen setup (whole_runs x) events sound) in
-          let shows = seen_of x events st (subst (λ (w : State). Shows setup w (seen_store w)) (sym told.tied.same) (c.lookups_see_one_version.ensures setup (whole_runs x) events sound).shows) in
+          let shows = seen_of x events st (subst (λ (w : State). IsShown setup w (seen_store w)) (sym told.tied.same) (c.lookups_see_one_version.ensures setup (whole_runs x) events sound).shows) in
           let in_stages = c.a_told_pass_in_stages_is_right.ensures in
           let carried = say.gone setup s x.packets events calls st h.answered in
           let rests = rests_step setup a st places event in (

@@ -1,6 +1,5 @@
 use Rattle.std.proofs.Common.{◌≡◌, ◌≤◌, ◌+◌, length, drop, take, Some}
-use Rattle.gal_io.specs.Lines.{lines}
-use Rattle.report_text.specs.Lines.{told_of}
+use Rattle.gal_io.specs.Lines.{lines, told_of}
 use Rattle.report_text.specs.Machine.{at_start}
 use Rattle.report_text.proofs.Walked.{walked}
 use Rattle.report_text.proofs.report.read_run.Given as goal

@@ -6,7 +6,7 @@ use Rattle.replay_state.specs.Places.{HavePlaces}
 use Rattle.replay_state.specs.Program.{plain, setup_of}
 use Rattle.output_commit.specs.Batches.{commands_in}
 use Rattle.replay_state.specs.State.{State, seen, store_at}
-use Rattle.replay_state.specs.Tables.{Shows}
+use Rattle.replay_state.specs.Tables.{IsShown}
 use Rattle.split_answers.specs.Whole.{whole_of}
 use Rattle.split_answers.proofs.Tells.{tells, asked_where}
 use Rattle.split_answers.proofs.laws.a_switch_that_tells_its_tables_tells_right.Goals as goal
@@ -16,7 +16,7 @@ returns c f split writeback packets manner events event calls one st tables is a
     let s = whole_of f split writeback in
     let setup = setup_of s packets manner in
     let sound = c.whole_runs_are_sound.ensures.sound s packets manner (c.split_programs_have_their_laws.ensures f split writeback packets is arrive) in
-    let shows = subst (λ (w : State). Shows setup w (store_at w.stores (seen w))) (sym tied.same) (c.lookups_see_one_version.ensures setup (plain s packets) events sound).shows in
+    let shows = subst (λ (w : State). IsShown setup w (store_at w.stores (seen w))) (sym tied.same) (c.lookups_see_one_version.ensures setup (plain s packets) events sound).shows in
     let kept = subst (λ (w : State). IsKept f.objects (store_at w.stores (seen w))) (sym tied.same) (c.stores_keep_what_was_declared.ensures.seen setup (plain s packets) events sound) in
     let calls_say = c.a_run_is_answered_by_its_calls.ensures in
     tells f split writeback packets manner calls one st tables

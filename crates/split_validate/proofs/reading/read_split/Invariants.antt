@@ -1,6 +1,5 @@
 use Rattle.std.proofs.Common.{◌≡◌, ◌≤◌, ◌<◌, ◌^◌, ◌+◌, length, drop, take}
-use Rattle.gal_io.specs.Lines.{lines}
-use Rattle.split_validate.specs.SplitLines.{told_of}
+use Rattle.gal_io.specs.Lines.{lines, told_of}
 use Rattle.split_validate.proofs.Gone.{Fits, so_far}
 use Rattle.split_validate.proofs.reading.read_split.Given as goal
 

@@ -1,6 +1,6 @@
 use Rattle.std.proofs.Common.{◌++◌, sym, subst}
 use Rattle.replay_contracts.specs.Replayer.{HasEmptied, given_of}
-use Rattle.schedule_replay.specs.Replayer.{view_of}
+use Rattle.schedule_replay.specs.Replayer.{replayer_of}
 use Rattle.schedule_replay.proofs.Playing.{drain_performs, drain_short, drain_stands, drained_more, failed_stands, few_left, has_emptied, has_failed, way_there}
 use Rattle.schedule_replay.proofs.replayer.Replayer.drain.Goals as goal
 
@@ -22,7 +22,7 @@ returns-in-Ok-clause-emptied g c = rw (← c.self.view_is) λ events now.
     let new = g.S.SwitchPort.seen c.drain.new.port in
     let more = drained_more x events c.in-Ok.events me.course c.drain.new.self old new me.steps c.in-Ok.ensures.drained now in (
       more,
-      subst (λ n. HasEmptied (view_of x events me.steps old me.failed) n (view_of x (events ++ more) me.steps new me.failed)) (sym c.from.ensures)
+      subst (λ n. HasEmptied (replayer_of x events me.steps old me.failed) n (replayer_of x (events ++ more) me.steps new me.failed)) (sym c.from.ensures)
           (has_emptied c.a_journal_determines_its_replay.ensures c.a_run_is_answered_by_its_calls.ensures.once c.a_run_keeps_its_promises.ensures
           c.a_quiet_switch_has_the_servers_tables.ensures x events c.in-Ok.events me.course c.drain.new.self old new me.steps me.failed
           c.in_default.is c.in-Ok.ensures.drained now),
