@@ -1,15 +1,14 @@
 -- The objects of all elements, with their names in the whole.
-use Rattle.std.proofs.Common.{◌≡◌, ℕ, zero, suc, ◌+◌, ◌*◌, ◌<◌, ◌≤◌, List, [], ◌∷◌, ◌++◌, length, map, drop, slice_index_or, refl, sym, ap, ◌∙◌, arith, length-append, append_assoc, drop-cons}
+use Rattle.std.proofs.Common.{◌≡◌, ℕ, suc, ◌+◌, ◌*◌, ◌<◌, List, [], ◌∷◌, ◌++◌, length, map, drop, slice_index_or, refl, sym, ap, ◌∙◌, arith, length-append, append_assoc, drop-cons}
 use Rattle.std.proofs.Math.Nat.{suc-mul}
 use Rattle.state_store.specs.declared.object.Kind.{Kind}
-use Rattle.state_store.specs.declared.object.Kind.TheVariants.{Table, Map, Vector, Int}
+use Rattle.state_store.specs.declared.object.Kind.TheVariants.{Table}
 use Rattle.state_store.specs.declared.object.ObjectDecl.{ObjectDecl}
 use Rattle.element_lang.specs.Sizes.{entries_of, entries_in}
-use Rattle.element_lang.specs.Tree.{Tree}
 use Rattle.element_lang.specs.View.{tree}
 use Rattle.element_lang.specs.declared.tree.Middlebox.{Middlebox}
 use Rattle.element_print.specs.Lengths.{length_as, decls_length}
-use Rattle.element_chain.specs.Compose.{prefixed, named_objects, objects_from, base_of}
+use Rattle.element_chain.specs.Compose.{prefixed, named_objects, objects_from}
 
 -- the objects of an element, and those behind it
 pub objects_at : (ms : List Middlebox) (i : ℕ) (m : Middlebox) → i < length ms → m ≡ slice_index_or ms i m
@@ -38,13 +37,6 @@ many_from e (m ∷ ms) =
 pub all_counted : (ms : List Middlebox) → length (objects_from 0 (map tree ms)) ≡ objects_in ms
 all_counted ms = many_from 0 ms
 
--- the first object of an element is among them
-pub base_within : (k : ℕ) (ms : List Tree) (e : ℕ) → base_of ms e ≤ length (objects_from k ms)
-base_within k [] e = omega arith
-base_within k (m ∷ ms) zero = omega arith
-base_within k (m ∷ ms) (suc e) =
-    omega (arith, length-append (named_objects k m.objects) (objects_from (suc k) ms), named_many k m.objects, base_within (suc k) ms e)
-
 -- ## Entries
 
 abbrev pub entries_of_all : List Middlebox → ℕ
@@ -53,9 +45,7 @@ entries_of_all (m ∷ ms) = entries_in m.objects + entries_of_all ms
 
 entered_as : (k : Kind) (o : ObjectDecl) (name : List ℕ) → entries_of k (record o { name = name }) ≡ entries_of k o
 entered_as Table o name = refl
-entered_as Map o name = refl
-entered_as Vector o name = refl
-entered_as Int o name = refl
+entered_as _ o name = refl
 
 named_entries : (e : ℕ) (os : List ObjectDecl) → entries_in (named_objects e os) ≡ entries_in os
 named_entries e [] = refl
@@ -77,9 +67,7 @@ all_entered ms = entered_from 0 ms
 
 told_as : (k : Kind) (o : ObjectDecl) (name : List ℕ) → length_as k (record o { name = name }) ≡ length_as k o
 told_as Table o name = refl
-told_as Map o name = refl
-told_as Vector o name = refl
-told_as Int o name = refl
+told_as _ o name = refl
 
 pub named_decls : (e prefix : ℕ) → ((name : List ℕ) → length (prefixed e name) ≡ prefix + length name) → (os : List ObjectDecl)
     → decls_length (named_objects e os) ≡ decls_length os + length os * prefix
@@ -95,22 +83,6 @@ decls_append (o ∷ os) ps = omega (arith, decls_append os ps)
 
 abbrev pub lengths_of_names : List ObjectDecl → List ℕ
 lengths_of_names = map (λ (o : ObjectDecl). length o.name)
-
--- one more is told
-pub name_told : (e prefix : ℕ) (own : List ObjectDecl) (i : ℕ) (o : ObjectDecl) (n : ℕ) (had had' all : List ℕ) → ((name : List ℕ) → length (prefixed e name) ≡ prefix + length name)
-    → i < length own → o ≡ slice_index_or own i o → n ≡ prefix + length o.name → had' ≡ had ++ n ∷ []
-    → had ++ lengths_of_names (named_objects e (drop i own)) ≡ all → had' ++ lengths_of_names (named_objects e (drop (i + 1) own)) ≡ all
-name_told e prefix own i o n had had' all prefixes within is told more before =
-    let next : suc i ≡ i + 1 = omega arith in
-    let rest = lengths_of_names (named_objects e (drop (i + 1) own)) in
-    let here : drop i own ≡ o ∷ drop (i + 1) own =
-    drop-cons own i o within ∙ ap (λ (p : ObjectDecl). p ∷ drop (suc i) own) (sym is) ∙ ap (λ (k : ℕ). o ∷ drop k own) next in
-    let first : n ≡ length (prefixed e o.name) = told ∙ sym (prefixes o.name) in
-    ap (λ (ns : List ℕ). ns ++ rest) more
-    ∙ append_assoc had (n ∷ []) rest
-    ∙ ap (λ (k : ℕ). had ++ (k ∷ rest)) first
-    ∙ ap (λ (os : List ObjectDecl). had ++ lengths_of_names (named_objects e os)) (sym here)
-    ∙ before
 
 -- those of one element more
 pub names_told : (ms : List Middlebox) (i : ℕ) (m : Middlebox) (had had' all : List ℕ) → i < length ms → m ≡ slice_index_or ms i m

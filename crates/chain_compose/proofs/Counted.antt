@@ -27,8 +27,9 @@ use Rattle.element_chain.specs.declared.chain.Target.TheVariants.{Element, Out}
 use Rattle.element_chain.specs.Chain.{Connected, element_at}
 use Rattle.element_chain.specs.Compose.{followed, one, two, seen, renamed, all_renamed, numbers, Numbering, Spot, Sends, Ends, declared, stmt_placed, body_placed, tests, sent_by, wires_of, clearing, closed, is_set, base_of, objects_from, ends_within, element_placed, composed}
 use Rattle.chain_compose.specs.declared.gauge.Gauge.{Gauge}
-use Rattle.chain_compose.specs.declared.gauge.Gauge.TheVariants.{Statements, Writes, Locals, Uses, Bytes}
+use Rattle.chain_compose.specs.declared.gauge.Gauge.TheVariants.{Statements, Locals, Uses, Bytes}
 use Rattle.chain_compose.specs.Counts.{used_by_expr, used_by_exprs, weight, turns, body_count, placed_stmt_count, placed_count, whole_lengths, port_length, drop_weight, test_weight, tests_count, sent_count, closing_count, clearing_count, element_count, end_count, entry_count}
+use Rattle.element_chain.proofs.GoodStmts.{length-numbers}
 
 -- ## Statements one after the other
 
@@ -94,20 +95,12 @@ module _ (port : Option ℕ) (names : List ℕ) where
       with_port (Some input) = by_test input (field_index f == field_index MetaPort)
 
   same_infix : (e : ExprTree) → has_infix (nameless (renamed port names e)) ≡ has_infix (nameless e)
-  same_infix (lit value width) = refl
-  same_infix (local x) = refl
   same_infix (field f) = by_seen (λ (e : ExprTree). has_infix (nameless e)) (λ g. refl) (λ input. refl) f
-  same_infix (byte index) = refl
-  same_infix (shift op by arg) = refl
-  same_infix (apply op width args) = refl
+  same_infix _ = refl
 
   same_turned : (e : ExprTree) → is_turned (nameless (renamed port names e)) ≡ is_turned (nameless e)
-  same_turned (lit value width) = refl
-  same_turned (local x) = refl
   same_turned (field f) = by_seen (λ (e : ExprTree). is_turned (nameless e)) (λ g. refl) (λ input. refl) f
-  same_turned (byte index) = refl
-  same_turned (shift op by arg) = refl
-  same_turned (apply op width args) = refl
+  same_turned _ = refl
 
   same_brackets : (place : Place) (e : ExprTree) → needs_brackets place (nameless (renamed port names e)) ≡ needs_brackets place (nameless e)
   same_brackets Whole e = refl
@@ -119,8 +112,6 @@ module _ (port : Option ℕ) (names : List ℕ) where
 module _ (xs : List ℕ) (base : ℕ) (port : Option ℕ) (names : List ℕ) where
   mutual
     pub same_length : (e : ExprTree) → expr_length (whole xs base port) (renamed port names e) ≡ expr_length (own xs base port) e
-    same_length (lit value width) = refl
-    same_length (local x) = refl
     same_length (field f) = seen_reads xs base port f
     same_length (byte index) = omega (arith, same_length index)
     same_length (shift op by arg) =
@@ -133,6 +124,7 @@ module _ (xs : List ℕ) (base : ℕ) (port : Option ℕ) (names : List ℕ) whe
         ∙ ap (λ (n : ℕ). n + j.around width (count_of (all_renamed port names args))) (same_parts j.place args)
         ∙ ap (λ (n : ℕ). parts_length (own xs base port) j.place args + j.around width n) (same_counts port names args)
         ∙ sym (j.is (own xs base port) width args)
+    same_length _ = refl
 
     pub same_parts : (place : Place) (es : Exprs) → parts_length (whole xs base port) place (all_renamed port names es) ≡ parts_length (own xs base port) place es
     same_parts place no_expr = refl
@@ -174,12 +166,11 @@ module _ (port : Option ℕ) (names : List ℕ) where
 
   mutual
     pub same_uses : (e : ExprTree) → length (used_by_expr (renamed port names e)) ≡ length (used_by_expr e)
-    same_uses (lit value width) = refl
-    same_uses (local x) = refl
     same_uses (field f) = seen_uses f
     same_uses (byte index) = same_uses index
     same_uses (shift op by arg) = same_uses arg
     same_uses (apply op width args) = all_uses args
+    same_uses _ = refl
 
     all_uses : (es : Exprs) → length (used_by_exprs (all_renamed port names es)) ≡ length (used_by_exprs es)
     all_uses no_expr = refl
@@ -189,10 +180,6 @@ module _ (port : Option ℕ) (names : List ℕ) where
         let first = same_uses e in
         let rest = all_uses es in
         omega arith
-
-numbers_length : (i : ℕ) (xs : List ℕ) → length (numbers i xs) ≡ length xs
-numbers_length i [] = refl
-numbers_length i (x ∷ xs) = ap suc (numbers_length (suc i) xs)
 
 -- locals have no bytes
 names_same : (l : Lengths) (i : ℕ) (xs : List ℕ) → l.locals ≡ [] → names_length l (numbers i xs) ≡ names_length l xs
@@ -212,34 +199,26 @@ no_names xs base port (y ∷ ys) = ap (λ (k : ℕ). mark_length marks.Comma + n
 module _ (xs : List ℕ) (base : ℕ) (port : Option ℕ) (names : List ℕ) where
   -- each kind of statement weighs as much as where its element stands alone
   let_weighs : (g : Gauge) (v x : ℕ) (value : ExprTree) → weight g (whole xs base port) (let_local v (renamed port names value)) ≡ weight g (own xs base port) (let_local x value)
-  let_weighs Statements v x value = refl
-  let_weighs Writes v x value = refl
-  let_weighs Locals v x value = refl
   let_weighs Uses v x value = ap suc (same_uses port names value)
   let_weighs Bytes v x value = omega (arith, same_length xs base port names value)
+  let_weighs _ v x value = refl
 
   assign_weighs : (g : Gauge) (v x : ℕ) (value : ExprTree) → weight g (whole xs base port) (assign v (renamed port names value)) ≡ weight g (own xs base port) (assign x value)
-  assign_weighs Statements v x value = refl
-  assign_weighs Writes v x value = refl
-  assign_weighs Locals v x value = refl
   assign_weighs Uses v x value = ap suc (same_uses port names value)
   assign_weighs Bytes v x value = omega (arith, same_length xs base port names value)
+  assign_weighs _ v x value = refl
 
   set_weighs : (g : Gauge) (f : Field) (value : ExprTree) → weight g (whole xs base port) (set_field f (renamed port names value)) ≡ weight g (own xs base port) (set_field f value)
-  set_weighs Statements f value = refl
-  set_weighs Writes f value = refl
-  set_weighs Locals f value = refl
   set_weighs Uses f value = same_uses port names value
   set_weighs Bytes f value = omega (arith, same_length xs base port names value)
+  set_weighs _ f value = refl
 
   look_weighs : (g : Gauge) (v found : ℕ) (into : List ℕ) (object : ℕ) (keys : Exprs) → weight g (whole xs base port) (look v (numbers (suc v) into) (base + object) (all_renamed port names keys)) ≡ weight g (own xs base port) (look found into object keys)
-  look_weighs Statements v found into object keys = refl
-  look_weighs Writes v found into object keys = refl
-  look_weighs Locals v found into object keys = ap suc (numbers_length (suc v) into)
+  look_weighs Locals v found into object keys = ap suc (length-numbers (suc v) into)
   look_weighs Uses v found into object keys =
       let made = length-append (numbers (suc v) into) (used_by_exprs (all_renamed port names keys)) in
       let had = length-append into (used_by_exprs keys) in
-      let first = numbers_length (suc v) into in
+      let first = length-numbers (suc v) into in
       let rest = all_uses port names keys in
       omega arith
   look_weighs Bytes v found into object keys =
@@ -247,11 +226,9 @@ module _ (xs : List ℕ) (base : ℕ) (port : Option ℕ) (names : List ℕ) whe
       let unnamed = no_names xs base port into in
       let keyed = same_keyed xs base port names object keys in
       omega arith
+  look_weighs _ v found into object keys = refl
 
   put_weighs : (g : Gauge) (v ok object : ℕ) (keys values : Exprs) → weight g (whole xs base port) (put v (base + object) (all_renamed port names keys) (all_renamed port names values)) ≡ weight g (own xs base port) (put ok object keys values)
-  put_weighs Statements v ok object keys values = refl
-  put_weighs Writes v ok object keys values = refl
-  put_weighs Locals v ok object keys values = refl
   put_weighs Uses v ok object keys values =
       let made = length-append (used_by_exprs (all_renamed port names keys)) (used_by_exprs (all_renamed port names values)) in
       let had = length-append (used_by_exprs keys) (used_by_exprs values) in
@@ -262,50 +239,33 @@ module _ (xs : List ℕ) (base : ℕ) (port : Option ℕ) (names : List ℕ) whe
       let keyed = same_keyed xs base port names object keys in
       let listed = same_exprs xs base port names values in
       omega arith
+  put_weighs _ v ok object keys values = refl
 
   del_weighs : (g : Gauge) (v was object : ℕ) (keys : Exprs) → weight g (whole xs base port) (del v (base + object) (all_renamed port names keys)) ≡ weight g (own xs base port) (del was object keys)
-  del_weighs Statements v was object keys = refl
-  del_weighs Writes v was object keys = refl
-  del_weighs Locals v was object keys = refl
   del_weighs Uses v was object keys = ap suc (all_uses port names keys)
   del_weighs Bytes v was object keys = omega (arith, same_keyed xs base port names object keys)
+  del_weighs _ v was object keys = refl
 
   choose_weighs : (g : Gauge) (test : ExprTree) (a b first second : BodyTree) → is_empty b ≡ is_empty second → weight g (whole xs base port) (choose (renamed port names test) a b) ≡ weight g (own xs base port) (choose test first second)
-  choose_weighs Statements test a b first second same = refl
-  choose_weighs Writes test a b first second same = refl
-  choose_weighs Locals test a b first second same = refl
   choose_weighs Uses test a b first second same = same_uses port names test
   choose_weighs Bytes test a b first second same =
       let otherwise : else_length (is_empty b) ≡ else_length (is_empty second) = ap else_length same in
       omega (arith, same_length xs base port names test)
+  choose_weighs _ test a b first second same = refl
 
   repeat_weighs : (g : Gauge) (v index count : ℕ) (a b : BodyTree) → weight g (whole xs base port) (repeat v count a) ≡ weight g (own xs base port) (repeat index count b)
   repeat_weighs Statements v index count a b = refl
-  repeat_weighs Writes v index count a b = refl
-  repeat_weighs Locals v index count a b = refl
-  repeat_weighs Uses v index count a b = refl
-  repeat_weighs Bytes v index count a b = refl
+  repeat_weighs _ v index count a b = refl
 
 pub drop_weighs : (g : Gauge) (l : Lengths) → weight g l trees.drop ≡ drop_weight g
 drop_weighs Statements l = refl
-drop_weighs Writes l = refl
-drop_weighs Locals l = refl
-drop_weighs Uses l = refl
-drop_weighs Bytes l = refl
+drop_weighs _ l = refl
 
 -- what stands for a `send` is never nothing
 module _ (spot : Spot) (sent : Sends) (some : (port : ExprTree) (widths : List ℕ) → is_empty (sent port widths).body ≡ false) where
   stmt_some : (s : StmtTree) (n : Numbering) → is_empty (stmt_placed spot sent s n).body ≡ false
-  stmt_some (let_local x value) n = refl
-  stmt_some (assign x value) n = refl
-  stmt_some (set_field f value) n = refl
-  stmt_some (look found into object keys) n = refl
-  stmt_some (put ok object keys values) n = refl
-  stmt_some (del was object keys) n = refl
-  stmt_some (choose test first second) n = refl
-  stmt_some (repeat index count body) n = refl
   stmt_some (send port) n = some (renamed spot.port n.names port) n.widths
-  stmt_some trees.drop n = refl
+  stmt_some _ n = refl
 
   same_empty : (b : BodyTree) (n : Numbering) → is_empty (body_placed spot sent b n).body ≡ is_empty b
   same_empty done n = refl
@@ -361,13 +321,10 @@ sent_some end (w ∷ ws) port widths = refl
 
 test_weighs : (g : Gauge) (xs : List ℕ) (v output : ℕ) (a b : BodyTree) → is_empty b ≡ false
     → weight g (record { locals = []; objects = xs; port = field_length MetaPort }) (choose (apply ops.Eq 1 (two (local v) (lit output 8))) a b) ≡ test_weight g output
-test_weighs Statements xs v output a b some = refl
-test_weighs Writes xs v output a b some = refl
-test_weighs Locals xs v output a b some = refl
-test_weighs Uses xs v output a b some = refl
 test_weighs Bytes xs v output a b some =
     let l : Lengths = record { locals = []; objects = xs; port = field_length MetaPort } in
     ap (λ (e : Bool). mark_length marks.If + expr_length l (apply ops.Eq 1 (two (local v) (lit output 8))) + braces_length + else_length e) some
+test_weighs _ xs v output a b some = refl
 
 module _ (g : Gauge) (xs : List ℕ) (end : Ends) (counts : Target → ℕ → ℕ) where
   tests_counted : AreCounted g (record { locals = []; objects = xs; port = field_length MetaPort }) end counts → (v : ℕ) (ws : List Wire) (widths : List ℕ)

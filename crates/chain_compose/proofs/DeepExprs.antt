@@ -6,10 +6,10 @@ use Rattle.packet_fields.specs.declared.field.Field.{Field}
 use Rattle.packet_fields.specs.declared.field.Field.TheVariants.{MetaPort}
 use Rattle.packet_fields.specs.Table.{field_index}
 use Rattle.state_store.specs.declared.object.Kind.{Kind}
-use Rattle.state_store.specs.declared.object.Kind.TheVariants.{Table, Map, Vector, Int}
+use Rattle.state_store.specs.declared.object.Kind.TheVariants.{Table}
 use Rattle.state_store.specs.declared.object.ObjectDecl.{ObjectDecl}
 use Rattle.element_lang.specs.Tree.{ExprTree, Exprs, Tree}
-use Rattle.element_lang.specs.Tree.ExprTree.{lit, local, field, byte, shift, apply}
+use Rattle.element_lang.specs.Tree.ExprTree.{lit, field, byte, shift, apply}
 use Rattle.element_lang.specs.Tree.Exprs.{no_expr, expr}
 use Rattle.element_print.specs.declared.place.Place.{Place}
 use Rattle.element_print.specs.declared.place.Place.TheVariants.{Whole, Operand, Turned}
@@ -56,20 +56,12 @@ same_parts op width args args' same = same Operand
 
 module _ (port : Option ℕ) (names : List ℕ) where
   infix_kept : (e : ExprTree) → has_infix (nameless (renamed port names e)) ≡ has_infix (nameless e)
-  infix_kept (lit value width) = refl
-  infix_kept (local x) = refl
   infix_kept (field f) = seen_infix port f
-  infix_kept (byte index) = refl
-  infix_kept (shift op by arg) = refl
-  infix_kept (apply op width args) = refl
+  infix_kept _ = refl
 
   turned_kept : (e : ExprTree) → is_turned (nameless (renamed port names e)) ≡ is_turned (nameless e)
-  turned_kept (lit value width) = refl
-  turned_kept (local x) = refl
   turned_kept (field f) = seen_turned port f
-  turned_kept (byte index) = refl
-  turned_kept (shift op by arg) = refl
-  turned_kept (apply op width args) = refl
+  turned_kept _ = refl
 
   brackets_kept : (place : Place) (e : ExprTree) → needs_brackets place (nameless (renamed port names e)) ≡ needs_brackets place (nameless e)
   brackets_kept Whole e = refl
@@ -80,8 +72,6 @@ module _ (port : Option ℕ) (names : List ℕ) where
 
   mutual
     pub depth_kept : (e : ExprTree) → expr_depth (renamed port names e) ≡ expr_depth e
-    depth_kept (lit value width) = refl
-    depth_kept (local x) = refl
     depth_kept (field f) = seen_depth port f
     depth_kept (byte index) = omega (arith, depth_kept index)
     depth_kept (shift op by arg) =
@@ -89,6 +79,7 @@ module _ (port : Option ℕ) (names : List ℕ) where
         ∙ ap (within_if (has_infix (nameless arg))) (depth_kept arg)
     depth_kept (apply op width args) =
         same_parts op width (all_renamed port names args) args (λ place. parts_kept place args)
+    depth_kept _ = refl
 
     pub parts_kept : (place : Place) (es : Exprs) → parts_depth place (all_renamed port names es) ≡ parts_depth place es
     parts_kept place no_expr = refl
@@ -100,9 +91,7 @@ module _ (port : Option ℕ) (names : List ℕ) where
 -- ## declarations
 kind_depth : (k : Kind) (o : ObjectDecl) (name : List ℕ) → depth_as k (record o { name = name }) ≡ depth_as k o
 kind_depth Table o name = refl
-kind_depth Map o name = refl
-kind_depth Vector o name = refl
-kind_depth Int o name = refl
+kind_depth _ o name = refl
 
 named_depth : (e : ℕ) (os : List ObjectDecl) → decls_depth (named_objects e os) ≡ decls_depth os
 named_depth e [] = refl

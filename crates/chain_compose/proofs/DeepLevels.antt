@@ -1,7 +1,7 @@
 -- How deep an element is by its own statements and by the level of its innermost `send`.
 use Rattle.std.proofs.Common.{◌≡◌, ◌≤◌, ℕ, zero, suc, ◌+◌, List, [], ◌∷◌, max, refl, sym, ap, ◌∙◌, arith}
 use Rattle.element_lang.specs.Tree.{ExprTree, StmtTree, BodyTree}
-use Rattle.element_lang.specs.Tree.StmtTree.{let_local, assign, set_field, look, put, del, choose, repeat, send, drop}
+use Rattle.element_lang.specs.Tree.StmtTree.{choose, repeat, send}
 use Rattle.element_lang.specs.Tree.BodyTree.{done, stmt}
 use Rattle.element_print.specs.Depths.{expr_depth, stmt_depth, body_depth}
 use Rattle.element_chain.specs.declared.chain.Wire.{Wire}
@@ -16,14 +16,7 @@ mutual
   stmt_as_placed : (s : StmtTree) → placed_stmt_depth expr_depth s ≡ stmt_depth s
   stmt_as_placed (choose test first second) = omega (arith, body_as_placed first, body_as_placed second)
   stmt_as_placed (repeat index count body) = omega (arith, body_as_placed body)
-  stmt_as_placed (let_local x value) = refl
-  stmt_as_placed (assign x value) = refl
-  stmt_as_placed (set_field f value) = refl
-  stmt_as_placed (look found into object keys) = refl
-  stmt_as_placed (put ok object keys values) = refl
-  stmt_as_placed (del was object keys) = refl
-  stmt_as_placed (send port) = refl
-  stmt_as_placed drop = refl
+  stmt_as_placed _ = refl
 
   pub body_as_placed : (b : BodyTree) → placed_depth expr_depth b ≡ body_depth b
   body_as_placed done = refl
@@ -71,13 +64,7 @@ module _ (port : ExprTree → ℕ) (tests : ℕ) where
     stmt_tested (repeat index count body) =
         ap suc (body_tested body) ∙ within_block (placed_depth port body) (level_in body) tests
     stmt_tested (send e) = omega arith
-    stmt_tested (let_local x value) = refl
-    stmt_tested (assign x value) = refl
-    stmt_tested (set_field f value) = refl
-    stmt_tested (look found into object keys) = refl
-    stmt_tested (put ok object keys values) = refl
-    stmt_tested (del was object keys) = refl
-    stmt_tested drop = refl
+    stmt_tested _ = refl
 
     pub body_tested : (b : BodyTree) → placed_depth tested b ≡ with_tests (placed_depth port b) (level_in b) tests
     body_tested done = refl
@@ -92,13 +79,7 @@ mutual
   stmt_alike f g same (choose test first second) = omega (arith, body_alike f g same first, body_alike f g same second)
   stmt_alike f g same (repeat index count body) = omega (arith, body_alike f g same body)
   stmt_alike f g same (send e) = same e
-  stmt_alike f g same (let_local x value) = refl
-  stmt_alike f g same (assign x value) = refl
-  stmt_alike f g same (set_field field value) = refl
-  stmt_alike f g same (look found into object keys) = refl
-  stmt_alike f g same (put ok object keys values) = refl
-  stmt_alike f g same (del was object keys) = refl
-  stmt_alike f g same drop = refl
+  stmt_alike f g same _ = refl
 
   pub body_alike : (f g : ExprTree → ℕ) → ((e : ExprTree) → f e ≡ g e) → (b : BodyTree) → placed_depth f b ≡ placed_depth g b
   body_alike f g same done = refl
@@ -130,14 +111,7 @@ mutual
       let most = further_in_most (max (level_in first) (level_in second)) own (omega (arith, level_most port first, level_most port second)) in
       omega (arith, most)
   stmt_level_most port (repeat index count body) = further_in_most (level_in body) (placed_depth port body) (level_most port body)
-  stmt_level_most port (send e) = omega arith
-  stmt_level_most port (let_local x value) = omega arith
-  stmt_level_most port (assign x value) = omega arith
-  stmt_level_most port (set_field f value) = omega arith
-  stmt_level_most port (look found into object keys) = omega arith
-  stmt_level_most port (put ok object keys values) = omega arith
-  stmt_level_most port (del was object keys) = omega arith
-  stmt_level_most port drop = omega arith
+  stmt_level_most port _ = omega arith
 
   pub level_most : (port : ExprTree → ℕ) (b : BodyTree) → level_in b ≤ suc (placed_depth port b)
   level_most port done = omega arith

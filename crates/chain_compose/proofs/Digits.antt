@@ -1,15 +1,16 @@
 -- How many digits numbers have, told by powers of ten.
-use Rattle.std.proofs.Common.{◌≡◌, ◌⊎◌, inl, inr, ℕ, zero, suc, ◌+◌, ◌*◌, ◌/◌, ◌%◌, ◌^◌, ◌<◌, ◌≤◌, nat_le, Bool, true, false, cond, List, [], ◌∷◌, ◌++◌, length, map, slice_index, refl, sym, ap, ◌∙◌, arith, length-append}
+use Rattle.std.proofs.Common.{◌≡◌, ◌⊎◌, inl, inr, ℕ, zero, suc, ◌+◌, ◌*◌, ◌/◌, ◌%◌, ◌^◌, ◌<◌, ◌≤◌, nat_le, Bool, true, false, cond, List, [], ◌∷◌, length, map, slice_index, refl, ap, ◌∙◌, arith, length-append}
 use Rattle.std.specs.Fmt.{decimal}
 use Rattle.std.specs.List.{All}
 use Rattle.std.proofs.lemmas.Bool.Decides.{nat_tests}
 use Rattle.std.proofs.lemmas.Bool.{cases_lt}
 use Rattle.std.proofs.lemmas.List.Elements.{All-head, All-tail}
-use Rattle.std.proofs.lemmas.Fmt.{decimal_digit, decimal_step}
+use Rattle.std.proofs.lemmas.Fmt.{decimal_step}
 use Rattle.element_lang.specs.declared.tree.Local.{Local}
 use Rattle.element_chain.specs.Compose.{locals_from}
-use Rattle.chain_compose.specs.NamedFrom.{is_from, count_from}
+use Rattle.chain_compose.specs.NamedFrom.{is_from}
 use Rattle.chain_compose.specs.Named.{more_digits, names_sum}
+use Rattle.lemmas.proofs.Numbers.{one_digit}
 
 -- a number is at least ten times another where its tenth is at least as much
 tenth : (p x : ℕ) → nat_le (10 * p) x ≡ nat_le p (x / 10)
@@ -30,10 +31,6 @@ one_more (suc k) x =
     ap (λ n. nat_le n x) (ten_times (suc k)) ∙ tenth (10 ^ suc k) x in
     let same : is_from (10 ^ suc (suc k)) x ≡ is_from (10 ^ suc k) (x / 10) = ap (λ (b : Bool). cond b 1 0) test in
     omega (arith, one_more k x, same)
-
--- a digit alone
-one_digit : (x : ℕ) → x < 10 → length (decimal x) ≡ 1
-one_digit x lt = ap length (decimal_digit x lt)
 
 none_more : (k : ℕ) → more_digits k (0 ∷ []) ≡ 0
 none_more zero = refl

@@ -1,11 +1,8 @@
 -- What the code tells of elements and of levels.
-use Rattle.std.proofs.Common.{◌≡◌, ℕ, zero, suc, ◌+◌, ◌-◌, ◌*◌, ◌<◌, Bool, false, List, [], ◌∷◌, ◌++◌, length, drop, replicate, slice_index, slice_index_or, refl, sym, ap, subst, ◌∙◌, arith}
-use Rattle.std.proofs.lemmas.List.{length-map}
+use Rattle.std.proofs.Common.{◌≡◌, ℕ, suc, ◌+◌, ◌-◌, ◌*◌, ◌<◌, Bool, false, List, [], ◌∷◌, ◌++◌, length, drop, slice_index_or, refl, sym, ap, subst, ◌∙◌, arith}
 use Rattle.packet_fields.specs.declared.field.Field.TheVariants.{MetaPort}
 use Rattle.element_lang.specs.Tree.{BodyTree}
-use Rattle.element_lang.specs.View.{tree}
-use Rattle.element_print.specs.Lengths.{Lengths, capped, field_length, literal_length}
-use Rattle.element_chain.specs.declared.chain.Target.TheVariants.{Element}
+use Rattle.element_print.specs.Lengths.{Lengths, capped, field_length}
 use Rattle.element_chain.specs.Chain.{Connected, element_at}
 use Rattle.element_chain.specs.Compose.{wires_of, base_of, clearing, composed}
 use Rattle.element_chain.specs.Wiring.{AreWithin}
@@ -13,21 +10,17 @@ use Rattle.chain_compose.specs.declared.parts.Parts.{Parts}
 use Rattle.chain_compose.specs.declared.gauge.Gauge.{Gauge}
 use Rattle.chain_compose.specs.declared.figures.Figures.{Figures}
 use Rattle.chain_compose.specs.declared.figures.Ending.{Ending}
-use Rattle.chain_compose.specs.Counts.{body_count, whole_lengths, drop_weight, closing_count, clearing_count}
+use Rattle.chain_compose.specs.Counts.{body_count, whole_lengths, closing_count, clearing_count}
 use Rattle.chain_compose.specs.Parts.{chain_of}
 use Rattle.chain_compose.specs.Tallies.{sent_in, bare_count, after_count, has_wire, all_names, lengths_at, AreFigures, AllFigures, no_figures, no_ending, told_end, AreEndings, IsNext, IsLevel, AreLevels}
 use Rattle.chain_compose.proofs.Caps.{capped_again, add_capped, mul_capped}
-use Rattle.chain_compose.proofs.Pushed.{one_longer, each_pushed, read_all}
+use Rattle.chain_compose.proofs.Pushed.{one_longer, each_pushed}
 use Rattle.chain_compose.proofs.Rises.{bare_told}
 use Rattle.chain_compose.proofs.SentFirst.{clearing_bare}
 use Rattle.chain_compose.proofs.Tallied.{next_told, whole_told}
 
 abbrev pub scaled : List ℕ → ℕ → Lengths
 scaled objects port = record { locals = []; objects = objects; port = port }
-
--- wires are within the elements that there are
-pub all_within : (parts : Parts) → AreWithin (length parts.classes.now) parts.chain.now.wires → AreWithin (length (chain_of parts).elements) (chain_of parts).wires
-all_within parts within = subst (λ (n : ℕ). AreWithin n parts.chain.now.wires) (sym (length-map parts.classes.now tree)) within
 
 pub figures_told : (g : Gauge) (c : Connected) (e : ℕ) (objects : List ℕ) (wired : Bool) (b : BodyTree) (f : Figures) (once : ℕ)
     → objects ≡ drop (base_of c.elements e) (all_names c) → wired ≡ has_wire (wires_of c.wires e) → b ≡ (element_at c.elements e).body
@@ -57,23 +50,6 @@ clearing_told g parts names b result names_are body_is result_is =
     ∙ ap capped (clearing_bare g (whole_lengths c) false _)
 
 -- ## Levels
-
-pub first_told : (g : Gauge) (c : Connected) (es : List Ending) → es ≡ replicate (length c.elements) (record { fixed = drop_weight g; reads = 0 }) → AreEndings g c 0 es
-first_told g c es are =
-    let none : Ending = record { fixed = drop_weight g; reads = 0 } in
-    record {
-      count = ap length are ∙ many (length c.elements) none;
-      each = λ e input there.
-          let here : slice_index_or es e no_ending ≡ none = ap (λ (xs : List Ending). slice_index_or xs e no_ending) are ∙ read_all Ending (length c.elements) none no_ending e there in
-          ap (λ (ending : Ending). capped (ending.fixed + ending.reads * literal_length input 8)) here ∙ ap capped (plus_none (drop_weight g) (literal_length input 8));
-    }
-  where
-    many : (n : ℕ) (x : Ending) → length (replicate n x) ≡ n
-    many zero x = refl
-    many (suc n) x = ap suc (many n x)
-
-    plus_none : (k n : ℕ) → k + 0 * n ≡ k
-    plus_none k n = omega arith
 
 -- a sum of sums that are capped
 pub next_fixed : (cleared all own closing sent after : ℕ) (x behind whole : ℕ) → cleared ≡ capped all → x ≡ capped (sent * capped after) → behind ≡ capped (closing + x) → whole ≡ capped (own + behind)
@@ -106,10 +82,6 @@ entry_told g c fs es f x y z result within are figures some is x_is y_is z_is re
     let y_same : capped y ≡ capped (f.sent * after) = ap capped y_is ∙ capped_again (f.sent * capped after) ∙ mul_capped f.sent (capped after) f.sent after refl (capped_again after) in
     let z_same : capped z ≡ capped (f.own + read) = ap capped z_is ∙ capped_again (f.own + x) ∙ add_capped f.own x f.own read refl (ap capped x_is ∙ capped_again read) in
     result_is ∙ add_capped z y (f.own + read) (f.sent * after) z_same y_same ∙ whole_told g c es within are f own
-
-pub level_told : (g : Gauge) (c : Connected) (n : ℕ) (es : List Ending) (level : List ℕ) → AreEndings g c n es
-    → ((e : ℕ) → e < length c.elements → slice_index level e ≡ capped (told_end g es (Element e) 0)) → IsLevel g c n level
-level_told g c n es level are each = record { each = λ e there. each e there ∙ are.each e 0 there }
 
 pub no_levels : (g : Gauge) (c : Connected) → AreLevels g c 0 []
 no_levels g c = record { many = refl; each = λ n below. absurd (omega (arith, below)) }

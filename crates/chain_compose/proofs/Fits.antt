@@ -1,5 +1,5 @@
 -- Chains that can be composed.
-use Rattle.std.proofs.Common.{◌≡◌, ◌<◌, ◌≤◌, ◌^◌, ℕ, zero, suc, ◌&&◌, Bool, true, false, IsTrue, List, [], ◌∷◌, length, map, refl, sym, ap, subst, arith, true≢false}
+use Rattle.std.proofs.Common.{◌≡◌, ◌<◌, ◌≤◌, ◌^◌, ℕ, zero, suc, ◌&&◌, Bool, true, false, IsTrue, List, [], ◌∷◌, length, map, refl, sym, subst, arith, true≢false}
 use Rattle.std.specs.List.{All, list_all}
 use Rattle.std.proofs.lemmas.List.{length-map}
 use Rattle.std.proofs.lemmas.List.Elements.{All-head, All-tail}
@@ -9,16 +9,12 @@ use Rattle.element_lang.specs.Tree.{Tree}
 use Rattle.element_lang.specs.View.{tree}
 use Rattle.element_chain.specs.declared.chain.Wire.{Wire}
 use Rattle.element_chain.specs.Chain.{element_at}
-use Rattle.element_chain.specs.Compose.{locals_from, composed}
+use Rattle.element_chain.specs.Compose.{composed}
 use Rattle.element_chain.specs.Laws.{IsFit, IsSmall, any_uses_bytes}
 use Rattle.element_chain.specs.Wiring.{AreWithin, HasNoCycle}
 use Rattle.chain_compose.specs.Parts.{connected}
 use Rattle.chain_compose.specs.Refusals.{NoneReads}
 use Rattle.chain_compose.proofs.Repeats.{there_is}
-
-pub length_locals : (i : ℕ) (ws : List ℕ) → length (locals_from i ws) ≡ length ws
-length_locals i [] = refl
-length_locals i (w ∷ ws) = ap suc (length_locals (suc i) ws)
 
 -- what holds of all middleboxes
 pub at_each : (P : Tree → Type 0) (ms : List Middlebox) → All (λ (m : Middlebox). P (tree m)) ms → (e : ℕ) → e < length (map tree ms) → P (element_at (map tree ms) e)

@@ -1,13 +1,12 @@
 -- What each gauge counts.
 use Rattle.std.proofs.Common.{◌≡◌, ℕ, ◌*◌, ◌++◌, length, refl, ap, arith, length-append}
-use Rattle.element_lang.specs.Rules.{declared_in, declared_by}
 use Rattle.element_lang.specs.Sizes.{writes_of, writes_in}
 use Rattle.element_lang.specs.Tree as trees
 use Rattle.element_lang.specs.Tree.{StmtTree, BodyTree}
-use Rattle.element_lang.specs.Tree.StmtTree.{let_local, assign, set_field, look, put, del, choose, repeat, send}
+use Rattle.element_lang.specs.Tree.StmtTree.{choose, repeat}
 use Rattle.element_lang.specs.Tree.BodyTree.{done, stmt}
 use Rattle.element_print.specs.Lengths.{Lengths, stmt_length, body_length}
-use Rattle.chain_compose.specs.declared.gauge.Gauge.TheVariants.{Statements, Writes, Locals, Uses, Bytes}
+use Rattle.chain_compose.specs.declared.gauge.Gauge.TheVariants.{Statements, Writes, Uses, Bytes}
 use Rattle.chain_compose.specs.Counts.{used_by_head, used_by, used_in, stmt_count, body_count}
 use Rattle.chain_compose.specs.Refusals.{statements_of, statements_in}
 
@@ -16,14 +15,7 @@ module _ (l : Lengths) where
     one_statement : (s : StmtTree) → stmt_count Statements l s ≡ statements_of s
     one_statement (choose test first second) = omega (arith, all_statements first, all_statements second)
     one_statement (repeat index count body) = omega (arith, all_statements body)
-    one_statement (let_local x value) = refl
-    one_statement (assign x value) = refl
-    one_statement (set_field f value) = refl
-    one_statement (look found into object keys) = refl
-    one_statement (put ok object keys values) = refl
-    one_statement (del was object keys) = refl
-    one_statement (send port) = refl
-    one_statement trees.drop = refl
+    one_statement _ = refl
 
     pub all_statements : (b : BodyTree) → body_count Statements l b ≡ statements_in b
     all_statements done = refl
@@ -35,35 +27,11 @@ module _ (l : Lengths) where
     one_writes (repeat index count body) =
         let inner : count * body_count Writes l body ≡ count * writes_in body = ap (λ (k : ℕ). count * k) (all_writes body) in
         omega (arith, inner)
-    one_writes (let_local x value) = refl
-    one_writes (assign x value) = refl
-    one_writes (set_field f value) = refl
-    one_writes (look found into object keys) = refl
-    one_writes (put ok object keys values) = refl
-    one_writes (del was object keys) = refl
-    one_writes (send port) = refl
-    one_writes trees.drop = refl
+    one_writes _ = refl
 
     pub all_writes : (b : BodyTree) → body_count Writes l b ≡ writes_in b
     all_writes done = refl
     all_writes (stmt s b) = omega (arith, one_writes s, all_writes b)
-
-  mutual
-    one_declares : (s : StmtTree) → stmt_count Locals l s ≡ declared_in s
-    one_declares (choose test first second) = omega (arith, all_declares first, all_declares second)
-    one_declares (repeat index count body) = omega (arith, all_declares body)
-    one_declares (let_local x value) = refl
-    one_declares (assign x value) = refl
-    one_declares (set_field f value) = refl
-    one_declares (look found into object keys) = refl
-    one_declares (put ok object keys values) = refl
-    one_declares (del was object keys) = refl
-    one_declares (send port) = refl
-    one_declares trees.drop = refl
-
-    pub all_declares : (b : BodyTree) → body_count Locals l b ≡ declared_by b
-    all_declares done = refl
-    all_declares (stmt s b) = omega (arith, one_declares s, all_declares b)
 
   mutual
     one_uses : (s : StmtTree) → stmt_count Uses l s ≡ length (used_by s)
@@ -73,14 +41,7 @@ module _ (l : Lengths) where
         omega (arith, outer, inner, all_uses first, all_uses second)
     one_uses (repeat index count body) =
         omega (arith, length-append (used_by_head (repeat index count body)) (used_in body), all_uses body)
-    one_uses (let_local x value) = refl
-    one_uses (assign x value) = refl
-    one_uses (set_field f value) = refl
-    one_uses (look found into object keys) = refl
-    one_uses (put ok object keys values) = refl
-    one_uses (del was object keys) = refl
-    one_uses (send port) = refl
-    one_uses trees.drop = refl
+    one_uses _ = refl
 
     pub all_uses : (b : BodyTree) → body_count Uses l b ≡ length (used_in b)
     all_uses done = refl
@@ -90,14 +51,7 @@ module _ (l : Lengths) where
     one_bytes : (s : StmtTree) → stmt_count Bytes l s ≡ stmt_length l s
     one_bytes (choose test first second) = omega (arith, all_bytes first, all_bytes second)
     one_bytes (repeat index count body) = omega (arith, all_bytes body)
-    one_bytes (let_local x value) = refl
-    one_bytes (assign x value) = refl
-    one_bytes (set_field f value) = refl
-    one_bytes (look found into object keys) = refl
-    one_bytes (put ok object keys values) = refl
-    one_bytes (del was object keys) = refl
-    one_bytes (send port) = refl
-    one_bytes trees.drop = refl
+    one_bytes _ = refl
 
     pub all_bytes : (b : BodyTree) → body_count Bytes l b ≡ body_length l b
     all_bytes done = refl

@@ -2,7 +2,7 @@
 use Rattle.std.proofs.Common.{Vec, Global, ◌≡◌, ℕ, List, [], ◌∷◌, ◌++◌, sym, ap, ◌∙◌}
 use Rattle.packet_fields.specs.declared.field.Field.{Field}
 use Rattle.element_lang.specs.Tree.{StmtTree}
-use Rattle.element_lang.specs.Tree.StmtTree.{let_local, assign, set_field, look, put, del, choose, repeat, send, drop}
+use Rattle.element_lang.specs.Tree.StmtTree.{let_local, assign, set_field, look, put, del, repeat, send, drop}
 use Rattle.element_lang.specs.View.{expr_tree, expr_step, expr_trees, body_tree, stmt_step, stmt_tree}
 use Rattle.element_chain.specs.Compose.{followed, one}
 use Rattle.chain_compose.proofs.Trees.{body_push}
@@ -12,7 +12,7 @@ use Rattle.element_lang.specs.declared.tree.Expr.TheOpen.{Expr-F}
 use Rattle.element_lang.specs.Tree.{ExprTree}
 use Rattle.element_lang.specs.Tree.ExprTree.{lit, local}
 use Rattle.element_lang.specs.declared.tree.Stmt.{Stmt, fold-roll-Stmt}
-use Rattle.element_lang.specs.declared.tree.Stmt.TheVariants.{Let, Assign, SetField, Look, Put, Del, If, Repeat, Send, Drop, rolls-Let, rolls-Assign, rolls-SetField, rolls-Look, rolls-Put, rolls-Del, rolls-If, rolls-Repeat, rolls-Send, rolls-Drop}
+use Rattle.element_lang.specs.declared.tree.Stmt.TheVariants.{Let, Assign, SetField, Look, Put, Del, Repeat, Send, Drop, rolls-Let, rolls-Assign, rolls-SetField, rolls-Look, rolls-Put, rolls-Del, rolls-Repeat, rolls-Send, rolls-Drop}
 use Rattle.element_lang.specs.declared.tree.Stmt.TheOpen.{Stmt-F}
 
 pub tree_of_let : (x : ℕ) (e : Expr) → stmt_tree (Let x e) ≡ let_local x (expr_tree e)
@@ -32,9 +32,6 @@ tree_of_put ok object keys values = ap stmt_tree (sym (rolls-Put ok object keys 
 
 pub tree_of_del : (was object : ℕ) (keys : Vec Expr Global) → stmt_tree (Del was object keys) ≡ del was object (expr_trees keys.items)
 tree_of_del was object keys = ap stmt_tree (sym (rolls-Del was object keys)) ∙ fold-roll-Stmt StmtTree stmt_step (Stmt-F.Del was object keys)
-
-pub tree_of_if : (cond : Expr) (first second : Vec Stmt Global) → stmt_tree (If cond first second) ≡ choose (expr_tree cond) (body_tree first.items) (body_tree second.items)
-tree_of_if cond first second = ap stmt_tree (sym (rolls-If cond first second)) ∙ fold-roll-Stmt StmtTree stmt_step (Stmt-F.If cond first second)
 
 pub tree_of_repeat : (index count : ℕ) (body : Vec Stmt Global) → stmt_tree (Repeat index count body) ≡ repeat index count (body_tree body.items)
 tree_of_repeat index count body = ap stmt_tree (sym (rolls-Repeat index count body)) ∙ fold-roll-Stmt StmtTree stmt_step (Stmt-F.Repeat index count body)

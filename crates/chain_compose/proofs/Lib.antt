@@ -38,3 +38,4 @@ pub mod Digits
 pub mod NamesApart
 pub mod WholeNames
 pub mod WholeBytes
+pub mod Laws

@@ -1,17 +1,17 @@
 -- Counts of places where locals are named, as the code has them.
-use Rattle.std.proofs.Common.{◌&&◌, ◌==◌, ◌≡◌, ◌<◌, ◌≤◌, ℕ, zero, suc, ◌+◌, ◌-◌, ◌^◌, inl, inr, Bool, true, List, [], ◌∷◌, ◌++◌, length, map, take, slice_index, slice_index_or, refl, sym, ap, subst, ◌∙◌, arith}
-use Rattle.std.proofs.lemmas.List.{map-append, take_more, take_all, length-map}
+use Rattle.std.proofs.Common.{◌≡◌, ◌<◌, ◌≤◌, ℕ, zero, suc, ◌+◌, ◌-◌, ◌^◌, inl, inr, Bool, true, List, [], ◌∷◌, ◌++◌, length, map, take, slice_index_or, refl, sym, ap, subst, ◌∙◌, arith}
+use Rattle.std.proofs.lemmas.List.{take_more, take_all, length-map}
 use Rattle.std.proofs.lemmas.Bool.{cases_lt}
 use Rattle.std.specs.List.{list_all, All}
 use Rattle.std.proofs.lemmas.List.Elements.{All-weaker, All-head, All-tail}
 use Rattle.element_print.specs.Lengths.{capped}
-use Rattle.element_lang.specs.Rules.{is_good, is_good_body, are_good_objects, declared_by}
-use Rattle.element_lang.specs.Tree.{BodyTree, Tree}
+use Rattle.element_lang.specs.Rules.{is_good, is_good_body}
+use Rattle.element_lang.specs.Tree.{BodyTree}
 use Rattle.element_lang.specs.View.{tree}
 use Rattle.element_lang.specs.declared.tree.Middlebox.{Middlebox}
 use Rattle.element_chain.specs.declared.chain.Wire.{Wire}
 use Rattle.element_chain.specs.declared.chain.Target.{Target}
-use Rattle.element_chain.specs.declared.chain.Target.TheVariants.{Element, Out}
+use Rattle.element_chain.specs.declared.chain.Target.TheVariants.{Element}
 use Rattle.element_chain.specs.Chain.{Connected, element_at}
 use Rattle.element_chain.specs.Compose.{wires_of, composed}
 use Rattle.element_chain.specs.Wiring.{IsWithin, AreWithin}
@@ -20,22 +20,18 @@ use Rattle.chain_compose.specs.declared.gauge.Gauge.TheVariants.{Locals, Uses}
 use Rattle.chain_compose.specs.declared.named.Tally.{Tally}
 use Rattle.chain_compose.specs.declared.parts.Parts.{Parts}
 use Rattle.chain_compose.specs.declared.name_steps.Step.{Step}
-use Rattle.chain_compose.specs.declared.name_steps.Step.TheVariants.{Name, Send}
+use Rattle.chain_compose.specs.declared.name_steps.Step.TheVariants.{Send}
 use Rattle.chain_compose.specs.Counts.{used_in, end_count}
 use Rattle.chain_compose.specs.Tallies.{told}
 use Rattle.chain_compose.specs.Parts.{chain_of}
-use Rattle.chain_compose.specs.NamedFrom.{is_from, Spans, Namings, tests_span, tests_from, Naming, declared, stepped, all_stepped, started, own_steps, body_steps, element_from, end_from, count_from, AreTold, IsTally}
+use Rattle.chain_compose.specs.NamedFrom.{is_from, Spans, Namings, tests_span, tests_from, Naming, stepped, all_stepped, started, own_steps, body_steps, element_from, end_from, count_from, AreTold, IsTally}
 use Rattle.chain_compose.proofs.RoutesAt.{wires_all, routes_at}
 use Rattle.chain_compose.specs.SendLevels.{has_wires}
 use Rattle.chain_compose.proofs.NamedSteps.{run_append}
-use Rattle.chain_compose.proofs.NamedRange.{counts_one, counts_none, left, right}
+use Rattle.chain_compose.proofs.NamedRange.{counts_one, counts_none}
 use Rattle.chain_compose.proofs.NamedEnds.{AreGood, all_named, none_named, whole_from}
-
--- ## numbers
-pub capped_at : (xs : List ℕ) (i : ℕ) → slice_index (map capped xs) i ≡ capped (slice_index xs i)
-capped_at [] i = refl
-capped_at (x ∷ xs) zero = refl
-capped_at (x ∷ xs) (suc i) = capped_at xs i
+use Rattle.element_print.proofs.GoodMiddleboxes.{good_body_of}
+use Rattle.lemmas.proofs.Tests.{and_first, and_second}
 
 pub same_from : (least n : ℕ) → least ≤ 2 ^ 64 - 1 → is_from least (capped n) ≡ is_from least n
 same_from least n most =
@@ -45,25 +41,6 @@ same_from least n most =
     ]
 
 -- ## steps
-module _ (least : ℕ) (most : least ≤ 2 ^ 64 - 1) where
-  pub declared_tally : (numbers more : List ℕ) (tally made : Tally) (n : Naming) (one : ℕ) → more ≡ numbers ++ tally.next ∷ [] → one ≡ is_from least tally.next
-      → made.next ≡ capped (tally.next + 1) → made.count ≡ capped (tally.count + one) → IsTally numbers tally n → IsTally more made (declared least n)
-  declared_tally numbers more tally made n one more_is one_is next_is count_is told = record {
-    numbers = more_is ∙ ap (λ (xs : List ℕ). xs ++ tally.next ∷ []) told.numbers ∙ ap (λ (k : ℕ). map capped n.names ++ k ∷ []) told.next ∙ sym (map-append capped n.names (n.next ∷ []));
-    next = omega (arith, next_is, told.next);
-    count = omega (arith, count_is, told.count, one_is, ap (is_from least) told.next, same_from least n.next most);
-  }
-
-  pub named_tally : (span : Spans) (from : Namings) (ws : List Wire) (numbers : List ℕ) (tally made : Tally) (n : Naming) (x number one : ℕ) → number ≡ slice_index numbers x → one ≡ is_from least number
-      → made.next ≡ tally.next → made.count ≡ capped (tally.count + one) → IsTally numbers tally n → IsTally numbers made (stepped least span from ws (Name x) n)
-  named_tally span from ws numbers tally made n x number one number_is one_is next_is count_is told =
-      let is : number ≡ capped (slice_index n.names x) = number_is ∙ ap (λ (xs : List ℕ). slice_index xs x) told.numbers ∙ capped_at n.names x in
-      record {
-        numbers = told.numbers;
-        next = next_is ∙ told.next;
-        count = omega (arith, count_is, told.count, one_is, ap (is_from least) is, same_from least (slice_index n.names x) most);
-      }
-
 -- ## tests
 span_push : (span : Spans) (ws : List Wire) (w : Wire) → tests_span span (ws ++ w ∷ []) ≡ tests_span span ws + span w.to w.input
 span_push span [] w = omega arith
@@ -86,13 +63,6 @@ pub record IsTested (least : ℕ) (span : Spans) (from : Namings) (ws : List Wir
   pub count : made.count ≡ capped (n.count + (is_from least n.next + tests_from least span from n.next ws (suc n.next)))
 
 module _ (least : ℕ) (most : least ≤ 2 ^ 64 - 1) (span : Spans) (from : Namings) (n : Naming) where
-  pub first_tested : (numbers : List ℕ) (tally made : Tally) (one : ℕ) → one ≡ is_from least tally.next → made.next ≡ capped (tally.next + 1) → made.count ≡ capped (tally.count + one)
-      → IsTally numbers tally n → IsTested least span from [] n made
-  first_tested numbers tally made one one_is next_is count_is told = record {
-    next = omega (arith, next_is, told.next);
-    count = omega (arith, count_is, told.count, one_is, ap (is_from least) told.next, same_from least n.next most);
-  }
-
   pub next_tested : (all : List Wire) (i : ℕ) (d : Wire) (numbers : List ℕ) (tally before made : Tally) (one behind wide : ℕ) → i < length all → one ≡ is_from least tally.next
       → ((exact : ℕ) → before.next ≡ capped exact → behind ≡ capped (from (slice_index_or all i d).to (slice_index_or all i d).input exact)) → wide ≡ capped (span (slice_index_or all i d).to (slice_index_or all i d).input)
       → made.next ≡ capped (before.next + wide) → made.count ≡ capped (before.count + capped (one + behind))
@@ -132,18 +102,14 @@ pub small_end : (c : Connected) → AreGood c → (least n : ℕ) (t : Target) (
 small_end c good least n t input before exact wide most is wide_is lt =
     ap capped (sym (none_named c good least n t input exact (omega (arith, most, is, wide_is, lt))))
 
--- ## elements keep the rules
-body_good : (t : Tree) → is_good t ≡ true → is_good_body t [] 0 t.body ≡ true
-body_good t h = right (are_good_objects [] t.objects && declared_by t.body == length t.locals) (is_good_body t [] 0 t.body) h
-
 pub all_good : (parts : Parts) → AreGood (chain_of parts)
 all_good parts = record { each = at_each parts.classes.now parts.good }
   where
     at_each : (ms : List Middlebox) → list_all (λ (m : Middlebox). is_good (tree m)) ms ≡ true → (e : ℕ)
         → is_good_body (element_at (map tree ms) e) [] 0 (element_at (map tree ms) e).body ≡ true
     at_each [] h e = refl
-    at_each (m ∷ ms) h zero = body_good (tree m) (left (is_good (tree m)) (list_all (λ (k : Middlebox). is_good (tree k)) ms) h)
-    at_each (m ∷ ms) h (suc e) = at_each ms (right (is_good (tree m)) (list_all (λ (k : Middlebox). is_good (tree k)) ms) h) e
+    at_each (m ∷ ms) h zero = good_body_of (tree m) (and_first (is_good (tree m)) (list_all (λ (k : Middlebox). is_good (tree k)) ms) h)
+    at_each (m ∷ ms) h (suc e) = at_each ms (and_second (is_good (tree m)) (list_all (λ (k : Middlebox). is_good (tree k)) ms) h) e
 
 -- wires lead to elements that are there
 abbrev Within : ℕ → Wire → Type 0
@@ -164,14 +130,6 @@ walked_end c least (suc n) e input before exact count most lt is some count_is =
     ∙ ap (λ (k : ℕ). capped (element_from c least (end_count Locals c k) (end_from c least k) e before)) level
     ∙ ap (λ (b : ℕ). capped (element_from c least (end_count Locals c n) (end_from c least n) e b)) (sym (whole_number least before exact most lt is))
 
--- outside, and where no more elements may follow
-pub outer_end : (c : Connected) (least levels input exact : ℕ) → 0 ≡ capped (end_from c least levels Out input exact)
-outer_end c least zero input exact = refl
-outer_end c least (suc n) input exact = refl
-
-pub last_end : (c : Connected) (least levels e input exact : ℕ) → levels ≡ 0 → 0 ≡ capped (end_from c least levels (Element e) input exact)
-last_end c least levels e input exact none = sym (ap (λ (k : ℕ). capped (end_from c least k (Element e) input exact)) none)
-
 -- all tests of a `send`
 pub sent_tally : (least : ℕ) (span : Spans) (from : Namings) (ws : List Wire) (i : ℕ) (numbers : List ℕ) (tally made : Tally) (n : Naming) → length ws ≤ i
     → IsTally numbers tally n → IsTested least span from (take i ws) n made → IsTally numbers made (stepped least span from ws Send n)
@@ -182,10 +140,6 @@ sent_tally least span from ws i numbers tally made n past told tested =
       next = tested.next ∙ ap (λ (us : List Wire). capped (suc n.next + tests_span span us)) all;
       count = tested.count ∙ ap (λ (us : List Wire). capped (n.count + (is_from least n.next + tests_from least span from n.next us (suc n.next)))) all;
     }
-
--- the steps of an element
-pub started_tally : (before : ℕ) (numbers : List ℕ) (tally : Tally) → before ≤ 2 ^ 64 - 1 → numbers ≡ [] → tally.next ≡ before → tally.count ≡ 0 → IsTally numbers tally (started before)
-started_tally before numbers tally most none next_is count_is = record { numbers = none; next = omega (arith, next_is, most); count = omega (arith, count_is) }
 
 pub stepped_tally : (least : ℕ) (span : Spans) (from : Namings) (ws : List Wire) (ss : List Step) (i : ℕ) (d : Step) (start : Naming) (more : List ℕ) (made : Tally) → i < length ss
     → IsTally more made (stepped least span from ws (slice_index_or ss i d) (all_stepped least span from ws (take i ss) start)) → IsTally more made (all_stepped least span from ws (take (i + 1) ss) start)

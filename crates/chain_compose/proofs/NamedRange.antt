@@ -1,11 +1,11 @@
 -- A copy of an element that keeps the rules names no local but those that it declares, and those after it.
-use Rattle.std.proofs.Common.{◌≡◌, ◌<◌, ◌≤◌, ℕ, zero, suc, ◌+◌, Bool, true, false, cond, ◌&&◌, ◌||◌, ◌==◌, ◌⊎◌, inl, inr, List, [], ◌∷◌, ◌++◌, length, slice_index, refl, sym, ap, subst, ◌∙◌, arith, true≢false, nat_le}
+use Rattle.std.proofs.Common.{◌≡◌, ◌<◌, ◌≤◌, ℕ, zero, suc, ◌+◌, Bool, true, false, cond, ◌==◌, ◌⊎◌, inl, inr, List, [], ◌∷◌, ◌++◌, length, slice_index, refl, sym, ap, subst, ◌∙◌, arith, true≢false, nat_le}
 use Rattle.std.specs.List.{All, list_any}
-use Rattle.std.proofs.lemmas.Bool.{eqb-true, le-leb, leb-true}
+use Rattle.std.proofs.lemmas.Bool.{eqb-true, le-leb, leb-true, or_cases}
 use Rattle.std.proofs.lemmas.List.{length_push, get_or_append_left, get_or_push}
 use Rattle.std.proofs.lemmas.List.Elements.{All-nil, All-cons, All-head, All-tail, All-weaker}
 use Rattle.element_lang.specs.Tree.{ExprTree, Exprs, StmtTree, BodyTree, Tree}
-use Rattle.element_lang.specs.Tree.ExprTree.{lit, local, field, byte, shift, apply}
+use Rattle.element_lang.specs.Tree.ExprTree.{local, byte, shift, apply}
 use Rattle.element_lang.specs.Tree.Exprs.{no_expr, expr}
 use Rattle.element_lang.specs.Tree.StmtTree.{let_local, assign, set_field, look, put, del, choose, repeat, send, drop}
 use Rattle.element_lang.specs.Tree.BodyTree.{done, stmt}
@@ -17,6 +17,7 @@ use Rattle.chain_compose.specs.declared.name_steps.Step.TheVariants.{Name, Decla
 use Rattle.chain_compose.specs.Counts.{used_by_expr, used_by_exprs}
 use Rattle.chain_compose.specs.NamedFrom.{is_from, named, all_declared_steps, send_steps, stmt_steps, body_steps, Spans, Namings, tests_span, tests_from, Naming, stepped, all_stepped}
 use Rattle.chain_compose.proofs.NamedTotals.{steps_span, steps_uses}
+use Rattle.lemmas.proofs.Tests.{and_first, and_second}
 
 -- ## the steps of an element
 -- each local that they name is declared before, where so many are at their start
@@ -68,19 +69,6 @@ known_names_append : (d : ℕ) (xs ys : List ℕ) → AreKnown d (named xs) → 
 known_names_append d [] ys first rest = rest
 known_names_append d (x ∷ xs) ys first rest = (first.0, known_names_append d xs ys first.1 rest)
 
--- ## by the rules
-pub left : (a b : Bool) → (a && b) ≡ true → a ≡ true
-left true b h = refl
-left false b h = h
-
-pub right : (a b : Bool) → (a && b) ≡ true → b ≡ true
-right true b h = h
-right false b h = absurd (true≢false (sym h))
-
-either : (a b : Bool) → (a || b) ≡ true → (a ≡ true) ⊎ (b ≡ true)
-either true b h = inl refl
-either false b h = inr h
-
 abbrev Below : ℕ → List ℕ → Type 0
 Below d = All (λ (y : ℕ). y < d)
 
@@ -90,7 +78,7 @@ below_more d e xs le all = All-weaker (λ (y : ℕ). y < d) (λ (y : ℕ). y < e
 in_scope : (d x : ℕ) (scope : List ℕ) → Below d scope → list_any (λ (y : ℕ). y == x) scope ≡ true → x < d
 in_scope d x [] below h = absurd (true≢false (sym h))
 in_scope d x (y ∷ ys) below h =
-    elim (either (y == x) (list_any (λ (z : ℕ). z == x) ys) h) [
+    elim (or_cases (y == x) (list_any (λ (z : ℕ). z == x) ys) h) [
       | inl here ↦ omega (arith, eqb-true y x here, All-head (λ (z : ℕ). z < d) y ys below)
       | inr later ↦ in_scope d x ys (All-tail (λ (z : ℕ). z < d) y ys below) later
     ]
@@ -98,8 +86,8 @@ in_scope d x (y ∷ ys) below h =
 below_counted : (next : ℕ) (xs : List ℕ) → counted_from next xs ≡ true → Below (next + length xs) xs
 below_counted next [] h = All-nil (λ (y : ℕ). y < next + 0)
 below_counted next (x ∷ xs) h =
-    let is : x ≡ next = eqb-true x next (left (x == next) (counted_from (next + 1) xs) h) in
-    let rest = below_counted (next + 1) xs (right (x == next) (counted_from (next + 1) xs) h) in
+    let is : x ≡ next = eqb-true x next (and_first (x == next) (counted_from (next + 1) xs) h) in
+    let rest = below_counted (next + 1) xs (and_second (x == next) (counted_from (next + 1) xs) h) in
     All-cons (λ (y : ℕ). y < next + suc (length xs)) x xs (omega (arith, is)) (below_more (next + 1 + length xs) (next + suc (length xs)) xs (omega arith) rest)
 
 below_append : (d : ℕ) (xs ys : List ℕ) → Below d xs → Below d ys → Below d (xs ++ ys)
@@ -110,17 +98,16 @@ below_append d (x ∷ xs) ys first rest =
 module _ (widths scope : List ℕ) (d : ℕ) (below : Below d scope) where
   mutual
     known_expr : (e : ExprTree) → is_good_expr widths scope e ≡ true → AreKnown d (named (used_by_expr e))
-    known_expr (lit value width) h = tt
     known_expr (local x) h = (in_scope d x scope below h, tt)
-    known_expr (field f) h = tt
-    known_expr (byte index) h = known_expr index (left _ _ h)
-    known_expr (shift op by arg) h = known_expr arg (right _ _ h)
-    known_expr (apply op width args) h = known_exprs args (left _ _ h)
+    known_expr (byte index) h = known_expr index (and_first _ _ h)
+    known_expr (shift op by arg) h = known_expr arg (and_second _ _ h)
+    known_expr (apply op width args) h = known_exprs args (and_first _ _ h)
+    known_expr _ h = tt
 
     known_exprs : (es : Exprs) → are_good_exprs widths scope es ≡ true → AreKnown d (named (used_by_exprs es))
     known_exprs no_expr h = tt
     known_exprs (expr e es) h =
-        known_names_append d (used_by_expr e) (used_by_exprs es) (known_expr e (left _ _ h)) (known_exprs es (right _ _ h))
+        known_names_append d (used_by_expr e) (used_by_exprs es) (known_expr e (and_first _ _ h)) (known_exprs es (and_second _ _ h))
 
 one_more : (n : ℕ) → n + 1 ≡ suc n
 one_more n = omega arith
@@ -161,55 +148,52 @@ module _ (m : Tree) (wired : Bool) where
 
   -- those that a statement binds are among the next
   binds_below : (scope : List ℕ) (next : ℕ) (s : StmtTree) → is_good_stmt m scope next s ≡ true → Below (next + declared_in s) (binds s)
-  binds_below scope next (let_local x value) h = below_counted next (x ∷ []) (right _ _ (left _ _ h))
-  binds_below scope next (look found into object keys) h = below_counted next (found ∷ into) (right _ _ (left _ _ h))
-  binds_below scope next (put ok object keys values) h = below_counted next (ok ∷ []) (right _ _ (left _ _ h))
-  binds_below scope next (del was object keys) h = below_counted next (was ∷ []) (right _ _ (left _ _ h))
-  binds_below scope next (assign x value) h = All-nil (λ (y : ℕ). y < next + 0)
-  binds_below scope next (set_field f value) h = All-nil (λ (y : ℕ). y < next + 0)
+  binds_below scope next (let_local x value) h = below_counted next (x ∷ []) (and_second _ _ (and_first _ _ h))
+  binds_below scope next (look found into object keys) h = below_counted next (found ∷ into) (and_second _ _ (and_first _ _ h))
+  binds_below scope next (put ok object keys values) h = below_counted next (ok ∷ []) (and_second _ _ (and_first _ _ h))
+  binds_below scope next (del was object keys) h = below_counted next (was ∷ []) (and_second _ _ (and_first _ _ h))
   binds_below scope next (choose test first second) h = All-nil (λ (y : ℕ). y < next + (declared_by first + declared_by second))
   binds_below scope next (repeat index count body) h = All-nil (λ (y : ℕ). y < next + suc (declared_by body))
-  binds_below scope next (send port) h = All-nil (λ (y : ℕ). y < next + 0)
-  binds_below scope next drop h = All-nil (λ (y : ℕ). y < next + 0)
+  binds_below scope next _ h = All-nil (λ (y : ℕ). y < next + 0)
 
   mutual
     known_stmt : (scope : List ℕ) (next : ℕ) (s : StmtTree) → Below next scope → is_good_stmt m scope next s ≡ true → AreKnown next (stmt_steps wired s)
     known_stmt scope next (let_local x value) below h =
-        known_after next (used_by_expr value) (Declare ∷ []) (known_expr (local_widths m) scope next below value (left _ _ (left _ _ (left _ _ h)))) tt
+        known_after next (used_by_expr value) (Declare ∷ []) (known_expr (local_widths m) scope next below value (and_first _ _ (and_first _ _ (and_first _ _ h)))) tt
     known_stmt scope next (assign x value) below h =
-        (in_scope next x scope below (right _ _ (left _ _ h)), known_expr (local_widths m) scope next below value (left _ _ (left _ _ h)))
-    known_stmt scope next (set_field f value) below h = known_expr (local_widths m) scope next below value (left _ _ (left _ _ h))
+        (in_scope next x scope below (and_second _ _ (and_first _ _ h)), known_expr (local_widths m) scope next below value (and_first _ _ (and_first _ _ h)))
+    known_stmt scope next (set_field f value) below h = known_expr (local_widths m) scope next below value (and_first _ _ (and_first _ _ h))
     known_stmt scope next (look found into object keys) below h =
         known_after next (used_by_exprs keys) (Declare ∷ all_declared_steps into)
-        (known_exprs (local_widths m) scope next below keys (left _ _ (left _ _ (left _ _ (left _ _ (left _ _ h)))))) (known_declared (suc next) into)
+        (known_exprs (local_widths m) scope next below keys (and_first _ _ (and_first _ _ (and_first _ _ (and_first _ _ (and_first _ _ h)))))) (known_declared (suc next) into)
     known_stmt scope next (put ok object keys values) below h =
-        let good = left _ _ (left _ _ (left _ _ (left _ _ (left _ _ (left _ _ h))))) in
+        let good = and_first _ _ (and_first _ _ (and_first _ _ (and_first _ _ (and_first _ _ (and_first _ _ h))))) in
         known_after next (used_by_exprs keys) (named (used_by_exprs values) ++ Declare ∷ [])
-        (known_exprs (local_widths m) scope next below keys (left _ _ good))
-        (known_after next (used_by_exprs values) (Declare ∷ []) (known_exprs (local_widths m) scope next below values (right _ _ good)) tt)
+        (known_exprs (local_widths m) scope next below keys (and_first _ _ good))
+        (known_after next (used_by_exprs values) (Declare ∷ []) (known_exprs (local_widths m) scope next below values (and_second _ _ good)) tt)
     known_stmt scope next (del was object keys) below h =
         known_after next (used_by_exprs keys) (Declare ∷ [])
-        (known_exprs (local_widths m) scope next below keys (left _ _ (left _ _ (left _ _ (left _ _ (left _ _ h)))))) tt
+        (known_exprs (local_widths m) scope next below keys (and_first _ _ (and_first _ _ (and_first _ _ (and_first _ _ (and_first _ _ h)))))) tt
     known_stmt scope next (choose test first second) below h =
         known_after next (used_by_expr test) (body_steps wired first ++ body_steps wired second)
-        (known_expr (local_widths m) scope next below test (left _ _ (left _ _ (left _ _ h))))
-        (known_append next (body_steps wired first) (body_steps wired second) (known_body scope next first below (right _ _ (left _ _ h)))
+        (known_expr (local_widths m) scope next below test (and_first _ _ (and_first _ _ (and_first _ _ h))))
+        (known_append next (body_steps wired first) (body_steps wired second) (known_body scope next first below (and_second _ _ (and_first _ _ h)))
         (known_at (next + declared_by first) (next + declares (body_steps wired first)) (body_steps wired second) (omega (arith, declares_body first))
-        (known_body scope (next + declared_by first) second (below_more next (next + declared_by first) scope (omega arith) below) (right _ _ h))))
+        (known_body scope (next + declared_by first) second (below_more next (next + declared_by first) scope (omega arith) below) (and_second _ _ h))))
     known_stmt scope next (repeat index count body) below h =
         known_at (next + 1) (suc next) (body_steps wired body) (one_more next)
-        (known_body (index ∷ scope) (next + 1) body (below_append (next + 1) (index ∷ []) scope (below_counted next (index ∷ []) (right _ _ (left _ _ (left _ _ h)))) (below_more next (next + 1) scope (at_most next 1) below)) (right _ _ h))
-    known_stmt scope next (send port) below h = known_send next port wired (known_expr (local_widths m) scope next below port (left _ _ h))
+        (known_body (index ∷ scope) (next + 1) body (below_append (next + 1) (index ∷ []) scope (below_counted next (index ∷ []) (and_second _ _ (and_first _ _ (and_first _ _ h)))) (below_more next (next + 1) scope (at_most next 1) below)) (and_second _ _ h))
+    known_stmt scope next (send port) below h = known_send next port wired (known_expr (local_widths m) scope next below port (and_first _ _ h))
     known_stmt scope next drop below h = tt
 
     pub known_body : (scope : List ℕ) (next : ℕ) (b : BodyTree) → Below next scope → is_good_body m scope next b ≡ true → AreKnown next (body_steps wired b)
     known_body scope next done below h = tt
     known_body scope next (stmt s b) below h =
-        let good = left _ _ (left _ _ h) in
+        let good = and_first _ _ (and_first _ _ h) in
         known_append next (stmt_steps wired s) (body_steps wired b) (known_stmt scope next s below good)
         (known_at (next + declared_in s) (next + declares (stmt_steps wired s)) (body_steps wired b) (omega (arith, declares_stmt s))
         (known_body (binds s ++ scope) (next + declared_in s) b
-        (below_append (next + declared_in s) (binds s) scope (binds_below scope next s good) (below_more next (next + declared_in s) scope (omega arith) below)) (right _ _ h)))
+        (below_append (next + declared_in s) (binds s) scope (binds_below scope next s good) (below_more next (next + declared_in s) scope (omega arith) below)) (and_second _ _ h)))
 
 -- ## numbers
 pub counts_one : (least n : ℕ) → least ≤ n → is_from least n ≡ 1

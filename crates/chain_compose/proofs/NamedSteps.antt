@@ -5,7 +5,7 @@ use Rattle.packet_fields.specs.declared.field.Field.{Field}
 use Rattle.packet_fields.specs.declared.field.Field.TheVariants.{MetaPort}
 use Rattle.packet_fields.specs.Table.{field_index}
 use Rattle.element_lang.specs.Tree.{ExprTree, Exprs, StmtTree, BodyTree}
-use Rattle.element_lang.specs.Tree.ExprTree.{lit, local, field, byte, shift, apply}
+use Rattle.element_lang.specs.Tree.ExprTree.{lit, field, byte, shift, apply}
 use Rattle.element_lang.specs.Tree.Exprs.{no_expr, expr}
 use Rattle.element_lang.specs.Tree.StmtTree.{let_local, assign, set_field, look, put, del, choose, repeat, send, drop}
 use Rattle.element_lang.specs.Tree.BodyTree.{done, stmt}
@@ -41,12 +41,11 @@ seen_unused (Some input) f = unused_of f input (field_index f == field_index Met
 module _ (port : Option ℕ) (names : List ℕ) where
   mutual
     renamed_uses : (e : ExprTree) → used_by_expr (renamed port names e) ≡ map (slice_index names) (used_by_expr e)
-    renamed_uses (lit value width) = refl
-    renamed_uses (local x) = refl
     renamed_uses (field f) = seen_unused port f
     renamed_uses (byte index) = renamed_uses index
     renamed_uses (shift op by arg) = renamed_uses arg
     renamed_uses (apply op width args) = all_renamed_uses args
+    renamed_uses _ = refl
 
     all_renamed_uses : (es : Exprs) → used_by_exprs (all_renamed port names es) ≡ map (slice_index names) (used_by_exprs es)
     all_renamed_uses no_expr = refl

@@ -3,7 +3,7 @@ use Rattle.std.proofs.Common.{◌≡◌, ℕ, suc, ◌+◌, Bool, true, false, c
 use Rattle.std.specs.List.{filter}
 use Rattle.packet_fields.specs.declared.field.Field.{Field}
 use Rattle.packet_fields.specs.declared.field.Header.{Header}
-use Rattle.packet_fields.specs.declared.field.Header.TheVariants.{Meta, Ethernet, Vlan, Ip, Tcp, Udp}
+use Rattle.packet_fields.specs.declared.field.Header.TheVariants.{Meta}
 use Rattle.packet_fields.specs.Table.{row, all_fields}
 use Rattle.element_lang.specs.Rules.{ends_always}
 use Rattle.element_lang.specs.Tree.{ExprTree, StmtTree, BodyTree}
@@ -100,9 +100,6 @@ module _ (l : Lengths) (end : Spans) (ws : List Wire) where
   abbrev wired : Bool
   wired = has_wires ws
 
-  abbrev some_steps : List ℕ → List Step → List Step
-  some_steps xs ss = named xs ++ ss
-
   span_after : (xs : List ℕ) (ss : List Step) → steps_span end ws (named xs ++ ss) ≡ steps_span end ws ss
   span_after xs ss = omega (arith, span_append end ws (named xs) ss, span_named end ws xs)
 
@@ -159,11 +156,7 @@ uses_of_element c end port e = uses_of_body (own_lengths c port e) end (wires_of
 -- ## between elements
 kept_uses : (h : Header) (f : Field) (width : ℕ) → used_by_expr (kept_where h f width) ≡ []
 kept_uses Meta f width = refl
-kept_uses Ethernet f width = refl
-kept_uses Vlan f width = refl
-kept_uses Ip f width = refl
-kept_uses Tcp f width = refl
-kept_uses Udp f width = refl
+kept_uses _ f width = refl
 
 pub clearing_from : (least : ℕ) (fs : List Field) → count_from least (used_in (clearing fs)) ≡ 0
 clearing_from least [] = refl
@@ -171,7 +164,7 @@ clearing_from least (f ∷ fs) =
     let here = used_by_expr (kept_where (row f).header f (row f).width) in
     omega (arith, count_append least here (used_in (clearing fs)), ap (count_from least) (kept_uses (row f).header f (row f).width), clearing_from least fs)
 
-clearing_locals : (l : Lengths) (fs : List Field) → body_count Locals l (clearing fs) ≡ 0
+pub clearing_locals : (l : Lengths) (fs : List Field) → body_count Locals l (clearing fs) ≡ 0
 clearing_locals l [] = refl
 clearing_locals l (f ∷ fs) = omega (arith, clearing_locals l fs)
 

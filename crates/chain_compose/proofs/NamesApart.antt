@@ -1,17 +1,15 @@
 -- The bytes of a body are those of the same body where locals have empty names, and those of these names.
-use Rattle.std.proofs.Common.{◌≡◌, ◌≤◌, ℕ, suc, ◌+◌, ◌*◌, List, [], ◌∷◌, ◌++◌, length, slice_index, refl, sym, ap, ◌∙◌, arith, length-append}
-use Rattle.gal_bits.specs.declared.op.Op.{Op}
+use Rattle.std.proofs.Common.{◌≡◌, ◌≤◌, ℕ, ◌+◌, List, [], ◌∷◌, ◌++◌, length, arith, length-append}
 use Rattle.element_lang.specs.declared.mark.Mark.TheVariants as marks
-use Rattle.element_lang.specs.Rules.{count_of}
 use Rattle.element_lang.specs.Tree as trees
 use Rattle.element_lang.specs.Tree.{ExprTree, Exprs, StmtTree, BodyTree}
-use Rattle.element_lang.specs.Tree.ExprTree.{lit, local, field, byte, shift, apply}
+use Rattle.element_lang.specs.Tree.ExprTree.{byte, shift, apply}
 use Rattle.element_lang.specs.Tree.Exprs.{no_expr, expr}
 use Rattle.element_lang.specs.Tree.StmtTree.{let_local, assign, set_field, look, put, del, choose, repeat, send}
 use Rattle.element_lang.specs.Tree.BodyTree.{done, stmt}
 use Rattle.element_print.specs.declared.place.Place.{Place}
 use Rattle.element_print.specs.declared.place.Place.TheVariants.{Whole}
-use Rattle.element_print.specs.Lengths.{Lengths, mark_length, expr_length, parts_length, exprs_length, keyed_length, names_length, head_length, stmt_length, body_length}
+use Rattle.element_print.specs.Lengths.{Lengths, expr_length, parts_length, exprs_length, keyed_length, names_length, head_length, stmt_length, body_length}
 use Rattle.chain_compose.specs.declared.gauge.Gauge.TheVariants.{Locals, Uses}
 use Rattle.chain_compose.specs.Counts.{used_by_expr, used_by_exprs, used_by_head, used_by, used_in, declares_once, stmt_count, body_count}
 use Rattle.chain_compose.specs.Named.{names_sum}
@@ -27,14 +25,12 @@ module _ (l : Lengths) where
 
   mutual
     expr_apart : (e : ExprTree) → expr_length l e ≡ expr_length bare e + names_sum l.locals (used_by_expr e)
-    expr_apart (lit value width) = omega arith
-    expr_apart (local x) = omega arith
-    expr_apart (field f) = omega arith
     expr_apart (byte index) = omega (arith, expr_apart index)
     expr_apart (shift op by arg) = omega (arith, expr_apart arg)
     expr_apart (apply op width args) =
         let j : Joins op = joins op in
         omega (arith, j.is l width args, j.is bare width args, parts_apart j.place args)
+    expr_apart _ = omega arith
 
     parts_apart : (place : Place) (es : Exprs) → parts_length l place es ≡ parts_length bare place es + names_sum l.locals (used_by_exprs es)
     parts_apart place no_expr = omega arith
@@ -61,9 +57,8 @@ module _ (l : Lengths) where
       omega (arith, keyed_apart object keys, exprs_apart values, sum_append l.locals (used_by_exprs keys) (used_by_exprs values))
   head_apart (del was object keys) = omega (arith, keyed_apart object keys)
   head_apart (choose cond first second) = omega (arith, expr_apart cond)
-  head_apart (repeat index count body) = omega arith
   head_apart (send port) = omega (arith, expr_apart port)
-  head_apart trees.drop = omega arith
+  head_apart _ = omega arith
 
   mutual
     stmt_apart : (s : StmtTree) → stmt_length l s ≡ stmt_length bare s + names_sum l.locals (used_by s)
@@ -95,16 +90,8 @@ module _ (l : Lengths) where
 
 -- ## Each local that is declared is named, and each name has a byte or more
 declares_used : (s : StmtTree) → declares_once s ≤ length (used_by_head s)
-declares_used (let_local x value) = omega arith
-declares_used (assign x value) = omega arith
-declares_used (set_field f value) = omega arith
 declares_used (look found into object keys) = omega (arith, length-append into (used_by_exprs keys))
-declares_used (put ok object keys values) = omega arith
-declares_used (del was object keys) = omega arith
-declares_used (choose cond first second) = omega arith
-declares_used (repeat index count body) = omega arith
-declares_used (send port) = omega arith
-declares_used trees.drop = omega arith
+declares_used _ = omega arith
 
 mutual
   stmt_used : (l : Lengths) (s : StmtTree) → stmt_count Locals l s ≤ stmt_count Uses l s

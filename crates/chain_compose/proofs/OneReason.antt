@@ -1,5 +1,5 @@
 -- There is one reason at most, want of memory aside.
-use Rattle.std.proofs.Common.{◌≡◌, ◌≢◌, ◌<◌, ◌≤◌, ◌-◌, ◌^◌, min, ◌⊎◌, inl, inr, ℕ, zero, suc, refl, sym, ap, subst, ◌∙◌, arith}
+use Rattle.std.proofs.Common.{◌≡◌, ◌≢◌, ◌≤◌, min, ◌⊎◌, inl, inr, ℕ, zero, suc, refl, sym, ap, ◌∙◌, arith}
 use Rattle.element_lang.specs.Tree.{Tree}
 use Rattle.element_chain.specs.Chain.{Connected}
 use Rattle.element_chain.specs.Compose.{composed}
@@ -7,16 +7,11 @@ use Rattle.chain_compose.specs.declared.error.ComposeError.{ComposeError}
 use Rattle.chain_compose.specs.declared.error.ComposeError.TheVariants.{Byte, Repeat, Statements, TooLarge, NoMemory}
 use Rattle.chain_compose.specs.declared.error.What.{What}
 use Rattle.chain_compose.specs.declared.error.What.TheVariants.{Objects, Entries, Writes, Depth, Bytes}
-use Rattle.chain_compose.specs.Refusals.{IsFirst, amount, allowed, order, IsTooLarge, IsRefused, IsUnrefused, KeepsSizes, AreInPlace, IsLargeRefusal, IsSizeRefusal, statements_in, most_statements}
-
-apart : (a b : ℕ) → (a < b) ⊎ ((a ≡ b) ⊎ (b < a))
-apart zero zero = inr (inl refl)
-apart zero (suc b) = inl (omega arith)
-apart (suc a) zero = inr (inr (omega arith))
-apart (suc a) (suc b) = elim (apart a b) [ inl low ↦ inl (omega (arith, low)) | inr rest ↦ elim rest [ inl same ↦ inr (inl (ap suc same)) | inr high ↦ inr (inr (omega (arith, high))) ] ]
+use Rattle.chain_compose.specs.Refusals.{IsFirst, amount, allowed, order, IsTooLarge, IsRefused, IsUnrefused, IsLargeRefusal, IsSizeRefusal, statements_in, most_statements}
+use Rattle.lemmas.proofs.Numbers.{below_same_above}
 
 first_same : (P : ℕ → Type 0) (a b : ℕ) → IsFirst P a → IsFirst P b → a ≡ b
-first_same P a b h k = elim (apart a b) [ inl low ↦ absurd (k.none a low h.here) | inr rest ↦ elim rest [ inl same ↦ same | inr high ↦ absurd (h.none b high k.here) ] ]
+first_same P a b h k = elim (below_same_above a b) [ inl low ↦ absurd (k.none a low h.here) | inr rest ↦ elim rest [ inl same ↦ same | inr high ↦ absurd (h.none b high k.here) ] ]
 
 abbrev what_of : ℕ → What
 what_of zero = Objects
@@ -27,16 +22,13 @@ what_of (suc (suc (suc (suc n)))) = Bytes
 
 told_by_order : (what : What) → what_of (order what) ≡ what
 told_by_order Objects = refl
-told_by_order Entries = refl
-told_by_order Writes = refl
-told_by_order Depth = refl
-told_by_order Bytes = refl
+told_by_order _ = refl
 
 too_much : (m : Tree) (what : What) (have most : ℕ) → IsTooLarge m what have most → amount what m ≤ allowed what → ⊥
 too_much m what have most large keeps = absurd (omega (arith, large.count, large.limit, large.above, keeps))
 
 same_what : (m : Tree) (what other : What) (have most have' most' : ℕ) → IsTooLarge m what have most → IsTooLarge m other have' most' → order what ≡ order other
-same_what m what other have most have' most' h k = elim (apart (order what) (order other)) [
+same_what m what other have most have' most' h k = elim (below_same_above (order what) (order other)) [
   | inl low ↦ absurd (too_much m what have most h (k.first what low))
   | inr rest ↦ elim rest [ inl same ↦ same | inr high ↦ absurd (too_much m other have' most' k (h.first other high)) ]
 ]
@@ -76,28 +68,7 @@ no_reason c Statements none h = absurd (omega (arith, h.1, none.few.few))
 no_reason c (TooLarge what have most) none h = absurd (too_much (composed c) what have most h.1 (none.sizes what))
 no_reason c NoMemory none h = refl
 
--- ## the reasons one after the other
-pub large_refused : (c : Connected) (e : ComposeError) → AreInPlace c → IsLargeRefusal (composed c) e → IsRefused c e
-large_refused c Statements placed h = (placed, h)
-large_refused c (TooLarge what have most) placed h = (record { placed = placed; few = h.0 }, h.1)
-large_refused c NoMemory placed h = tt
-large_refused c (Byte e) placed h = absurd h
-large_refused c (Repeat e) placed h = absurd h
-
 pub size_refused : (m : Tree) (e : ComposeError) → statements_in m.body ≤ most_statements → IsSizeRefusal m e → IsLargeRefusal m e
 size_refused m (TooLarge what have most) few h = (few, h)
 size_refused m NoMemory few h = tt
-size_refused m (Byte e) few h = absurd h
-size_refused m (Repeat e) few h = absurd h
-size_refused m Statements few h = absurd h
-
--- the first of which there is too much
-abbrev IsOver : Tree → What → ComposeError → Type 0
-IsOver m what e =
-    (e ≡ NoMemory) ⊎ ((allowed what < min (amount what m) (2 ^ 64 - 1)) × (e ≡ TooLarge what (min (amount what m) (2 ^ 64 - 1)) (allowed what)))
-
-pub over : (m : Tree) (what : What) (e : ComposeError) → ((other : What) → order other < order what → amount other m ≤ allowed other)
-    → IsOver m what e → IsSizeRefusal m e
-over m what e first (inl is) = subst (IsSizeRefusal m) (sym is) tt
-over m what e first (inr two) =
-    subst (IsSizeRefusal m) (sym two.1) (record { count = refl; limit = refl; above = two.0; first = first })
+size_refused m _ few h = absurd h

@@ -1,6 +1,6 @@
 -- Elements with a `repeat` within another one, as they are told from a table.
 use Rattle.std.proofs.Common.{◌≡◌, ◌<◌, ◌≤◌, ◌⊎◌, inl, inr, ◌↔◌, ℕ, zero, suc, ◌==◌, ◌||◌, ◌&&◌, Bool, true, false, List, length, map, refl, sym, ap, ◌∙◌, arith, true≢false}
-use Rattle.std.proofs.lemmas.Bool.{eqb-true}
+use Rattle.std.proofs.lemmas.Bool.{eqb-true, and_from, or_cases, or_left, or_right}
 use Rattle.std.proofs.lemmas.List.{length-map}
 use Rattle.element_lang.specs.declared.tree.Middlebox.{Middlebox}
 use Rattle.element_lang.specs.Tree.{BodyTree, Tree}
@@ -14,9 +14,9 @@ use Rattle.chain_compose.specs.declared.matrix.Reach.{Reach}
 use Rattle.chain_compose.specs.Parts.{connected}
 use Rattle.chain_compose.specs.Reach.{is_shown, ShowsBy, some_below, sends_to, repeats_within}
 use Rattle.chain_compose.specs.Refusals.{IsFirst}
-use Rattle.chain_compose.proofs.Below.{left, right}
 use Rattle.chain_compose.proofs.Firsts.{some_at}
 use Rattle.chain_compose.proofs.Trees.{no_tree}
+use Rattle.lemmas.proofs.Tests.{and_first, and_second}
 
 -- a number of which it holds
 one_of : (n : ℕ) (holds : ℕ → Bool) (a b : Bool) → some_below n holds ≡ a → holds n ≡ b → (some_below n holds ≡ true → (i : ℕ) × (i < n) × (holds i ≡ true)) → (a || b) ≡ true
@@ -27,22 +27,6 @@ one_of n holds false b is is' found h = (n, omega arith, is' ∙ h)
 pub some_found : (n : ℕ) (holds : ℕ → Bool) → some_below n holds ≡ true → (i : ℕ) × (i < n) × (holds i ≡ true)
 some_found zero holds h = absurd (true≢false (sym h))
 some_found (suc n) holds h = one_of n holds (some_below n holds) (holds n) refl refl (λ is. some_found n holds is) h
-
-either : (a b : Bool) → (a || b) ≡ true → (a ≡ true) ⊎ (b ≡ true)
-either true b h = inl refl
-either false b h = inr h
-
-both : (a b : Bool) → a ≡ true → b ≡ true → (a && b) ≡ true
-both true b h k = k
-both false b h k = absurd (true≢false (sym h))
-
-left_of : (a b : Bool) → a ≡ true → (a || b) ≡ true
-left_of true b h = refl
-left_of false b h = absurd (true≢false (sym h))
-
-right_of : (a b : Bool) → b ≡ true → (a || b) ≡ true
-right_of true b h = refl
-right_of false b h = h
 
 -- an element that does something is there
 pub there_is : (ms : List Middlebox) (e : ℕ) (test : BodyTree → Bool) → test BodyTree.done ≡ false → test (element_at (map tree ms) e).body ≡ true → e < length ms
@@ -58,23 +42,20 @@ there_is ms e test none h = elim (apart e (length ms)) [
     apart (suc a) (suc b) = elim (apart a b) [ inl low ↦ inl (omega (arith, low)) | inr past ↦ inr (omega (arith, past)) ]
 
 module _ (ms : List Middlebox) (wires : List Wire) (leads : ℕ → ℕ → Bool) (told : (e f : ℕ) → e < length ms → f < length ms → (leads e f ≡ true) ↔ Leads wires e f) where
-  elements : List Tree
-  elements = map tree ms
-
   is_behind : (e : ℕ) → e < length ms → repeats_within (map tree ms) leads e ≡ true → RepeatsBehind (connected ms wires) e
   is_behind e there h =
-      let repeats = left (any_repeats (element_at (map tree ms) e).body) (some_below (length (map tree ms)) (sends_to (map tree ms) leads e)) h in
-      let found = some_found (length (map tree ms)) (sends_to (map tree ms) leads e) (right (any_repeats (element_at (map tree ms) e).body) _ h) in
+      let repeats = and_first (any_repeats (element_at (map tree ms) e).body) (some_below (length (map tree ms)) (sends_to (map tree ms) leads e)) h in
+      let found = some_found (length (map tree ms)) (sends_to (map tree ms) leads e) (and_second (any_repeats (element_at (map tree ms) e).body) _ h) in
       let from = found.0 in
       let low : from < length ms = omega (arith, found.1, length-map ms tree) in
       let some : 0 < length ms = omega (arith, low) in
-      let reached = left (from == 0 || leads 0 from) (any_sends_again (element_at (map tree ms) from).body) (left _ _ found.2) in
+      let reached = and_first (from == 0 || leads 0 from) (any_sends_again (element_at (map tree ms) from).body) (and_first _ _ found.2) in
       record {
         repeats = repeats;
         from = from;
-        reached = elim (either (from == 0) (leads 0 from) reached) [ inl entry ↦ inl (eqb-true from 0 entry) | inr behind ↦ inr ((told 0 from some low).0 behind) ];
-        sends = right (from == 0 || leads 0 from) (any_sends_again (element_at (map tree ms) from).body) (left _ _ found.2);
-        behind = (told from e low there).0 (right ((from == 0 || leads 0 from) && any_sends_again (element_at (map tree ms) from).body) (leads from e) found.2);
+        reached = elim (or_cases (from == 0) (leads 0 from) reached) [ inl entry ↦ inl (eqb-true from 0 entry) | inr behind ↦ inr ((told 0 from some low).0 behind) ];
+        sends = and_second (from == 0 || leads 0 from) (any_sends_again (element_at (map tree ms) from).body) (and_first _ _ found.2);
+        behind = (told from e low there).0 (and_second ((from == 0 || leads 0 from) && any_sends_again (element_at (map tree ms) from).body) (leads from e) found.2);
       }
 
   is_told : (e : ℕ) → RepeatsBehind (connected ms wires) e → (e < length ms) × (repeats_within (map tree ms) leads e ≡ true)
@@ -84,12 +65,12 @@ module _ (ms : List Middlebox) (wires : List Wire) (leads : ℕ → ℕ → Bool
       let low : from < length ms = there_is ms from any_sends_again refl behind.sends in
       let some : 0 < length ms = omega (arith, low) in
       let reached : (from == 0 || leads 0 from) ≡ true = elim behind.reached [
-        | inl entry ↦ left_of (from == 0) (leads 0 from) (ap (λ (k : ℕ). k == 0) entry)
-        | inr leads_there ↦ right_of (from == 0) (leads 0 from) ((told 0 from some low).1 leads_there)
+        | inl entry ↦ or_left (from == 0) (leads 0 from) (ap (λ (k : ℕ). k == 0) entry)
+        | inr leads_there ↦ or_right (from == 0) (leads 0 from) ((told 0 from some low).1 leads_there)
       ] in
-      let sends = both ((from == 0 || leads 0 from) && any_sends_again (element_at (map tree ms) from).body) (leads from e)
-      (both (from == 0 || leads 0 from) (any_sends_again (element_at (map tree ms) from).body) reached behind.sends) ((told from e low there).1 behind.behind) in
-      (there, both (any_repeats (element_at (map tree ms) e).body) _ behind.repeats (some_at (length (map tree ms)) (sends_to (map tree ms) leads e) from (omega (arith, low, length-map ms tree)) sends))
+      let sends = and_from ((from == 0 || leads 0 from) && any_sends_again (element_at (map tree ms) from).body) (leads from e)
+      (and_from (from == 0 || leads 0 from) (any_sends_again (element_at (map tree ms) from).body) reached behind.sends) ((told from e low there).1 behind.behind) in
+      (there, and_from (any_repeats (element_at (map tree ms) e).body) _ behind.repeats (some_at (length (map tree ms)) (sends_to (map tree ms) leads e) from (omega (arith, low, length-map ms tree)) sends))
 
   pub none_behind : ((e : ℕ) → e < length ms → repeats_within (map tree ms) leads e ≡ false) → (e : ℕ) → RepeatsBehind (connected ms wires) e → ⊥
   none_behind none e behind = let is = is_told e behind in true≢false (sym is.1 ∙ none e is.0)

@@ -1,11 +1,12 @@
 -- The wires of each element.
-use Rattle.std.proofs.Common.{◌≡◌, ◌<◌, ◌≤◌, ℕ, zero, suc, ◌+◌, ◌-◌, List, [], ◌∷◌, ◌++◌, length, slice_index_or, Option, Some, None, Bool, true, false, ◌==◌, ◌&&◌, ◌⊎◌, inl, inr, refl, sym, ap, ◌∙◌, arith, length-append, append_assoc, append-nil, option_to_list, cond}
+use Rattle.std.proofs.Common.{◌≡◌, ◌<◌, ◌≤◌, ℕ, zero, suc, ◌+◌, ◌-◌, List, [], ◌∷◌, ◌++◌, length, slice_index_or, Option, Some, None, Bool, true, false, ◌==◌, ◌&&◌, inl, inr, refl, sym, ap, ◌∙◌, arith, length-append, append_assoc, append-nil, option_to_list, cond}
 use Rattle.std.specs.List.{All}
 use Rattle.std.proofs.lemmas.List.Elements.{All-nil, All-cons, All-head, All-tail}
 use Rattle.element_chain.specs.declared.chain.Wire.{Wire}
 use Rattle.element_chain.specs.Chain.{wire_at}
 use Rattle.element_chain.specs.Compose.{with_wire, wires_from, wires_of}
 use Rattle.chain_compose.specs.Routes.{all_routes}
+use Rattle.lemmas.proofs.Numbers.{below_suc}
 
 with_option : (o : Option Wire) (ws : List Wire) → option_to_list o ++ ws ≡ with_wire o ws
 with_option None ws = refl
@@ -26,16 +27,10 @@ pub length-routes : (wires : List Wire) (n : ℕ) → length (all_routes wires n
 length-routes wires zero = refl
 length-routes wires (suc n) = omega (arith, length-append (all_routes wires n) (wires_of wires n ∷ []), length-routes wires n)
 
-is_before : (e n : ℕ) → e < suc n → (e < n) ⊎ (e ≡ n)
-is_before zero zero lt = inr refl
-is_before zero (suc n) lt = inl (omega arith)
-is_before (suc e) zero lt = absurd (omega (arith, lt))
-is_before (suc e) (suc n) lt = elim (is_before e n (omega (arith, lt))) [ inl l ↦ inl (omega (arith, l)) | inr l ↦ inr (ap suc l) ]
-
 pub routes_at : (wires : List Wire) (n e : ℕ) → e < n → slice_index_or (all_routes wires n) e [] ≡ wires_of wires e
 routes_at wires zero e lt = absurd (omega (arith, lt))
 routes_at wires (suc n) e lt =
-    elim (is_before e n lt) [
+    elim (below_suc e n lt) [
       | inl before ↦ earlier_at (all_routes wires n) (wires_of wires n) e (omega (arith, before, length-routes wires n)) ∙ routes_at wires n e before
       | inr last ↦ last_at (all_routes wires n) (wires_of wires n) e (last ∙ sym (length-routes wires n)) ∙ ap (wires_of wires) (sym last)
     ]

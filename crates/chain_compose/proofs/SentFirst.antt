@@ -7,17 +7,15 @@ use Rattle.element_print.specs.Lengths.{Lengths, capped}
 use Rattle.element_chain.specs.Compose.{cleared, clearing}
 use Rattle.chain_compose.specs.declared.figures.Scale.{Scale}
 use Rattle.chain_compose.specs.declared.gauge.Gauge.{Gauge}
-use Rattle.chain_compose.specs.declared.gauge.Gauge.TheVariants.{Statements, Writes, Locals, Uses, Bytes}
+use Rattle.chain_compose.specs.declared.gauge.Gauge.TheVariants.{Uses, Bytes}
 use Rattle.chain_compose.specs.Counts.{weight, turns, stmt_count, body_count, placed_stmt_count}
 use Rattle.chain_compose.specs.Tallies.{scale_lengths, let_excess, first_sent, bare_count}
 use Rattle.chain_compose.proofs.Caps.{add_capped, mul_capped, capped_again}
 
 let_more : (g : Gauge) (objects : List ℕ) (port : ℕ) (e : ExprTree) → (let l : Lengths = record { locals = []; objects = objects; port = port } in weight g l (let_local 0 e) ≡ weight g l (send e) + let_excess g)
-let_more Statements objects port e = refl
-let_more Writes objects port e = refl
-let_more Locals objects port e = refl
 let_more Uses objects port e = omega arith
 let_more Bytes objects port e = omega arith
+let_more _ objects port e = refl
 
 pub let_for_send : (s : Scale) (sent : ℕ) (port : ExprTree) → sent ≡ capped (weight s.gauge (scale_lengths s) (send port)) → capped (sent + let_excess s.gauge) ≡ capped (first_sent s.gauge (scale_lengths s) true port)
 let_for_send s sent port is =

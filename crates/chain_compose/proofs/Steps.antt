@@ -7,7 +7,8 @@ use Rattle.element_lang.specs.View.{stmt_tree, body_tree}
 use Rattle.packet_fields.specs.declared.field.Field.{Field}
 use Rattle.element_chain.specs.Compose.{followed, one, cleared, clearing, Placed, Spot, Sends, stmt_placed, body_placed}
 use Rattle.chain_compose.specs.Parts.{numbering, placed, placed_behind, one_placed}
-use Rattle.chain_compose.proofs.Trees.{followed_assoc, followed_done, body_push}
+use Rattle.chain_compose.proofs.Trees.{followed_assoc, body_push}
+use Rattle.element_chain.proofs.GoodBodies.{followed_done}
 
 -- the same, of trees
 abbrev behind : BodyTree → Placed → Placed

@@ -7,7 +7,7 @@ use Rattle.packet_fields.specs.declared.field.Field.TheVariants.{MetaPort}
 use Rattle.element_lang.specs.Tree as trees
 use Rattle.element_lang.specs.Tree.{ExprTree, StmtTree, BodyTree}
 use Rattle.element_lang.specs.Tree.ExprTree.{lit}
-use Rattle.element_lang.specs.Tree.StmtTree.{let_local, assign, set_field, look, put, del, choose, repeat, send}
+use Rattle.element_lang.specs.Tree.StmtTree.{choose, repeat, send}
 use Rattle.element_lang.specs.Tree.BodyTree.{done, stmt}
 use Rattle.element_print.specs.Lengths.{Lengths, capped, literal_length, field_length}
 use Rattle.element_chain.specs.declared.chain.Wire.{Wire}
@@ -17,7 +17,7 @@ use Rattle.element_chain.specs.Chain.{Connected, element_at}
 use Rattle.element_chain.specs.Compose.{wires_of, composed}
 use Rattle.element_chain.specs.Wiring.{IsWithin, AreWithin}
 use Rattle.chain_compose.specs.declared.gauge.Gauge.{Gauge}
-use Rattle.chain_compose.specs.declared.gauge.Gauge.TheVariants.{Statements, Writes, Locals, Uses, Bytes}
+use Rattle.chain_compose.specs.declared.gauge.Gauge.TheVariants.{Statements}
 use Rattle.chain_compose.specs.declared.figures.Figures.{Figures}
 use Rattle.chain_compose.specs.declared.figures.Ending.{Ending}
 use Rattle.chain_compose.specs.Counts.{weight, turns, placed_stmt_count, placed_count, body_count, whole_lengths, own_lengths, port_length, test_weight, tests_count, sent_count, closing_count, clearing_count, element_count, end_count}
@@ -42,13 +42,7 @@ module _ (g : Gauge) (l : Lengths) (all first : ExprTree → ℕ) (after : ℕ) 
         ∙ ap (λ (k : ℕ). n * placed_count g l first body + k) (sym (mul_assoc n (sent_in g body) after)) in
         omega (arith, inner)
     stmt_more (send port) = omega (arith, each port)
-    stmt_more (let_local x value) = omega arith
-    stmt_more (assign x value) = omega arith
-    stmt_more (set_field f value) = omega arith
-    stmt_more (look found into object keys) = omega arith
-    stmt_more (put ok object keys values) = omega arith
-    stmt_more (del was object keys) = omega arith
-    stmt_more trees.drop = omega arith
+    stmt_more _ = omega arith
 
     body_more : (b : BodyTree) → placed_count g l all b ≡ placed_count g l first b + sent_in g b * after
     body_more done = omega arith
@@ -84,10 +78,7 @@ after_agree g f h (w ∷ ws) same = tests_agree g f h (w ∷ ws) same
 
 out_same : (g : Gauge) (l : Lengths) (input : ℕ) → out_weight g input ≡ weight g l (send (lit input 8))
 out_same Statements l input = refl
-out_same Writes l input = refl
-out_same Locals l input = refl
-out_same Uses l input = refl
-out_same Bytes l input = refl
+out_same _ l input = refl
 
 end_out : (g : Gauge) (c : Connected) (n input : ℕ) → out_weight g input ≡ end_count g c n Out input
 end_out g c zero input = out_same g (whole_lengths c) input

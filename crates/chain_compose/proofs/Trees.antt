@@ -12,10 +12,6 @@ pub followed_assoc : (a b c : BodyTree) → followed (followed a b) c ≡ follow
 followed_assoc done b c = refl
 followed_assoc (stmt s a) b c = ap (stmt s) (followed_assoc a b c)
 
-pub followed_done : (a : BodyTree) → followed a done ≡ a
-followed_done done = refl
-followed_done (stmt s a) = ap (stmt s) (followed_done a)
-
 -- a statement is pushed
 pub body_push : (ss : List Stmt) (s : Stmt) → body_tree (ss ++ s ∷ []) ≡ followed (body_tree ss) (one (stmt_tree s))
 body_push [] s = refl

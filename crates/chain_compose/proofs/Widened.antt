@@ -1,9 +1,8 @@
 -- What is placed declares as many locals as are counted.
-use Rattle.std.proofs.Common.{◌≡◌, ℕ, zero, suc, ◌+◌, List, [], ◌∷◌, ◌++◌, Bool, true, false, cond, length, slice_index, refl, sym, arith, Option, Some, length-append, add-zero}
-use Rattle.element_lang.specs.Rules.{ends_always}
+use Rattle.std.proofs.Common.{◌≡◌, ℕ, zero, suc, ◌+◌, List, [], ◌∷◌, ◌++◌, length, slice_index, sym, arith, Option, Some, length-append, add-zero}
 use Rattle.element_lang.specs.Tree as trees
 use Rattle.element_lang.specs.Tree.{ExprTree, StmtTree, BodyTree}
-use Rattle.element_lang.specs.Tree.StmtTree.{let_local, assign, set_field, look, put, del, choose, repeat, send}
+use Rattle.element_lang.specs.Tree.StmtTree.{let_local, look, put, del, choose, repeat, send}
 use Rattle.element_lang.specs.Tree.BodyTree.{done, stmt}
 use Rattle.element_lang.specs.Widths.{local_widths}
 use Rattle.element_print.specs.Lengths.{Lengths}
@@ -11,29 +10,22 @@ use Rattle.element_chain.specs.declared.chain.Wire.{Wire}
 use Rattle.element_chain.specs.declared.chain.Target.{Target}
 use Rattle.element_chain.specs.declared.chain.Target.TheVariants.{Element, Out}
 use Rattle.element_chain.specs.Chain.{Connected, element_at}
-use Rattle.packet_fields.specs.declared.field.Field.{Field}
 use Rattle.packet_fields.specs.Table.{all_fields}
 use Rattle.std.specs.List.{filter}
-use Rattle.element_chain.specs.Compose.{renamed, Numbering, Spot, Sends, Ends, declared, all_declared, stmt_placed, body_placed, tests, sent_by, wires_of, base_of, clearing, is_set, ends_within, element_placed}
+use Rattle.element_chain.specs.Compose.{renamed, Numbering, Spot, Sends, Ends, declared, stmt_placed, body_placed, tests, sent_by, wires_of, base_of, is_set, ends_within, element_placed}
 use Rattle.chain_compose.specs.declared.gauge.Gauge.TheVariants.{Locals}
-use Rattle.chain_compose.specs.Counts.{placed_stmt_count, placed_count, body_count, own_lengths, whole_lengths, tests_count, sent_count, closing_count, element_count, end_count}
-
-all_widened : (spot : Spot) (xs : List ℕ) (n : Numbering) → length (all_declared spot xs n).widths ≡ length n.widths + length xs
-all_widened spot [] n = sym (add-zero (length n.widths))
-all_widened spot (x ∷ xs) n =
-    let once = length-append n.widths (slice_index spot.widths x ∷ []) in
-    omega (arith, all_widened spot xs (declared spot x n), once)
+use Rattle.chain_compose.specs.Counts.{placed_stmt_count, placed_count, own_lengths, whole_lengths, tests_count, sent_count, element_count, end_count}
+use Rattle.chain_compose.proofs.NamedTotals.{clearing_locals, no_closing_locals}
+use Rattle.element_chain.proofs.Bodies.{length-all_widths}
 
 module _ (l : Lengths) (spot : Spot) (sent : Sends) (counts : ExprTree → ℕ)
     (each : (names : List ℕ) (port : ExprTree) (widths : List ℕ) → length (sent (renamed spot.port names port) widths).widths ≡ length widths + counts port) where
   mutual
     stmt_widened : (s : StmtTree) (n : Numbering) → length (stmt_placed spot sent s n).numbering.widths ≡ length n.widths + placed_stmt_count Locals l counts s
     stmt_widened (let_local x value) n = length-append n.widths (slice_index spot.widths x ∷ [])
-    stmt_widened (assign x value) n = sym (add-zero (length n.widths))
-    stmt_widened (set_field f value) n = sym (add-zero (length n.widths))
     stmt_widened (look found into object keys) n =
         let once = length-append n.widths (slice_index spot.widths found ∷ []) in
-        omega (arith, all_widened spot into (declared spot found n), once)
+        omega (arith, length-all_widths spot into (declared spot found n), once)
     stmt_widened (put ok object keys values) n = length-append n.widths (slice_index spot.widths ok ∷ [])
     stmt_widened (del was object keys) n = length-append n.widths (slice_index spot.widths was ∷ [])
     stmt_widened (choose test first second) n =
@@ -42,7 +34,7 @@ module _ (l : Lengths) (spot : Spot) (sent : Sends) (counts : ExprTree → ℕ)
         let once = length-append n.widths (slice_index spot.widths index ∷ []) in
         omega (arith, body_widened body (declared spot index n), once)
     stmt_widened (send port) n = each n.names port n.widths
-    stmt_widened trees.drop n = sym (add-zero (length n.widths))
+    stmt_widened _ n = sym (add-zero (length n.widths))
 
     pub body_widened : (b : BodyTree) (n : Numbering) → length (body_placed spot sent b n).numbering.widths ≡ length n.widths + placed_count Locals l counts b
     body_widened done n = sym (add-zero (length n.widths))
@@ -63,18 +55,6 @@ module _ (end : Ends) (counts : Target → ℕ → ℕ) (each : AreWidened end c
   sent_widened l (w ∷ ws) e inner widths =
       omega (arith, length-append widths (8 ∷ []), tests_widened (length widths) (w ∷ ws) (widths ++ 8 ∷ []))
 
--- nothing is declared where a packet is cleared
-clearing_declares : (l : Lengths) (fs : List Field) → body_count Locals l (clearing fs) ≡ 0
-clearing_declares l [] = refl
-clearing_declares l (f ∷ fs) = omega (arith, clearing_declares l fs)
-
-closing_declares : (b : BodyTree) → closing_count Locals b ≡ 0
-closing_declares b = by_test (ends_always b)
-  where
-    by_test : (e : Bool) → cond e zero zero ≡ zero
-    by_test true = refl
-    by_test false = refl
-
 -- what an element declares, with all behind it
 pub element_widened : (c : Connected) (n : ℕ) → AreWidened (ends_within c n) (end_count Locals c n) → (port : Option ℕ) (e : ℕ) (widths : List ℕ)
     → length (element_placed c (ends_within c n) port e widths).numbering.widths ≡ length widths + element_count Locals c (end_count Locals c n) port e
@@ -92,6 +72,6 @@ ends_widened c zero Out input widths = sym (add-zero (length widths))
 ends_widened c zero (Element e) input widths = sym (add-zero (length widths))
 ends_widened c (suc n) Out input widths = sym (add-zero (length widths))
 ends_widened c (suc n) (Element e) input widths =
-    let cleared = clearing_declares (whole_lengths c) (filter (is_set c.elements) all_fields) in
-    let closed = closing_declares (element_at c.elements e).body in
+    let cleared = clearing_locals (whole_lengths c) (filter (is_set c.elements) all_fields) in
+    let closed = no_closing_locals (element_at c.elements e).body in
     omega (arith, element_widened c n (ends_widened c n) (Some input) e widths, cleared, closed)

@@ -8,7 +8,7 @@ use Rattle.packet_fields.specs.Table.{all_fields}
 use Rattle.element_lang.specs.Rules.{ends_always}
 use Rattle.element_lang.specs.Tree as trees
 use Rattle.element_lang.specs.Tree.{ExprTree, Exprs, StmtTree, BodyTree}
-use Rattle.element_lang.specs.Tree.ExprTree.{lit, local, field, byte, shift, apply}
+use Rattle.element_lang.specs.Tree.ExprTree.{lit, local, byte, shift, apply, field}
 use Rattle.element_lang.specs.Tree.Exprs.{no_expr, expr}
 use Rattle.element_lang.specs.Tree.StmtTree.{let_local, assign, set_field, look, put, del, choose, repeat, send}
 use Rattle.element_lang.specs.Tree.BodyTree.{done, stmt}

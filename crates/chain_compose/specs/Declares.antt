@@ -2,7 +2,7 @@
 use Rattle.std.specs.Prelude.{ℕ, ◌<◌}
 use Rattle.std.specs.List.{All}
 use Rattle.element_lang.specs.Tree.{StmtTree, BodyTree}
-use Rattle.element_lang.specs.Tree.StmtTree.{let_local, assign, set_field, look, put, del, choose, repeat, send, drop}
+use Rattle.element_lang.specs.Tree.StmtTree.{let_local, look, put, del, choose, repeat, assign, set_field, send, drop}
 use Rattle.element_lang.specs.Tree.BodyTree.{done, stmt}
 
 -- each local that is declared, at any depth, is one of the first so many

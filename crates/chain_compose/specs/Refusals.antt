@@ -4,7 +4,7 @@ use Rattle.element_lang.specs.Accepted.{deepest}
 use Rattle.element_lang.specs.Sizes.{entries, writes}
 use Rattle.element_lang.specs.Surface.{named}
 use Rattle.element_lang.specs.Tree.{StmtTree, BodyTree, Tree}
-use Rattle.element_lang.specs.Tree.StmtTree.{let_local, assign, set_field, look, put, del, choose, repeat, send, drop}
+use Rattle.element_lang.specs.Tree.StmtTree.{choose, repeat, let_local, assign, set_field, look, put, del, send, drop}
 use Rattle.element_lang.specs.Tree.BodyTree.{done, stmt}
 use Rattle.element_print.specs.Printed.{text_of, print_tokens}
 use Rattle.element_chain.specs.Chain.{Connected, element_at}

@@ -11,7 +11,7 @@ use Rattle.element_chain.specs.declared.chain.Target.TheVariants.{Element, Out}
 use Rattle.element_chain.specs.Chain.{Connected, element_at}
 use Rattle.element_chain.specs.Compose.{wires_of, base_of, objects_from}
 use Rattle.chain_compose.specs.declared.gauge.Gauge.{Gauge}
-use Rattle.chain_compose.specs.declared.gauge.Gauge.TheVariants.{Statements, Writes, Locals, Uses, Bytes}
+use Rattle.chain_compose.specs.declared.gauge.Gauge.TheVariants.{Locals, Uses, Bytes, Statements, Writes}
 use Rattle.chain_compose.specs.declared.figures.Scale.{Scale}
 use Rattle.chain_compose.specs.declared.figures.Figures.{Figures}
 use Rattle.chain_compose.specs.declared.figures.Ending.{Ending}

@@ -25,9 +25,7 @@ use crate::parts::{Parts, Place};
 use crate::refusals::{first_reader, first_repeater};
 use crate::routes::Routes;
 use crate::uses::fields_set;
-use element_chain::{
-    Chain, Classes, Wire, composition_keeps_the_meaning, composition_keeps_the_rules, wires_lead,
-};
+use element_chain::{Chain, Classes, Wire};
 use element_lang::Middlebox;
 use gal_io::NoMemory;
 use packet_fields::{Field, width};
@@ -40,7 +38,6 @@ fn refuse_elements(alloc: Global, chain: &Chain, classes: &[Middlebox]) -> Resul
     ensures ok { IfOk result (λ _. AreInPlace (connected classes.now chain.now.wires)) }
     ensures err { IfErr result (IsRefused (connected classes.now chain.now.wires)) }
 {
-    wires_lead();
     if let Some(element) = first_reader(classes) {
         return Err(ComposeError::Byte(element));
     }
@@ -143,7 +140,6 @@ fn compose_elements(
     ensures rules { IfOk result (λ m. IsTrue (is_good (tree m))) }
     ensures names { IfOk result (λ m. HasNames (tree m)) }
 {
-    composition_keeps_the_rules();
     inputs_are_bytes(chain.wires.as_slice());
     refuse_elements(alloc, chain, classes)?;
     let middlebox = whole(alloc, chain, classes)?;
@@ -186,6 +182,5 @@ pub fn compose(alloc: Global, chain: &Chain, classes: &Classes) -> Result<Middle
         IfOk result (λ m. (store : Store) → IsKept (tree m).objects store
         → (stores : List Store) × AreKept c.elements stores × (store ≡ joined stores)) }
 {
-    composition_keeps_the_meaning();
     compose_elements(alloc, chain, classes)
 }

@@ -12,7 +12,6 @@ mod expressions;
 mod figures;
 mod gauge;
 mod heads;
-mod laws;
 mod matrix;
 mod name_steps;
 mod named;
@@ -31,4 +30,3 @@ mod uses;
 
 pub use composition::compose;
 pub use error::{ComposeError, What};
-pub use laws::one_composition_or_one_reason;

@@ -16,7 +16,7 @@ use crate::gauge::Gauge;
 use crate::objects::{all_decls_length, all_entries, object_count};
 use crate::parts::Parts;
 use element_lang::{MAX_DEPTH, MAX_ENTRIES, MAX_OBJECTS, MAX_WRITES};
-use element_print::{frame_length, text_is_told};
+use element_print::frame_length;
 use gal_io::NoMemory;
 
 /// The most bytes of a source.
@@ -117,7 +117,6 @@ impl Parts<'_> {
         requires within { AreWithin (length self.now.classes.now) self.now.chain.now.wires }
         ensures { IfOk result (λ n. n ≡ capped (amount what (composed (chain_of self.now)))) }
     {
-        text_is_told();
         match what {
             What::Objects => Ok(object_count(self.classes)),
             What::Entries => Ok(all_entries(self.classes)),

@@ -19,12 +19,7 @@ use Rattle.chain_text.specs.Reads.{elements_of, is_named, number_of, is_out, tar
 use Rattle.chain_text.specs.declared.builder.Builder.{Builder}
 use Rattle.chain_text.specs.Built.{IsBuilt, is_output, is_wired, is_known}
 use Rattle.chain_text.proofs.Naming.{number_below, known_more, wires_more, elements-append, wires-append, wired_same}
-
--- ## none is refused, where the last one isn't
-get_front : {A : Type 0} → (xs ys : List A) (k : ℕ) → k < length xs → slice_get (xs ++ ys) k ≡ slice_get xs k
-get_front [] ys k lt = absurd (omega arith)
-get_front (x ∷ xs) ys zero lt = refl
-get_front (x ∷ xs) ys (suc k) lt = get_front xs ys k (omega arith)
+use Rattle.lemmas.proofs.Lists.{get_front}
 
 get_last : {A : Type 0} → (xs : List A) (y : A) (k : ℕ) → k ≡ length xs → slice_get (xs ++ y ∷ []) k ≡ Some y
 get_last [] y zero e = refl

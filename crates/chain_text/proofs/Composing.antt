@@ -1,7 +1,7 @@
 -- The chain of a text can be composed.
-use Rattle.std.proofs.Common.{◌≡◌, ℕ, zero, suc, ◌+◌, ◌<◌, ◌≤◌, ◌==◌, ◌&&◌, ◌||◌, not, Bool, true, false, List, [], ◌∷◌, ◌++◌, length, take, get_or, slice_get, Some, refl, sym, ap, ap₂, subst, ◌∙◌, arith, length-append, append-nil}
+use Rattle.std.proofs.Common.{◌≡◌, ℕ, zero, suc, ◌+◌, ◌<◌, ◌≤◌, ◌&&◌, ◌||◌, not, true, false, List, [], ◌∷◌, ◌++◌, length, take, get_or, slice_get, Some, refl, sym, ap, subst, ◌∙◌, arith, length-append, append-nil}
 use Rattle.std.specs.List.{list_any, list_all}
-use Rattle.std.proofs.lemmas.Bool.{true≢false, and_from, or_parts}
+use Rattle.std.proofs.lemmas.Bool.{and_from, or_parts, false_from_ne_true as not_refused, not-false}
 use Rattle.std.proofs.lemmas.List.{take_more, take_all}
 use Rattle.std.proofs.lemmas.List.Elements.{All-push}
 use Rattle.std.proofs.lemmas.List.Folds.{list_all-append}
@@ -24,10 +24,6 @@ record AreJoined (ss : List Statement) : Type 0 where
 
 none_joined : AreJoined []
 none_joined = record { known = refl; within = λ k d lt. absurd (omega (arith, lt)); once = λ i j d lt le. absurd (omega (arith, lt, le)) }
-
-not_true : (b : Bool) → not b ≡ false → b ≡ true
-not_true true h = refl
-not_true false h = sym h
 
 one_declared : (ss : List Statement) (name class : List ℕ) → AreJoined ss → AreJoined (ss ++ declares name class ∷ [])
 one_declared ss name class h =
@@ -58,8 +54,8 @@ one_wired ss from to output input h free =
     let all : es ≡ elements_of (ss ++ s ∷ []) = sym (elements-append ss (s ∷ []) ∙ append-nil es) in
     let three = or_parts (not (is_named es from) || not (is_out to || is_named es to)) (list_any (wires_output from output) ss) free in
     let two = or_parts (not (is_named es from)) (not (is_out to || is_named es to)) three.0 in
-    let named : is_named es from ≡ true = not_true (is_named es from) two.0 in
-    let there : (is_out to || is_named es to) ≡ true = not_true (is_out to || is_named es to) two.1 in
+    let named : is_named es from ≡ true = not-false (is_named es from) two.0 in
+    let there : (is_out to || is_named es to) ≡ true = not-false (is_out to || is_named es to) two.1 in
     let one_known : is_known es s ≡ true = and_from (is_named es from) (is_out to || is_named es to) named there in
     let known : list_all (is_known es) (ss ++ s ∷ []) ≡ true =
     list_all-append (is_known es) ss (s ∷ [])
@@ -79,10 +75,6 @@ one_wired ss from to output input h free =
 one_joined : (ss : List Statement) (s : Statement) → AreJoined ss → is_refused ss s ≡ false → AreJoined (ss ++ s ∷ [])
 one_joined ss (declares name class) h free = one_declared ss name class h
 one_joined ss (wires from output input to) h free = one_wired ss from to output input h free
-
-not_refused : (b : Bool) → (b ≡ true → ⊥) → b ≡ false
-not_refused true h = absurd (h refl)
-not_refused false h = refl
 
 -- those before each place, and all of them
 joined_so_far : (ss : List Statement) → ((place : ℕ) → IsRefusedAt ss place → ⊥) → (i : ℕ) → i ≤ length ss → AreJoined (take i ss)

@@ -2,7 +2,7 @@
 use Rattle.std.proofs.Common.{◌≡◌, ◌≢◌, ◌⊎◌, inl, inr, ⊎_elim, ℕ, suc, ◌+◌, ◌<◌, ◌≤◌, max, List, [], ◌∷◌, ◌++◌, length, take, drop, refl, sym, ap, subst, ◌∙◌, arith, append_assoc, append-nil, length-append}
 use Rattle.std.proofs.lemmas.Bool.{cases_lt}
 use Rattle.std.proofs.lemmas.List.{take-append-drop, take-take}
-use Rattle.chain_tokens.specs.Token.{Token}
+use Rattle.chain_text.specs.Token.{Token}
 use Rattle.chain_text.specs.declared.shape.TheConstants.{DECLARATION, WIRE}
 use Rattle.chain_text.specs.Grammar.{Statement, declares, wires, statement_tokens, spelled, Begins, IsFirstWrong}
 use Rattle.chain_text.specs.Shapes.{fit_of}

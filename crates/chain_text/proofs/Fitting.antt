@@ -2,13 +2,13 @@
 use Rattle.std.proofs.Common.{◌≡◌, ℕ, zero, suc, ◌<◌, ◌≤◌, Bool, true, false, cond, List, [], ◌∷◌, ◌++◌, length, take, drop, map, get_or, eqb, refl, sym, ap, ap₂, subst, ◌∙◌, arith}
 use Rattle.std.proofs.lemmas.Bool.{false≢true, eqb-true, eq-eqb, cond_both, cond-true}
 use Rattle.std.proofs.lemmas.List.{get_or-take, take-append-drop}
-use Rattle.chain_tokens.specs.Token.{Token, name, number, fixed}
-use Rattle.chain_tokens.specs.Tokens.{span_text, token_of, tokens_of}
-use Rattle.chain_tokens.specs.declared.mark.Mark.{Mark}
-use Rattle.chain_tokens.specs.declared.mark.Mark.TheVariants.{Declares, Arrow, Opens, Closes, Ends}
-use Rattle.chain_tokens.specs.declared.token.Placed.{Placed}
-use Rattle.chain_tokens.specs.declared.token.Token.{Token as Found}
-use Rattle.chain_tokens.specs.declared.token.Token.TheVariants as found
+use Rattle.chain_text.specs.Token.{Token, name, number, fixed}
+use Rattle.lexer.specs.Tokens.{span_text}
+use Rattle.chain_text.specs.Tokens.{token_of, tokens_of, PlacedToken as Placed}
+use Rattle.chain_text.specs.declared.mark.Mark.{Mark}
+use Rattle.chain_text.specs.declared.mark.Mark.TheVariants.{Declares, Arrow, Opens, Closes, Ends}
+use Rattle.chain_text.specs.declared.token.Token.{Token as Found}
+use Rattle.chain_text.specs.declared.token.Token.TheVariants as found
 use Rattle.chain_text.specs.declared.shape.Kind.{Kind}
 use Rattle.chain_text.specs.declared.shape.Kind.TheVariants.{Name, Number, Fixed}
 use Rattle.chain_text.specs.declared.shape.TheConstants.{DECLARATION, WIRE}
@@ -52,9 +52,8 @@ code_same m = eq-eqb (code m) (code m) refl
 
 filler_fits : (k : Kind) → fits k (filler k) ≡ true
 unfolding filler
-filler_fits Name = refl
-filler_fits Number = refl
 filler_fits (Fixed m) = code_same m
+filler_fits _ = refl
 
 all_filled : (ks : List Kind) → HasShape ks (map filler ks)
 all_filled [] = tt
@@ -102,40 +101,32 @@ disagree (k ∷ ks) (u ∷ us) (t ∷ ts) more rest (suc n) h few low lt e =
 -- ## what the tokens of a shape are
 abbrev pub word_of : Token → List ℕ
 word_of (name word) = word
-word_of (number n) = []
-word_of (fixed m) = []
+word_of _ = []
 
 abbrev pub value_of : Token → ℕ
-value_of (name word) = 0
 value_of (number n) = n
-value_of (fixed m) = 0
+value_of _ = 0
 
 name_is : (t : Token) → fits Name t ≡ true → t ≡ name (word_of t)
 name_is (name word) h = refl
-name_is (number n) h = absurd (false≢true h)
-name_is (fixed m) h = absurd (false≢true h)
+name_is _ h = absurd (false≢true h)
 
 number_is : (t : Token) → fits Number t ≡ true → t ≡ number (value_of t)
-number_is (name word) h = absurd (false≢true h)
 number_is (number n) h = refl
-number_is (fixed m) h = absurd (false≢true h)
+number_is _ h = absurd (false≢true h)
 
 abbrev mark_at : ℕ → Mark
 mark_at n = get_or (Declares ∷ Arrow ∷ Opens ∷ Closes ∷ Ends ∷ []) n Declares
 
 mark_back : (m : Mark) → mark_at (code m) ≡ m
 mark_back Declares = refl
-mark_back Arrow = refl
-mark_back Opens = refl
-mark_back Closes = refl
-mark_back Ends = refl
+mark_back _ = refl
 
 fixed_is : (m : Mark) (t : Token) → fits (Fixed m) t ≡ true → t ≡ fixed m
-fixed_is m (name word) h = absurd (false≢true h)
-fixed_is m (number n) h = absurd (false≢true h)
 fixed_is m (fixed k) h =
     let same : code m ≡ code k = eqb-true (code m) (code k) h in
     ap fixed (sym (mark_back k) ∙ ap mark_at (sym same) ∙ mark_back m)
+fixed_is m _ h = absurd (false≢true h)
 
 abbrev nth : List Token → ℕ → Token
 nth ts i = get_or ts i (fixed Ends)
@@ -194,8 +185,7 @@ wire_shape from to output input = (refl, (refl, (refl, (refl, (refl, (refl, (ref
 -- ## the names and numbers of the tokens that were found
 word_found : (text : List ℕ) (t : Found) → word_of (token_of text t) ≡ span_text text (name_span t)
 word_found text (found.Name span) = refl
-word_found text (found.Number n) = refl
-word_found text (found.Fixed m) = refl
+word_found text _ = refl
 
 pub word_at : (text : List ℕ) (ps : List Placed) (i : ℕ) → word_of (nth (tokens_of text ps) i) ≡ span_text text (span_at ps i)
 word_at text [] i = refl
@@ -204,8 +194,7 @@ word_at text (p ∷ ps) (suc i) = word_at text ps i
 
 value_found : (text : List ℕ) (t : Found) → value_of (token_of text t) ≡ number_value t
 value_found text (found.Name span) = refl
-value_found text (found.Number n) = refl
-value_found text (found.Fixed m) = refl
+value_found text _ = refl
 
 pub number_at : (text : List ℕ) (ps : List Placed) (i : ℕ) → value_of (nth (tokens_of text ps) i) ≡ value_at ps i
 number_at text [] i = refl

@@ -1,3 +1,4 @@
+pub mod Spellings
 pub mod Fitting
 pub mod FirstWrong
 pub mod Parsing
@@ -10,3 +11,4 @@ pub mod Tables
 pub mod OneAnswer
 pub mod Reading
 pub mod Composing
+pub mod Laws

@@ -13,6 +13,7 @@ use Rattle.element_chain.specs.declared.chain.Wire.{Wire}
 use Rattle.chain_text.specs.Grammar.{Statement, declares, wires}
 use Rattle.chain_text.specs.Reads.{elements_of, is_named, number_of, is_out, target_of, wires_of, wires_output}
 use Rattle.chain_text.specs.Built.{is_wired, is_known}
+use Rattle.lemmas.proofs.Lists.{bytes_eq_true}
 
 pub named_more : (es more : List Element) (word : List ℕ) → is_named es word ≡ true → is_named (es ++ more) word ≡ true
 named_more es more word h =
@@ -82,10 +83,6 @@ wires-append es (declares element class ∷ ss) us = wires-append es ss us
 wires-append es (wires from output input to ∷ ss) us =
     ap (λ l. record { from = number_of es from; output = output; input = input; to = target_of es to } ∷ l) (wires-append es ss us)
 
--- ## one name, one number
-same_word : (a b : List ℕ) → bytes_eq a b ≡ true → a ≡ b
-same_word a b h = (bytes_eq-Decides a b).0 h
-
 one_name : (es : List Element) (a b : List ℕ) → is_named es a ≡ true → is_named es b ≡ true → number_of es a ≡ number_of es b → a ≡ b
 one_name [] a b h k same = absurd (false≢true h)
 one_name (e ∷ es) a b h k same =
@@ -94,7 +91,7 @@ one_name (e ∷ es) a b h k same =
     by_test : (x y : Bool) → bytes_eq e.name a ≡ x → bytes_eq e.name b ≡ y → (x || is_named es a) ≡ true → (y || is_named es b) ≡ true
         → cond x 0 (suc (number_of es a)) ≡ cond y 0 (suc (number_of es b))
         → (is_named es a ≡ true → is_named es b ≡ true → number_of es a ≡ number_of es b → a ≡ b) → a ≡ b
-    by_test true true p q h k same rest = sym (same_word e.name a p) ∙ same_word e.name b q
+    by_test true true p q h k same rest = sym (bytes_eq_true e.name a p) ∙ bytes_eq_true e.name b q
     by_test true false p q h k same rest = absurd (omega arith)
     by_test false true p q h k same rest = absurd (omega arith)
     by_test false false p q h k same rest = rest h k (omega arith)

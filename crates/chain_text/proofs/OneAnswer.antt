@@ -1,22 +1,18 @@
 -- A text has one answer.
 use Rattle.std.proofs.Common.{◌≡◌, ◌≢◌, ◌⊎◌, inl, inr, ℕ, suc, ◌<◌, ◌≤◌, List, length, Result, Ok, Err, IfOk, IfErr, refl, sym, ap, ap₂, subst, ◌∙◌, arith}
 use Rattle.std.specs.Prelude.{MatchResult}
+use Rattle.lexer.proofs.Laws.{one_list_or_one_place-list as token_list, one_list_or_one_place-place as token_place}
+use Rattle.lexer.proofs.Laws.{one_list_or_one_place-apart as token_apart}
 use Rattle.element_chain.specs.declared.chain.Chain.{Chain}
 use Rattle.element_chain.specs.declared.chain.Element.{Element}
 use Rattle.element_chain.specs.declared.chain.Wire.{Wire}
 use Rattle.element_chain.specs.Wiring.{Leads}
-use Rattle.chain_tokens.specs.Token.{Token, Placed, AreTokens, IsNoToken}
+use Rattle.chain_text.specs.Token.{Token, Placed, IsNoToken, lexeme}
 use Rattle.chain_text.specs.Grammar.{Statement, IsFirstWrong}
 use Rattle.chain_text.specs.declared.error.ChainTextError.{ChainTextError}
 use Rattle.chain_text.specs.declared.error.ChainTextError.TheVariants as errors
 use Rattle.chain_text.specs.Reads.{elements_of, wires_of, plain, offset_at, told, most_elements, IsRefusedAt, IsFirstRefused, AreTaken, IsSpelling, IsChainText, IsOutsideGrammar, HasManyElements, HasRefused, HasNoElement, IsRefused}
 use Rattle.chain_text.proofs.FirstWrong.{one_list, one_place, none_wrong}
-
--- a text has one list of tokens, or one place at which none starts
-pub record HasOneList (text : List ℕ) : Type 0 where
-  pub list : (ts us : List Placed) → AreTokens text ts → AreTokens text us → ts ≡ us
-  pub place : (m n : ℕ) → IsNoToken text m → IsNoToken text n → m ≡ n
-  pub apart : (n : ℕ) (ts : List Placed) → IsNoToken text n → AreTokens text ts → ⊥
 
 first_once : (ss : List Statement) (a b : ℕ) → IsFirstRefused ss a → IsFirstRefused ss b → a ≡ b
 first_once ss a b h k =
@@ -24,23 +20,23 @@ first_once ss a b h k =
     let high : b < a → ⊥ = λ lt. h.none b lt k.here in
     omega arith
 
-module _ (text : List ℕ) (one : HasOneList text) where
+module _ (text : List ℕ) where
   same_statements : (ss us : List Statement) → IsSpelling text ss → IsSpelling text us → ss ≡ us
-  same_statements ss us h k = one_list ss us (sym h.spells ∙ ap plain (one.list h.placed k.placed h.tokens k.tokens) ∙ k.spells)
+  same_statements ss us h k = one_list ss us (sym h.spells ∙ ap plain (token_list lexeme refl text h.placed k.placed h.tokens k.tokens) ∙ k.spells)
 
   -- a text that spells statements isn't outside the grammar
   no_syntax : (offset : ℕ) (ss : List Statement) → IsNoToken text offset ⊎ IsOutsideGrammar text offset → IsSpelling text ss → ⊥
-  no_syntax offset ss (inl h) k = one.apart offset k.placed h k.tokens
+  no_syntax offset ss (inl h) k = token_apart lexeme refl text offset k.placed h k.tokens
   no_syntax offset ss (inr h) k =
       let P : List Token → Type 0 = λ ts. IsFirstWrong ts h.place in
-      none_wrong ss h.place (subst P (ap plain (one.list h.placed k.placed h.tokens k.tokens) ∙ k.spells) h.first)
+      none_wrong ss h.place (subst P (ap plain (token_list lexeme refl text h.placed k.placed h.tokens k.tokens) ∙ k.spells) h.first)
 
   one_syntax : (a b : ℕ) → IsNoToken text a ⊎ IsOutsideGrammar text a → IsNoToken text b ⊎ IsOutsideGrammar text b → a ≡ b
-  one_syntax a b (inl h) (inl k) = one.place a b h k
-  one_syntax a b (inl h) (inr k) = absurd (one.apart a k.placed h k.tokens)
-  one_syntax a b (inr h) (inl k) = absurd (one.apart b h.placed k h.tokens)
+  one_syntax a b (inl h) (inl k) = token_place lexeme text a b h k
+  one_syntax a b (inl h) (inr k) = absurd (token_apart lexeme refl text a k.placed h k.tokens)
+  one_syntax a b (inr h) (inl k) = absurd (token_apart lexeme refl text b h.placed k h.tokens)
   one_syntax a b (inr h) (inr k) =
-      let tokens = one.list h.placed k.placed h.tokens k.tokens in
+      let tokens = token_list lexeme refl text h.placed k.placed h.tokens k.tokens in
       let P : List Placed → Type 0 = λ ps. IsFirstWrong (plain ps) h.place in
       let same : h.place ≡ k.place = one_place (plain k.placed) h.place k.place (subst P tokens h.first) k.first in
       h.there ∙ ap₂ (offset_at text) tokens same ∙ sym k.there

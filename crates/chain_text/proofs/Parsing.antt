@@ -1,9 +1,8 @@
 -- The statements that were found so far, and what is left behind them.
 use Rattle.std.proofs.Common.{◌≡◌, ℕ, ◌+◌, ◌-◌, ◌≤◌, List, [], ◌∷◌, ◌++◌, length, take, drop, sym, ap, subst, ◌∙◌, arith, append_assoc, append-nil, length-append, length-drop}
 use Rattle.std.proofs.lemmas.List.{length-map, map-append, drop-map, drop-drop, take_rest}
-use Rattle.chain_tokens.specs.Token.{Token}
-use Rattle.chain_tokens.specs.Tokens.{token_of, tokens_of}
-use Rattle.chain_tokens.specs.declared.token.Placed.{Placed}
+use Rattle.chain_text.specs.Token.{Token}
+use Rattle.chain_text.specs.Tokens.{token_of, tokens_of, PlacedToken as Placed}
 use Rattle.chain_text.specs.declared.statement.Statement.{Statement as Found}
 use Rattle.chain_text.specs.Grammar.{Statement, statement_tokens, spelled, IsFirstWrong}
 use Rattle.chain_text.specs.Statements.{statement_of, statements_of}

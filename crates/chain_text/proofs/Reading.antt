@@ -3,9 +3,8 @@ use Rattle.std.proofs.Common.{◌≡◌, ℕ, ◌<◌, ◌≤◌, List, [], ◌�
 use Rattle.element_chain.specs.declared.chain.Chain.{Chain}
 use Rattle.element_chain.specs.declared.chain.Wire.{Wire}
 use Rattle.element_chain.specs.Wiring.{Leads, HasNoCycle}
-use Rattle.chain_tokens.specs.Token as lang
-use Rattle.chain_tokens.specs.declared.token.Placed.{Placed}
-use Rattle.chain_tokens.specs.Tokens.{token_of, placed_of, tokens_of}
+use Rattle.chain_text.specs.Token as lang
+use Rattle.chain_text.specs.Tokens.{PlacedToken as Placed, token_of, placed_of, tokens_of}
 use Rattle.chain_text.specs.declared.error.ChainTextError.{ChainTextError}
 use Rattle.chain_text.specs.declared.error.ChainTextError.TheVariants as errors
 use Rattle.chain_text.specs.Grammar.{Statement, spelled, IsFirstWrong}
@@ -23,8 +22,6 @@ many_elements ss count have spelling counted above is = record {
 
 pub take_error : {text : List ℕ} (ss : List Statement) (e : ChainTextError) → IsSpelling text ss → length (elements_of ss) ≤ most_elements → IsTakeError ss e
     → IsRefused text e
-take_error ss (errors.Syntax offset) spelling few h = absurd h
-take_error ss (errors.Elements have) spelling few h = absurd h
 take_error ss (errors.Statement number) spelling few h = record {
   statements = ss;
   spelling = spelling;
@@ -33,9 +30,8 @@ take_error ss (errors.Statement number) spelling few h = record {
   first = h.first;
   count = h.count;
 }
-take_error ss errors.Empty spelling few h = absurd h
-take_error ss errors.Cycle spelling few h = absurd h
 take_error ss errors.NoMemory spelling few h = tt
+take_error ss _ spelling few h = absurd h
 
 pub has_a_cycle : {text : List ℕ} (ss : List Statement) (chain : Chain) → IsSpelling text ss → length (elements_of ss) ≤ most_elements → IsTaken ss chain
     → 0 < length chain.elements → (e : ℕ) × Leads chain.wires e e → HasCycle text

@@ -1,7 +1,7 @@
 -- The statements of a chain's text.
 use Rattle.std.specs.Prelude.{◌≡◌, ℕ, suc, ◌<◌, ◌≤◌, List, [], ◌∷◌, ◌++◌, length, take}
-use Rattle.chain_tokens.specs.declared.mark.Mark.TheVariants.{Declares, Arrow, Opens, Closes, Ends}
-use Rattle.chain_tokens.specs.Token.{Token, name, number, fixed}
+use Rattle.chain_text.specs.declared.mark.Mark.TheVariants.{Declares, Arrow, Opens, Closes, Ends}
+use Rattle.chain_text.specs.Token.{Token, name, number, fixed}
 
 pub data Statement : Type 0 where
   -- `NAME :: CLASS ;`: an element of a class

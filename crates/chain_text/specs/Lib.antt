@@ -1,3 +1,5 @@
+pub mod Token
+pub mod Tokens
 pub mod Grammar
 pub mod Reads
 pub mod Statements

@@ -9,7 +9,7 @@ use Rattle.element_chain.specs.declared.chain.Target.{Target}
 use Rattle.element_chain.specs.declared.chain.Target.TheVariants as target
 use Rattle.element_chain.specs.declared.chain.Wire.{Wire}
 use Rattle.element_chain.specs.Wiring.{AreWithin, HasNoCycle, Leads}
-use Rattle.chain_tokens.specs.Token.{Token, Placed, AreTokens, IsNoToken}
+use Rattle.chain_text.specs.Token.{Token, Placed, AreTokens, IsNoToken}
 use Rattle.chain_text.specs.Grammar.{Statement, declares, wires, spelled, IsFirstWrong}
 use Rattle.chain_text.specs.declared.error.ChainTextError.{ChainTextError}
 use Rattle.chain_text.specs.declared.error.ChainTextError.TheVariants as errors

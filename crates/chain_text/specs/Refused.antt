@@ -1,6 +1,6 @@
 -- Why tokens spell no statements.
 use Rattle.std.specs.Prelude.{List}
-use Rattle.chain_tokens.specs.Token.{Token}
+use Rattle.chain_text.specs.Token.{Token}
 use Rattle.chain_text.specs.Grammar.{IsFirstWrong}
 use Rattle.chain_text.specs.declared.grammar.GrammarError.{GrammarError}
 use Rattle.chain_text.specs.declared.grammar.GrammarError.TheVariants.{Wrong, NoMemory}

@@ -1,8 +1,8 @@
 -- What the tokens of each kind of statement are, and how many of the first tokens are so.
 use Rattle.std.specs.Prelude.{ℕ, suc, Bool, true, false, List, [], ◌∷◌, nat_eq, if◌then◌else◌}
-use Rattle.chain_tokens.specs.Token.{Token, name, number, fixed}
-use Rattle.chain_tokens.specs.declared.mark.Mark.{Mark}
-use Rattle.chain_tokens.specs.declared.mark.Mark.TheVariants.{Declares, Arrow, Opens, Closes, Ends}
+use Rattle.chain_text.specs.Token.{Token, name, number, fixed}
+use Rattle.chain_text.specs.declared.mark.Mark.{Mark}
+use Rattle.chain_text.specs.declared.mark.Mark.TheVariants.{Declares, Arrow, Opens, Closes, Ends}
 use Rattle.chain_text.specs.declared.shape.Kind.{Kind}
 use Rattle.chain_text.specs.declared.shape.Kind.TheVariants.{Name, Number, Fixed}
 

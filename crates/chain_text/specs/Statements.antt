@@ -1,10 +1,10 @@
 -- The statements that the Rust values stand for.
 use Rattle.std.specs.Prelude.{ℕ, Bool, true, false, List, map, slice_get, Option, Some, None}
-use Rattle.chain_tokens.specs.declared.token.Span.{Span}
-use Rattle.chain_tokens.specs.declared.token.Token.{Token}
-use Rattle.chain_tokens.specs.declared.token.Token.TheVariants.{Fixed, Number, Name}
-use Rattle.chain_tokens.specs.declared.token.Placed.{Placed}
-use Rattle.chain_tokens.specs.Tokens.{span_text}
+use Rattle.lexer.specs.declared.token.Span.{Span}
+use Rattle.chain_text.specs.declared.token.Token.{Token}
+use Rattle.chain_text.specs.declared.token.Token.TheVariants.{Number, Name}
+use Rattle.chain_text.specs.Tokens.{PlacedToken as Placed}
+use Rattle.lexer.specs.Tokens.{span_text}
 use Rattle.chain_text.specs.Grammar as chain
 use Rattle.chain_text.specs.declared.statement.Statement.{Statement}
 use Rattle.chain_text.specs.declared.statement.Statement.TheVariants.{Declares, Wires}
@@ -23,8 +23,7 @@ is_declaration (Wires from output input to) = false
 -- the span of a name
 abbrev pub name_span : Token → Span
 name_span (Name span) = span
-name_span (Number n) = record { offset = 0; len = 0 }
-name_span (Fixed m) = record { offset = 0; len = 0 }
+name_span _ = record { offset = 0; len = 0 }
 
 abbrev pub placed_span : Option Placed → Span
 placed_span None = record { offset = 0; len = 0 }
@@ -35,9 +34,8 @@ abbrev pub span_at : List Placed → ℕ → Span
 span_at ps place = placed_span (slice_get ps place)
 
 abbrev pub number_value : Token → ℕ
-number_value (Name span) = 0
 number_value (Number n) = n
-number_value (Fixed m) = 0
+number_value _ = 0
 
 abbrev pub placed_number : Option Placed → ℕ
 placed_number None = 0

@@ -22,9 +22,6 @@ pub record IsFirstNumber (ss : List Statement) (number : ℕ) : Type 0 where
   pub count : number ≡ told (suc place)
 
 abbrev pub IsTakeError : List Statement → ChainTextError → Type 0
-IsTakeError ss (errors.Syntax offset) = ⊥
-IsTakeError ss (errors.Elements have) = ⊥
 IsTakeError ss (errors.Statement number) = IsFirstNumber ss number
-IsTakeError ss errors.Empty = ⊥
-IsTakeError ss errors.Cycle = ⊥
 IsTakeError ss errors.NoMemory = Unit {0}
+IsTakeError ss _ = ⊥

@@ -3,7 +3,7 @@ ghost use Rattle.std.specs.Prelude.{◌≡◌, ◌≤◌, ◌&&◌, ◌||◌, �
 ghost use Rattle.std.specs.Prelude.{if◌then◌else◌};
 ghost use Rattle.std.specs.Prelude.{Option, Some, None, MatchBool, IfOk, IfErr};
 ghost use Rattle.std.specs.Bool.{OnTrue};
-ghost use Rattle.chain_tokens.specs.Tokens.{span_text};
+ghost use Rattle.lexer.specs.Tokens.{span_text};
 ghost use Rattle.element_chain.specs.declared.chain.Element.{Element};
 ghost use Rattle.element_chain.specs.declared.chain.Wire.{Wire};
 ghost use Rattle.chain_text.specs.Grammar as chain;
@@ -12,9 +12,9 @@ ghost use Rattle.chain_text.specs.Statements.{statement_of};
 ghost use Rattle.chain_text.specs.Built.{IsBuilt, is_output};
 
 use crate::statement::Statement;
-use chain_tokens::Span;
 use element_chain::{Chain, Element, Elements, Target, Wire, Wires};
 use gal_io::{Bytes, NoMemory};
+use lexer::Span;
 use std::alloc::Global;
 use std::collections::BTreeSet;
 

@@ -1,13 +1,14 @@
 //! From tokens to statements.
 ghost use Rattle.std.specs.Prelude.{◌≡◌, ◌++◌, ◌<◌, ◌≤◌, ℕ, List, length, drop, slice_get, IfOk, IfErr};
-ghost use Rattle.chain_tokens.specs.Tokens.{tokens_of};
+ghost use Rattle.chain_text.specs.Tokens.{tokens_of};
 ghost use Rattle.chain_text.specs.Grammar.{statement_tokens, spelled, IsFirstWrong};
 ghost use Rattle.chain_text.specs.Statements.{statement_of, statements_of, span_at, value_at};
 ghost use Rattle.chain_text.specs.Refused.{IsGrammarError};
 
 use crate::shape::{DECLARATION, WIRE, fit};
 use crate::statement::Statement;
-use chain_tokens::{Placed, Span, Token};
+use crate::token::{Placed, Token};
+use lexer::Span;
 use std::alloc::{AllocFailed, Global};
 
 /// Why tokens spell no statements.

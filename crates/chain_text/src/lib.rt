@@ -4,12 +4,17 @@
 mod builder;
 mod error;
 mod grammar;
-mod laws;
+mod lexeme;
+mod mark;
 mod reach;
 mod reader;
 mod shape;
 mod statement;
+mod token;
+mod tokenizer;
 
 pub use error::ChainTextError;
-pub use laws::one_chain_or_one_reason;
+pub use mark::Mark;
 pub use reader::read_chain;
+pub use token::{Placed, Token};
+pub use tokenizer::tokens;

@@ -5,7 +5,7 @@ ghost use Rattle.element_chain.specs.Wiring.{Leads, HasNoCycle, IsWithin, AreWit
 ghost use Rattle.chain_text.specs.Rows.{with_wire};
 ghost use Rattle.chain_text.specs.Reads.{most_elements};
 
-use element_chain::{Target, Wire, wires_lead};
+use element_chain::{Target, Wire};
 use gal_io::NoMemory;
 use std::alloc::Global;
 
@@ -113,7 +113,6 @@ pub(crate) fn has_cycle(alloc: Global, wires: &[Wire], count: usize) -> Result<b
     requires within { AreWithin count wires.now }
     ensures { IfOk result (λ found. MatchBool found ((e : ℕ) × Leads wires.now e e) (HasNoCycle wires.now)) }
 {
-    wires_lead();
     let reach = Reach::new(alloc, wires, count)?;
     Ok(reach.leads_back())
 }

@@ -1,8 +1,8 @@
 //! From a text to a chain.
 ghost use Rattle.std.specs.Prelude.{◌≡◌, ◌≢◌, ◌⊎◌, ◌≤◌, ℕ, List, length, map, count_by, IfOk, IfErr, MatchResult};
 ghost use Rattle.element_chain.specs.declared.chain.Chain.{Chain};
-ghost use Rattle.chain_tokens.specs.Token as chain;
-ghost use Rattle.chain_tokens.specs.Tokens.{placed_of};
+ghost use Rattle.chain_text.specs.Token as chain;
+ghost use Rattle.chain_text.specs.Tokens.{placed_of};
 ghost use Rattle.chain_text.specs.declared.error.ChainTextError.{ChainTextError};
 ghost use Rattle.chain_text.specs.Reads.{elements_of, most_elements, told, offset_at, IsSpelling, IsChainText};
 ghost use Rattle.chain_text.specs.Reads.{IsRefused, IsComposable};
@@ -14,8 +14,10 @@ use crate::error::ChainTextError;
 use crate::grammar::{GrammarError, parse};
 use crate::reach::has_cycle;
 use crate::statement::Statement;
-use chain_tokens::{Placed, TokenError, one_list_or_one_place, tokens};
+use crate::token::Placed;
+use crate::tokenizer::tokens;
 use element_chain::Chain;
+use lexer::TokenError;
 use std::alloc::Global;
 
 /// The most elements of a chain.
@@ -129,6 +131,5 @@ pub fn read_chain(alloc: Global, text: &[u8]) -> Result<Chain, ChainTextError>
     ensures found { (chain : Chain) → IsChainText text.now chain
         → MatchResult result (λ found. found ≡ chain) (λ e. e ≡ ChainTextError.NoMemory) }
 {
-    one_list_or_one_place();
     read_text(alloc, text)
 }

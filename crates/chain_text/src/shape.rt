@@ -1,9 +1,10 @@
 //! What the tokens of each kind of statement are.
 ghost use Rattle.std.specs.Prelude.{◌≡◌, ◌≤◌, ℕ, List, length};
-ghost use Rattle.chain_tokens.specs.Tokens.{token_of, tokens_of};
+ghost use Rattle.chain_text.specs.Tokens.{token_of, tokens_of};
 ghost use Rattle.chain_text.specs.Shapes.{fits, fit_of};
 
-use chain_tokens::{Mark, Placed, Token};
+use crate::mark::Mark;
+use crate::token::{Placed, Token};
 
 /// What a token has to be.
 #[derive(Clone, Copy, Debug)]

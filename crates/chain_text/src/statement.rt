@@ -4,7 +4,7 @@ ghost use Rattle.chain_text.specs.Grammar.{statement_tokens};
 ghost use Rattle.chain_text.specs.Statements.{statement_of};
 
 use crate::shape::{DECLARATION, WIRE};
-use chain_tokens::Span;
+use lexer::Span;
 
 /// A statement.
 #[derive(Clone, Copy, Debug)]

@@ -1,5 +1,5 @@
 -- Depths, found in rising order.
-use Rattle.std.proofs.Common.{◌≡◌, ℕ, suc, ◌+◌, ◌<◌, ◌≤◌, Bool, true, false, List, [], ◌∷◌, ◌++◌, inl, inr, refl, sym, ap, ◌∙◌, subst, arith, length}
+use Rattle.std.proofs.Common.{◌≡◌, ℕ, suc, ◌+◌, ◌<◌, ◌≤◌, Bool, false, List, [], ◌∷◌, ◌++◌, inl, inr, refl, sym, ap, ◌∙◌, subst, arith, length}
 use Rattle.std.specs.Prelude.{slice_get, slice_index, slice_index_or, if◌then◌else◌}
 use Rattle.std.proofs.lemmas.Option.{same_Some, slice_get_within}
 use Rattle.std.proofs.lemmas.List.{length_push, get_or_append_left, get_or_push, get_or_past}
@@ -10,16 +10,13 @@ use Rattle.flat_ir.specs.Kinds.{is_input}
 use Rattle.flat_ir.specs.Sets.{Reads, IsMarked, IsAt}
 use Rattle.flat_ir.specs.Stages.{deepest, depth_of, IsDepths}
 use Rattle.dependence.specs.Placed.{IsPlaced}
-
-if_low : (b : Bool) (n top : ℕ) → n ≤ top → (if b then n else 0) ≤ top
-if_low true n top l = l
-if_low false n top l = omega arith
+use Rattle.lemmas.proofs.Tests.{if_within}
 
 pub deepest_low : (members : List Bool) (depths : List ℕ) (top : ℕ) (vs : List ValueId) → ((j : ℕ) → slice_index depths j ≤ top) → deepest members depths vs ≤ top
 deepest_low members depths top [] l = omega arith
 deepest_low members depths top (v ∷ vs) l =
     let r = deepest_low members depths top vs l in
-    let h = if_low (slice_index_or members v.instruction false) (slice_index depths v.instruction) top (l v.instruction) in
+    let h = if_within (slice_index_or members v.instruction false) (slice_index depths v.instruction) top (l v.instruction) in
     omega arith
 
 pub deepest_push : (members : List Bool) (depths : List ℕ) (n : ℕ) (vs : List ValueId) → ((j : ℕ) → Reads vs j → j < length depths)
@@ -49,7 +46,7 @@ pub depths_more : (f : Program) (members : List Bool) (i : ℕ) (one : Step) (de
     → depth ≡ (if slice_index_or members i false then depth_of members depths one else 0)
     → IsDepthsSoFar f members i depths → IsDepthsSoFar f members (i + 1) (depths ++ depth ∷ [])
 depths_more f members i one depths depth good here is so =
-    let small : depth ≤ i + 1 = rw is (if_low (slice_index_or members i false) (depth_of members depths one) (i + 1) (depth_low members depths i one so.low)) in
+    let small : depth ≤ i + 1 = rw is (if_within (slice_index_or members i false) (depth_of members depths one) (i + 1) (depth_low members depths i one so.low)) in
     let last : slice_index (depths ++ depth ∷ []) i ≡ depth = get_or_push depths depth 0 i so.count in
     let before : (j : ℕ) → j < i → slice_index (depths ++ depth ∷ []) j ≡ slice_index depths j = λ j l. get_or_append_left depths (depth ∷ []) 0 j (let c = so.count in omega arith) in
     let kept : (j : ℕ) (other : Step) → j ≤ i → IsAt f j other → depth_of members (depths ++ depth ∷ []) other ≡ depth_of members depths other =

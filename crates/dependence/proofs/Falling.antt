@@ -4,7 +4,7 @@ use Rattle.std.specs.Prelude.{slice_index_or, IsTrue, not, ◌==◌}
 use Rattle.std.specs.List.{list_any, list_all}
 use Rattle.std.proofs.lemmas.Option.{same_Some, slice_get_within, slice_get-get_or}
 use Rattle.std.proofs.lemmas.List.{length-replicate}
-use Rattle.std.proofs.lemmas.Bool.{cases_lt, or_cases, or_left, or_right, eqb-true, eq-eqb, false≢true}
+use Rattle.std.proofs.lemmas.Bool.{cases_lt, or_cases, or_left, or_right, eqb-true, eq-eqb, false≢true, and_from, and_parts, not-true, not_from_false}
 use Rattle.flat_ir.specs.declared.program.ValueId.{ValueId}
 use Rattle.flat_ir.specs.Program.{Program, Step, const, step_at, operands}
 use Rattle.flat_ir.specs.Kinds.{fits_switch, is_mutable_look, is_field}
@@ -13,7 +13,7 @@ use Rattle.dependence.specs.Placed.{IsPlaced}
 use Rattle.dependence.specs.Guards.{AreGuards}
 use Rattle.dependence.specs.Uses.{is_user, users_of, AreUses}
 use Rattle.dependence.specs.Posted.{IsPostFrom}
-use Rattle.dependence.proofs.Marking.{marked_set_kept, marked_set_same, marked_set_cases, unset_marked, mark_cases, not_both, not_marked, and_true, true_and, not_true, true_not}
+use Rattle.dependence.proofs.Marking.{marked_set_kept, marked_set_same, marked_set_cases, unset_marked, mark_cases, not_both, not_marked}
 use Rattle.dependence.proofs.Placing.{step_there}
 use Rattle.dependence.proofs.Using.{of_users, to_users}
 
@@ -66,13 +66,13 @@ pub take_one : (f : Program) (uses : List (List ℕ)) (guards carried : List Boo
     → IsPostFrom f carried (i + 1) post → IsPostFrom f carried i (set post i true)
 take_one f uses guards carried i one post used guarded here fit may from =
     let inside = slice_get_within f.code i one here in
-    let a = and_true _ _ fit in
-    let b = and_true _ _ a.1 in
+    let a = and_parts _ _ fit in
+    let b = and_parts _ _ a.1 in
     let t : ℕ → Bool = λ u. slice_index_or post u false || slice_index_or carried u false in
-    let c = and_true (not (slice_index_or carried i false)) (not (slice_index_or guards i false) && list_all t (slice_index_or uses i [])) may in
-    let d = and_true (not (slice_index_or guards i false)) (list_all t (slice_index_or uses i [])) c.1 in
-    let alone = not_true (slice_index_or carried i false) c.0 in
-    let free = not_true (slice_index_or guards i false) d.0 in
+    let c = and_parts (not (slice_index_or carried i false)) (not (slice_index_or guards i false) && list_all t (slice_index_or uses i [])) may in
+    let d = and_parts (not (slice_index_or guards i false)) (list_all t (slice_index_or uses i [])) c.1 in
+    let alone = not-true (slice_index_or carried i false) c.0 in
+    let free = not-true (slice_index_or guards i false) d.0 in
     let there : list_all t (users_of f i) ≡ true = subst (λ us. list_all t us ≡ true) (used.users i inside) d.1 in
     record {
       count = length-set post i true ∙ from.count;
@@ -80,7 +80,7 @@ take_one f uses guards carried i one post used guarded here fit may from =
         apart = λ j h. elim (marked_set_cases post i j h) [ inl p ↦ from.closed.apart j p | inr q ↦ subst (λ x. slice_index_or carried x false ≡ false) (sym q) alone ];
         kinds = λ j h. elim (marked_set_cases post i j h) [
           | inl p ↦ from.closed.kinds j p
-          | inr q ↦ (one, subst (λ x. IsAt f x one) (sym q) here, (a.0, not_true _ b.0, not_true _ b.1))
+          | inr q ↦ (one, subst (λ x. IsAt f x one) (sym q) here, (a.0, not-true _ b.0, not-true _ b.1))
         ];
         readers = λ u j other h at r apart. elim (marked_set_cases post i j h) [
           | inl p ↦ marked_set_kept post i u (from.closed.readers u j other p at r apart)
@@ -126,8 +126,8 @@ closed_enters f uses guards carried i one post good used guarded here from other
     let all = to_users t (is_user f i) 0 (length f.code) each in
     let there : list_all t (slice_index_or uses i []) ≡ true = subst (λ us. list_all t us ≡ true) (sym (used.users i inside)) all in
     let free = not_marked guards i (λ m. c.guards i h (guarded.sound i m)) in
-    true_and _ _ (true_and _ _ k.0 (true_and _ _ (true_not _ k.1) (true_not _ k.2)))
-    (true_and _ _ (true_not _ (c.apart i h)) (true_and _ _ (true_not _ free) there))
+    and_from _ _ (and_from _ _ k.0 (and_from _ _ (not_from_false _ k.1) (not_from_false _ k.2)))
+    (and_from _ _ (not_from_false _ (c.apart i h)) (and_from _ _ (not_from_false _ free) there))
 
 -- an instruction stays out that no closed set has
 pub leave_out : (f : Program) (uses : List (List ℕ)) (guards carried : List Bool) (i : ℕ) (one : Step) (post : List Bool) → IsPlaced f

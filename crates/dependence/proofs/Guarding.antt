@@ -1,7 +1,7 @@
 -- From the values that decide on writes to their instructions.
-use Rattle.std.proofs.Common.{◌≡◌, ℕ, zero, suc, ◌+◌, ◌<◌, ◌≤◌, Bool, true, false, List, [], ◌∷◌, inl, inr, refl, sym, ap, ◌∙◌, subst, arith, length, get_or, take, set, replicate, length-set}
+use Rattle.std.proofs.Common.{◌≡◌, ℕ, zero, suc, ◌+◌, ◌<◌, ◌≤◌, Bool, true, false, List, [], ◌∷◌, inl, inr, sym, ap, ◌∙◌, subst, arith, length, get_or, take, set, replicate, length-set}
 use Rattle.std.specs.Prelude.{◌==◌}
-use Rattle.std.proofs.lemmas.Bool.{or_cases, or_left, or_right, and_parts, and_from, eqb-true, eq-eqb, false≢true}
+use Rattle.std.proofs.lemmas.Bool.{or_cases, or_left, or_right, and_parts, eqb-true, false≢true}
 use Rattle.std.proofs.lemmas.List.{length-replicate, take_all}
 use Rattle.std.proofs.lemmas.List.Folds.{list_any_more}
 use Rattle.flat_ir.specs.declared.program.ValueId.{ValueId}
@@ -10,6 +10,7 @@ use Rattle.flat_ir.specs.Guards.{guards_write}
 use Rattle.flat_ir.specs.Sets.{IsMarked, IsGuard}
 use Rattle.dependence.specs.Guards.{AreGuards}
 use Rattle.dependence.proofs.Marking.{marked_set_kept, marked_set_same, marked_set_cases, unset_marked}
+use Rattle.flat_ir.proofs.Exact.{same_itself}
 
 -- the marks are on the instructions of these values, which all decide on writes
 pub record AreMarkedFor (f : Program) (values : List ValueId) (marks : List Bool) : Type 0 where
@@ -24,13 +25,10 @@ none_marked f = record {
   complete = λ v h. absurd (false≢true h);
 }
 
-value_self : (v : ValueId) → is_value v v ≡ true
-value_self v = and_from (v.instruction == v.instruction) (v.result == v.result) (eq-eqb v.instruction v.instruction refl) (eq-eqb v.result v.result refl)
-
 -- each of some values is among them
 pub is_there : (vs : List ValueId) (i : ℕ) (d : ValueId) → i < length vs → is_among (get_or vs i d) vs ≡ true
 is_there [] i d h = absurd (omega arith)
-is_there (v ∷ vs) zero d h = or_left (is_value v v) (is_among v vs) (value_self v)
+is_there (v ∷ vs) zero d h = or_left (is_value v v) (is_among v vs) (same_itself v)
 is_there (v ∷ vs) (suc i) d h = or_right (is_value (get_or vs i d) v) (is_among (get_or vs i d) vs) (is_there vs i d (omega arith))
 
 -- one value more

@@ -6,7 +6,7 @@ use Rattle.std.proofs.lemmas.List.{get_or_past}
 use Rattle.std.proofs.lemmas.Bool.{cases_Bool}
 use Rattle.flat_ir.specs.declared.program.ValueId.{ValueId}
 use Rattle.flat_ir.specs.Program.{Program, Step, Work, operands}
-use Rattle.flat_ir.specs.Program.Work.{const, field, apply, shift, select, byte, look, put, del}
+use Rattle.flat_ir.specs.Program.Work.{const, field}
 use Rattle.flat_ir.specs.Kinds.{is_input}
 use Rattle.flat_ir.specs.Sets.{Reads, IsMarked}
 use Rattle.flat_ir.specs.Stages.{deepest, depth_of, IsDepths, IsStaged}
@@ -16,13 +16,7 @@ use Rattle.dependence.proofs.Marking.{mark_cases}
 given_reads : (work : Work) (j : ℕ) → is_input work ≡ true → Reads (operands work) j → ⊥
 given_reads (const width number) j h r = r
 given_reads (field name) j h r = r
-given_reads (apply op width args) j h r = cc
-given_reads (shift op width arg by) j h r = cc
-given_reads (select width cond first second) j h r = cc
-given_reads (byte index) j h r = cc
-given_reads (look object keys) j h r = cc
-given_reads (put object keys values) j h r = cc
-given_reads (del object keys) j h r = cc
+given_reads _ j h r = cc
 
 if_true : (b : Bool) (n : ℕ) → b ≡ true → (if b then n else 0) ≡ n
 if_true true n h = refl

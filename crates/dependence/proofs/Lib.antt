@@ -1,10 +1,11 @@
 mod Ahead
-mod Marking
-mod Placing
-mod Rising
+pub mod Marking
+pub mod Placing
+pub mod Rising
 mod Guarding
 mod Using
 mod Falling
 mod Deep
 mod Least
-mod Present
+pub mod Present
+pub mod Laws

@@ -1,8 +1,7 @@
 -- Marks, and the values that an instruction reads.
-use Rattle.std.proofs.Common.{◌≡◌, ℕ, zero, suc, ◌<◌, Bool, true, false, ◌&&◌, List, [], ◌∷◌, ◌++◌, ◌⊎◌, inl, inr, refl, ap, subst, arith, length, set, replicate}
-use Rattle.std.specs.Prelude.{slice_index_or, nat_lt, not}
-use Rattle.std.proofs.lemmas.Bool.Decides.{nat_tests}
-use Rattle.std.proofs.lemmas.Bool.{cases_Bool}
+use Rattle.std.proofs.Common.{◌≡◌, ℕ, zero, suc, ◌<◌, Bool, true, false, List, [], ◌∷◌, ◌++◌, ◌⊎◌, inl, inr, refl, ap, subst, arith, length, set, replicate}
+use Rattle.std.specs.Prelude.{slice_index_or}
+use Rattle.std.proofs.lemmas.Bool.{cases_Bool, and_from, and_parts}
 use Rattle.flat_ir.specs.declared.program.ValueId.{ValueId}
 use Rattle.flat_ir.specs.Sets.{Reads, IsMarked}
 use Rattle.dependence.specs.Marked.{are_marked}
@@ -27,45 +26,19 @@ marked_inside [] j h = cc
 marked_inside (m ∷ ms) zero h = omega arith
 marked_inside (m ∷ ms) (suc j) h = let r = marked_inside ms j h in omega arith
 
-pub and_true : (a b : Bool) → (a && b) ≡ true → (a ≡ true) × (b ≡ true)
-and_true true true h = (refl, refl)
-and_true true false h = cc
-and_true false b h = cc
-
-pub true_and : (a b : Bool) → a ≡ true → b ≡ true → (a && b) ≡ true
-true_and true true p q = refl
-true_and true false p q = cc
-true_and false b p q = cc
-
 pub all_read : (marks : List Bool) (vs : List ValueId) → are_marked marks vs ≡ true → (j : ℕ) → Reads vs j → IsMarked marks j
 all_read marks [] h j r = absurd r
-all_read marks (v ∷ vs) h j (inl e) = subst (IsMarked marks) e (and_true _ _ h).0
-all_read marks (v ∷ vs) h j (inr r) = all_read marks vs (and_true _ _ h).1 j r
+all_read marks (v ∷ vs) h j (inl e) = subst (IsMarked marks) e (and_parts _ _ h).0
+all_read marks (v ∷ vs) h j (inr r) = all_read marks vs (and_parts _ _ h).1 j r
 
 pub read_all : (marks : List Bool) (vs : List ValueId) → ((j : ℕ) → Reads vs j → IsMarked marks j) → are_marked marks vs ≡ true
 read_all marks [] h = refl
-read_all marks (v ∷ vs) h = true_and _ _ (h v.instruction (inl refl)) (read_all marks vs (λ j r. h j (inr r)))
-
-pub not_true : (b : Bool) → not b ≡ true → b ≡ false
-not_true true h = cc
-not_true false h = refl
-
-pub true_not : (b : Bool) → b ≡ false → not b ≡ true
-true_not true h = cc
-true_not false h = refl
-
-pub lt_true : (i k : ℕ) → nat_lt i k ≡ true → i < k
-lt_true i k h = grind (arith, nat_tests)
-
-pub true_lt : (i k : ℕ) → i < k → nat_lt i k ≡ true
-true_lt i k h = grind (arith, nat_tests)
+read_all marks (v ∷ vs) h = and_from _ _ (h v.instruction (inl refl)) (read_all marks vs (λ j r. h j (inr r)))
 
 pub marked_set_kept : (marks : List Bool) (i j : ℕ) → IsMarked marks j → IsMarked (set marks i true) j
-marked_set_kept [] i j h = h
 marked_set_kept (m ∷ ms) zero zero h = refl
-marked_set_kept (m ∷ ms) zero (suc j) h = h
-marked_set_kept (m ∷ ms) (suc i) zero h = h
 marked_set_kept (m ∷ ms) (suc i) (suc j) h = marked_set_kept ms i j h
+marked_set_kept _ _ _ h = h
 
 pub marked_set_same : (marks : List Bool) (i : ℕ) → i < length marks → IsMarked (set marks i true) i
 marked_set_same [] i h = absurd (omega arith)
@@ -73,11 +46,9 @@ marked_set_same (m ∷ ms) zero h = refl
 marked_set_same (m ∷ ms) (suc i) h = marked_set_same ms i (omega arith)
 
 pub marked_set_cases : (marks : List Bool) (i j : ℕ) → IsMarked (set marks i true) j → IsMarked marks j ⊎ (j ≡ i)
-marked_set_cases [] i j h = inl h
 marked_set_cases (m ∷ ms) zero zero h = inr refl
-marked_set_cases (m ∷ ms) zero (suc j) h = inl h
-marked_set_cases (m ∷ ms) (suc i) zero h = inl h
 marked_set_cases (m ∷ ms) (suc i) (suc j) h = elim (marked_set_cases ms i j h) [ inl p ↦ inl p | inr q ↦ inr (ap suc q) ]
+marked_set_cases _ _ _ h = inl h
 
 pub unset_marked : (n j : ℕ) → IsMarked (replicate n false) j → ⊥
 unset_marked zero j h = cc
@@ -93,21 +64,3 @@ not_both marks j h k = cc
 
 pub not_marked : (marks : List Bool) (j : ℕ) → (IsMarked marks j → ⊥) → slice_index_or marks j false ≡ false
 not_marked marks j h = elim (mark_cases marks j) [ inl p ↦ absurd (h p) | inr q ↦ q ]
-
-pub reads_append : (vs ws : List ValueId) (j : ℕ) → Reads (vs ++ ws) j → Reads vs j ⊎ Reads ws j
-reads_append [] ws j r = inr r
-reads_append (v ∷ vs) ws j (inl e) = inl (inl e)
-reads_append (v ∷ vs) ws j (inr r) = elim (reads_append vs ws j r) [ inl p ↦ inl (inr p) | inr q ↦ inr q ]
-
-pub append_reads : (vs ws : List ValueId) (j : ℕ) → Reads vs j ⊎ Reads ws j → Reads (vs ++ ws) j
-append_reads [] ws j h = elim h [ inl p ↦ absurd p | inr q ↦ q ]
-append_reads (v ∷ vs) ws j h = elim h [
-  | inl p ↦ elim p [ inl e ↦ inl e | inr r ↦ inr (append_reads vs ws j (inl r)) ]
-  | inr q ↦ inr (append_reads vs ws j (inr q))
-]
-
-pub reads_first_part : (vs ws : List ValueId) (j : ℕ) → Reads vs j → Reads (vs ++ ws) j
-reads_first_part vs ws j r = append_reads vs ws j (inl r)
-
-pub reads_second_part : (vs ws : List ValueId) (j : ℕ) → Reads ws j → Reads (vs ++ ws) j
-reads_second_part vs ws j r = append_reads vs ws j (inr r)

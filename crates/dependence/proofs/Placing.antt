@@ -13,7 +13,7 @@ use Rattle.flat_ir.specs.Blocks.{block_at}
 use Rattle.flat_ir.specs.WellFormed.{IsWellFormed}
 use Rattle.flat_ir.specs.Sets.{IsAt, Reads}
 use Rattle.dependence.specs.Placed.{IsPlaced}
-use Rattle.dependence.proofs.Marking.{and_true, lt_true}
+use Rattle.std.proofs.lemmas.Bool.{and_parts, ltb-true}
 
 -- the instruction that is there is the one that `step_at` gives
 pub step_there : (f : Program) (i : ℕ) (one : Step) → IsAt f i one → step_at f i ≡ one
@@ -35,7 +35,7 @@ placed f well = record {
   parents = well.parents;
   conditions = λ k within.
       let c = (block_at f.blocks k).cond in
-      lt_true c.instruction (length f.code) (and_true (nat_lt c.instruction (length f.code)) (nat_lt c.result (result_count f.objects (step_at f c.instruction).work)) (well.names_conditions k within)).0;
+      ltb-true c.instruction (length f.code) (and_parts (nat_lt c.instruction (length f.code)) (nat_lt c.result (result_count f.objects (step_at f c.instruction).work)) (well.names_conditions k within)).0;
 }
 
 -- an instruction that is read at its place is there in the program

@@ -1,8 +1,8 @@
 -- Every program has each of the sets, and depths.
-use Rattle.std.proofs.Common.{◌≡◌, ℕ, zero, suc, ◌+◌, ◌<◌, ◌≤◌, Bool, true, false, ◌&&◌, List, [], ◌∷◌, ◌++◌, inl, inr, refl, sym, ap, ◌∙◌, subst, arith, length, set, replicate, add-one}
+use Rattle.std.proofs.Common.{◌≡◌, ℕ, zero, suc, ◌+◌, ◌<◌, ◌≤◌, Bool, true, false, ◌&&◌, List, [], ◌∷◌, ◌++◌, inl, inr, refl, sym, ap, subst, arith, length, set, replicate, add-one}
 use Rattle.std.specs.Prelude.{slice_index_or, nat_lt, not, ◌==◌, if◌then◌else◌}
 use Rattle.std.specs.List.{list_any}
-use Rattle.std.proofs.lemmas.Bool.{cases_Bool, cases_lt, or_cases, or_left, or_right, and_from, and_parts, eq-eqb, eqb-true, false≢true}
+use Rattle.std.proofs.lemmas.Bool.{cases_Bool, or_cases, or_left, or_right, and_parts, eq-eqb, eqb-true, false≢true, and_from as true_and, and_parts as and_true}
 use Rattle.std.proofs.lemmas.Option.{slice_get-get_or}
 use Rattle.flat_ir.specs.declared.program.ValueId.{ValueId}
 use Rattle.flat_ir.specs.Program.{Program, const, step_at, any_below, is_value, operands}
@@ -17,11 +17,12 @@ use Rattle.dependence.specs.Guards.{AreGuards}
 use Rattle.dependence.specs.Uses.{AreUses}
 use Rattle.dependence.specs.Noted.{noted_all, AreUsesSoFar}
 use Rattle.dependence.specs.Posted.{IsPostFrom}
-use Rattle.dependence.proofs.Marking.{and_true, true_and}
 use Rattle.dependence.proofs.Rising.{IsSoFar, PreMay, CarriedMay, needed_of, operands_of, none_so_far, pre_more, carried_more, pre_done, carried_done}
 use Rattle.dependence.proofs.Deep.{IsDepthsSoFar, depths_none, depths_more, depths_done}
 use Rattle.dependence.proofs.Using.{no_users, more_users, all_users}
 use Rattle.dependence.proofs.Falling.{may, enters, take_one, leave_out, post_from_end, post_found}
+use Rattle.flat_ir.proofs.Exact.{same_itself}
+use Rattle.flat_ir.proofs.Passing.{any_passes, passes_any}
 
 -- ## Step by step
 
@@ -43,7 +44,7 @@ downwards {X} P n back (suc m) le x h =
     let here : (y : X) × P m y = back m x (omega arith) next in
     downwards P n back m (omega arith) here.0 here.1
 
-at_here : (f : Program) (i : ℕ) → i < length f.code → IsAt f i (step_at f i)
+pub at_here : (f : Program) (i : ℕ) → i < length f.code → IsAt f i (step_at f i)
 at_here f i within = slice_get-get_or f.code i (record { block = 0; looped = false; work = const 1 0 }) within
 
 -- ## Preprocessing and what is carried
@@ -117,20 +118,6 @@ true_listed zero test i l h = absurd (omega arith)
 true_listed (suc n) test zero l h = h
 true_listed (suc n) test (suc i) l h = true_listed n (λ j. test (suc j)) i (omega arith) h
 
-below_passes : (n : ℕ) (test : ℕ → Bool) → any_below n test ≡ true → (i : ℕ) × (i < n) × (test i ≡ true)
-below_passes zero test h = absurd (false≢true h)
-below_passes (suc n) test h = elim (or_cases (any_below n test) (test n) h) [
-  | inl p ↦ (let r = below_passes n test p in (r.0, omega (arith, r.1), r.2))
-  | inr q ↦ (n, omega arith, q)
-]
-
-passes_below : (n : ℕ) (test : ℕ → Bool) (i : ℕ) → i < n → test i ≡ true → any_below n test ≡ true
-passes_below zero test i l h = absurd (omega arith)
-passes_below (suc n) test i l h = elim (cases_lt i n) [
-  | inl lt ↦ or_left (any_below n test) (test n) (passes_below n test i lt h)
-  | inr ge ↦ let e : i ≡ n = omega arith in or_right (any_below n test) (test n) (ap test (sym e) ∙ h)
-]
-
 -- the block's condition is a result of instruction j
 abbrev is_condition_of : Program → ℕ → ℕ → Bool
 is_condition_of f j zero = false
@@ -140,9 +127,6 @@ is_condition_of f j (suc k) = (block_at f.blocks k).cond.instruction == j
 abbrev guards_of : Program → ℕ → Bool
 guards_of f j =
     any_below (length f.code) (λ i. is_write (step_at f i).work && list_any (is_condition_of f j) (line f.blocks (step_at f i).block))
-
-value_self : (v : ValueId) → is_value v v ≡ true
-value_self v = and_from (v.instruction == v.instruction) (v.result == v.result) (eq-eqb v.instruction v.instruction refl) (eq-eqb v.result v.result refl)
 
 same_instruction : (v w : ValueId) → is_value v w ≡ true → v.instruction ≡ w.instruction
 same_instruction v w h = eqb-true v.instruction w.instruction (and_parts (v.instruction == w.instruction) (v.result == w.result) h).0
@@ -155,7 +139,7 @@ condition_there f j (zero ∷ ks) h = condition_there f j ks h
 condition_there f j (suc k ∷ ks) h =
     let c : ValueId = (block_at f.blocks k).cond in
     elim (or_cases (c.instruction == j) (list_any (is_condition_of f j) ks) h) [
-      | inl e ↦ (c, eqb-true c.instruction j e, or_left (is_value c c) (list_any (is_condition f c) ks) (value_self c))
+      | inl e ↦ (c, eqb-true c.instruction j e, or_left (is_value c c) (list_any (is_condition f c) ks) (same_itself c))
       | inr r ↦ (let v = condition_there f j ks r in (v.0, v.1, or_right (is_condition f v.0 (suc k)) (list_any (is_condition f v.0) ks) v.2))
     ]
 
@@ -196,19 +180,19 @@ guards_present f good =
       record {
         count = length_listed (length f.code) (guards_of f);
         sound = λ j m.
-            let p = below_passes (length f.code) _ (listed_true (length f.code) (guards_of f) j m) in
+            let p = passes_any (length f.code) _ (listed_true (length f.code) (guards_of f) j m) in
             let both = and_true _ _ p.2 in
             let v = condition_there f j (line f.blocks (step_at f p.0).block) both.1 in
-            record { value = v.0; own = v.1; guards = passes_below (length f.code) _ p.0 p.1 (true_and _ _ both.0 v.2) };
+            record { value = v.0; own = v.1; guards = any_passes (length f.code) _ p.0 p.1 (true_and _ _ both.0 v.2) };
         complete = λ j g.
-            let p = below_passes (length f.code) _ g.guards in
+            let p = passes_any (length f.code) _ g.guards in
             let both = and_true _ _ p.2 in
             let own = line f.blocks (step_at f p.0).block in
             let low = good.blocks p.0 (step_at f p.0) (at_here f p.0 p.1) in
             let within = inside f g.value good (step_at f p.0).block (step_at f p.0).block low both.1 in
             subst (IsMarked marks) g.own
             (true_listed (length f.code) (guards_of f) g.value.instruction within
-            (passes_below (length f.code) _ p.0 p.1 (true_and _ _ both.0 (there_condition f g.value own both.1))));
+            (any_passes (length f.code) _ p.0 p.1 (true_and _ _ both.0 (there_condition f g.value own both.1))));
       },
     )
 

@@ -1,17 +1,17 @@
 -- A scan in rising order: the marks so far are closed, and every closed list of marks lies within them so far.
 use Rattle.std.proofs.Common.{◌≡◌, ℕ, ◌+◌, ◌<◌, Bool, true, false, ◌&&◌, List, [], ◌∷◌, ◌++◌, inl, inr, refl, sym, ap, ◌∙◌, subst, arith, length}
 use Rattle.std.specs.Prelude.{slice_get, slice_index_or, nat_lt, not, IsTrue}
-use Rattle.std.proofs.lemmas.Bool.{cases_lt}
+use Rattle.std.proofs.lemmas.Bool.{cases_lt, and_from, and_parts, lt-ltb, ltb-true, not-true, not_from_false}
 use Rattle.std.proofs.lemmas.Option.{same_Some, slice_get_within}
 use Rattle.std.proofs.lemmas.List.{length_push}
 use Rattle.flat_ir.specs.declared.program.ValueId.{ValueId}
 use Rattle.flat_ir.specs.Program.{Program, Step, Work, operands}
-use Rattle.flat_ir.specs.Program.Work.{const, field, apply, shift, select, byte, look, put, del}
+use Rattle.flat_ir.specs.Program.Work.{select}
 use Rattle.flat_ir.specs.Kinds.{needed, fits_switch, is_mutable_look}
 use Rattle.flat_ir.specs.Sets.{Reads, IsMarked, IsAt, IsPreClosed, IsCarriedClosed, IsGreatest}
 use Rattle.dependence.specs.Placed.{IsPlaced}
 use Rattle.dependence.specs.Marked.{are_marked}
-use Rattle.dependence.proofs.Marking.{marked_push_old, marked_push_cases, marked_push_last, all_read, read_all, and_true, true_and, not_true, true_not, lt_true, true_lt}
+use Rattle.dependence.proofs.Marking.{marked_push_old, marked_push_cases, marked_push_last, all_read, read_all}
 
 -- what may be in the set by itself, and what it wants of its operands
 pub record IsClosed (f : Program) (May : ℕ → Type 0) (wants : Step → List ValueId) (marks : List Bool) : Type 0 where
@@ -78,40 +78,7 @@ operands_of one = operands one.work
 pub needs_operand : (work : Work) (j : ℕ) → Reads (needed work) j → Reads (operands work) j
 needs_operand (select width cond first second) j (inl e) = inl e
 needs_operand (select width cond first second) j (inr r) = absurd r
-needs_operand (const width number) j r = r
-needs_operand (field name) j r = r
-needs_operand (apply op width args) j r = r
-needs_operand (shift op width arg by) j r = r
-needs_operand (byte index) j r = r
-needs_operand (look object keys) j r = r
-needs_operand (put object keys values) j r = r
-needs_operand (del object keys) j r = r
-
-pub pre_closed : (f : Program) (k : ℕ) (marks : List Bool) → IsClosed f (PreMay f k) needed_of marks → IsPreClosed f k marks
-pre_closed f k marks c = record {
-  below = λ i h. (c.may i h).0;
-  kinds = λ i h. (c.may i h).1;
-  needs = c.wanted;
-}
-
-pub closed_pre : (f : Program) (k : ℕ) (marks : List Bool) → IsPreClosed f k marks → IsClosed f (PreMay f k) needed_of marks
-closed_pre f k marks c = record {
-  may = λ i h. (c.below i h, c.kinds i h);
-  wanted = c.needs;
-}
-
-pub carried_closed : (f : Program) (pre marks : List Bool) → IsClosed f (CarriedMay f pre) operands_of marks → IsCarriedClosed f pre marks
-carried_closed f pre marks c = record {
-  within = λ i h. (c.may i h).0;
-  looks = λ i h. (c.may i h).1;
-  operands = c.wanted;
-}
-
-pub closed_carried : (f : Program) (pre marks : List Bool) → IsCarriedClosed f pre marks → IsClosed f (CarriedMay f pre) operands_of marks
-closed_carried f pre marks c = record {
-  may = λ i h. (c.within i h, c.looks i h);
-  wanted = c.operands;
-}
+needs_operand _ j r = r
 
 pub same_instr : (f : Program) (i : ℕ) (one other : Step) → IsAt f i one → IsAt f i other → other ≡ one
 same_instr f i one other h k = same_Some other one (sym k ∙ h)
@@ -122,8 +89,8 @@ pub pre_more : (f : Program) (k i : ℕ) (one : Step) (pre : List Bool) (mark : 
 pre_more f k i one pre mark good here is so =
     more_so_far f (PreMay f k) needed_of i one pre mark here
     (λ j r. good.operands i j one here (needs_operand one.work j r))
-    (λ h. let a = and_true _ _ (sym is ∙ h) in let b = and_true _ _ a.1 in ((lt_true i k a.0, (one, here, b.0)), b.1))
-    (λ m all. is ∙ true_and _ _ (true_lt i k m.0) (true_and _ _ (subst (λ x. fits_switch x ≡ true) (same_instr f i one m.1.0 here m.1.1) m.1.2) all))
+    (λ h. let a = and_parts _ _ (sym is ∙ h) in let b = and_parts _ _ a.1 in ((ltb-true i k a.0, (one, here, b.0)), b.1))
+    (λ m all. is ∙ and_from _ _ (lt-ltb i k m.0) (and_from _ _ (subst (λ x. fits_switch x ≡ true) (same_instr f i one m.1.0 here m.1.1) m.1.2) all))
     so
 
 pub carried_more : (f : Program) (i : ℕ) (one : Step) (pre carried : List Bool) (mark : Bool) → IsPlaced f → IsAt f i one
@@ -132,24 +99,24 @@ pub carried_more : (f : Program) (i : ℕ) (one : Step) (pre carried : List Bool
 carried_more f i one pre carried mark good here is so =
     more_so_far f (CarriedMay f pre) operands_of i one carried mark here
     (λ j r. good.operands i j one here r)
-    (λ h. let a = and_true _ _ (sym is ∙ h) in let b = and_true _ _ a.1 in ((a.0, (one, here, not_true _ b.0)), b.1))
-    (λ m all. is ∙ true_and _ _ m.0 (true_and _ _ (true_not _ (subst (λ x. is_mutable_look f x.work ≡ false) (same_instr f i one m.1.0 here m.1.1) m.1.2)) all))
+    (λ h. let a = and_parts _ _ (sym is ∙ h) in let b = and_parts _ _ a.1 in ((a.0, (one, here, not-true _ b.0)), b.1))
+    (λ m all. is ∙ and_from _ _ m.0 (and_from _ _ (not_from_false _ (subst (λ x. is_mutable_look f x.work ≡ false) (same_instr f i one m.1.0 here m.1.1) m.1.2)) all))
     so
 
 pub pre_done : (f : Program) (k : ℕ) (pre : List Bool) → IsSoFar f (PreMay f k) needed_of (length f.code) pre → IsGreatest f (IsPreClosed f k) pre
 pre_done f k pre so = record {
   count = so.count;
-  closed = pre_closed f k pre so.closed;
+  closed = record { below = λ i h. (so.closed.may i h).0; kinds = λ i h. (so.closed.may i h).1; needs = so.closed.wanted };
   greatest = λ others c i h.
       let e = c.kinds i h in
-      so.greatest others (closed_pre f k others c) i (slice_get_within f.code i e.0 e.1) h;
+      so.greatest others (record { may = λ j m. (c.below j m, c.kinds j m); wanted = c.needs }) i (slice_get_within f.code i e.0 e.1) h;
 }
 
 pub carried_done : (f : Program) (pre carried : List Bool) → IsSoFar f (CarriedMay f pre) operands_of (length f.code) carried → IsGreatest f (IsCarriedClosed f pre) carried
 carried_done f pre carried so = record {
   count = so.count;
-  closed = carried_closed f pre carried so.closed;
+  closed = record { within = λ i h. (so.closed.may i h).0; looks = λ i h. (so.closed.may i h).1; operands = so.closed.wanted };
   greatest = λ others c i h.
       let e = c.looks i h in
-      so.greatest others (closed_carried f pre others c) i (slice_get_within f.code i e.0 e.1) h;
+      so.greatest others (record { may = λ j m. (c.within j m, c.looks j m); wanted = c.operands }) i (slice_get_within f.code i e.0 e.1) h;
 }

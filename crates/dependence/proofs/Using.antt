@@ -1,42 +1,31 @@
 -- Users that are noted one after the other.
-use Rattle.std.proofs.Common.{◌≡◌, ℕ, zero, suc, ◌+◌, ◌-◌, ◌<◌, ◌≤◌, Bool, true, false, ◌&&◌, ◌||◌, cond, List, [], ◌∷◌, ◌++◌, inl, inr, refl, sym, ap, ◌∙◌, subst, arith, length, set, replicate, length-set, length-append}
+use Rattle.std.proofs.Common.{◌≡◌, ℕ, zero, suc, ◌+◌, ◌-◌, ◌<◌, ◌≤◌, Bool, true, false, ◌||◌, cond, List, [], ◌∷◌, ◌++◌, inl, inr, refl, sym, ap, ◌∙◌, subst, arith, length, set, replicate, length-set, length-append}
 use Rattle.std.specs.Prelude.{slice_index_or, slice_index, ◌==◌, if◌then◌else◌, All}
 use Rattle.std.specs.List.{list_any, list_all, filter, range_with_len}
-use Rattle.std.proofs.lemmas.Bool.{cases_lt, cases_eq, cases_Bool, eq-eqb, eqb-true, false≢true}
-use Rattle.std.proofs.lemmas.List.{length-replicate, get_or-set_same, get_or-set_other}
+use Rattle.std.proofs.lemmas.Bool.{ne_eqb, cases_eq, cases_Bool, eq-eqb, false≢true, and_from, and_parts, and_right, lt-ltb}
+use Rattle.std.proofs.lemmas.List.{append-nil, length-replicate, get_or_push, get_or-set_same, get_or-set_other}
 use Rattle.std.proofs.lemmas.List.Elements.{filter-append, All-filter}
 use Rattle.std.proofs.lemmas.List.FromFn.{length-range_with_len, get_or-range_with_len}
 use Rattle.flat_ir.specs.declared.program.ValueId.{ValueId}
 use Rattle.flat_ir.specs.Program.{Program, step_at, operands}
 use Rattle.dependence.specs.Uses.{is_user, AreUses}
 use Rattle.dependence.specs.Noted.{is_last, noted, noted_at, noted_all, AreUsesSoFar}
-use Rattle.dependence.proofs.Marking.{true_and, true_lt}
+use Rattle.lemmas.proofs.Lists.{range_pushed}
 
 -- ## One list
-
-pub and_false : (a b : Bool) → b ≡ false → (a && b) ≡ false
-and_false true b h = h
-and_false false b h = refl
-
-lower_differs : (m n : ℕ) → m < n → (m == n) ≡ false
-lower_differs m n l = elim (cases_Bool (m == n)) [ inl t ↦ (let e = eqb-true m n t in absurd (omega arith)) | inr f ↦ f ]
 
 last_low : (row : List ℕ) (n : ℕ) → All (λ m. m < n) row → is_last row n ≡ false
 last_low [] n h = refl
 last_low (m ∷ ms) n h =
     let l = h (length (m ∷ ms) - 1) 0 (omega arith) in
-    and_false _ _ (lower_differs (slice_index (m ∷ ms) (length (m ∷ ms) - 1)) n l)
-
-last_at : (row : List ℕ) (n : ℕ) → slice_index (row ++ n ∷ []) (length row) ≡ n
-last_at [] n = refl
-last_at (m ∷ ms) n = last_at ms n
+    and_right _ _ (ne_eqb (slice_index (m ∷ ms) (length (m ∷ ms) - 1)) n (λ e. omega (arith, e, l)))
 
 last_here : (row : List ℕ) (n : ℕ) → is_last (row ++ n ∷ []) n ≡ true
 last_here row n =
     let count = length-append row (n ∷ []) in
     let before : length (row ++ n ∷ []) - 1 ≡ length row = omega arith in
-    true_and _ _ (true_lt 0 (length (row ++ n ∷ [])) (omega arith))
-    (eq-eqb _ _ (ap (λ k. slice_index (row ++ n ∷ []) k) before ∙ last_at row n))
+    and_from _ _ (lt-ltb 0 (length (row ++ n ∷ [])) (omega arith))
+    (eq-eqb _ _ (ap (λ k. slice_index (row ++ n ∷ []) k) before ∙ get_or_push row n 0 (length row) refl))
 
 noted_kept : (row : List ℕ) (n : ℕ) → is_last row n ≡ true → noted row n ≡ row
 noted_kept row n h = ap (λ b. if b then row else row ++ n ∷ []) h
@@ -80,7 +69,7 @@ row_noted rows n (v ∷ vs) j l =
           step ∙ ap (λ r. noted_if rest r n) own ∙ noted_if_again rest (slice_index_or rows j []) n
           ∙ ap (λ b. noted_if (b || rest) (slice_index_or rows j []) n) (sym t)
       | inr ne ↦
-          let f : (v.instruction == j) ≡ false = elim (cases_Bool (v.instruction == j)) [ inl t ↦ absurd (ne (eqb-true v.instruction j t)) | inr q ↦ q ] in
+          let f : (v.instruction == j) ≡ false = ne_eqb v.instruction j ne in
           let own : slice_index_or (set rows v.instruction here) j [] ≡ slice_index_or rows j [] =
           get_or-set_other rows v.instruction j here [] (λ q. ne (sym q)) in
           step ∙ ap (λ r. noted_if rest r n) own ∙ ap (λ b. noted_if (b || rest) (slice_index_or rows j []) n) (sym f)
@@ -88,19 +77,11 @@ row_noted rows n (v ∷ vs) j l =
 
 -- ## The users among the first instructions
 
-range_more : (a n : ℕ) → range_with_len a (suc n) ≡ range_with_len a n ++ (a + n) ∷ []
-range_more a zero = ap (λ x. x ∷ []) (let e : a ≡ a + 0 = omega arith in e)
-range_more a (suc n) = ap (λ xs. a ∷ xs) (range_more (a + 1) n ∙ ap (λ x. range_with_len (a + 1) n ++ x ∷ []) (let e : a + 1 + n ≡ a + suc n = omega arith in e))
-
 range_low : (n : ℕ) → All (λ m. m < n) (range_with_len 0 n)
 range_low n k d l =
     let c = length-range_with_len 0 n in
     let e = get_or-range_with_len 0 n k d (omega arith) in
     omega arith
-
-append_none : (xs : List ℕ) → xs ++ [] ≡ xs
-append_none [] = refl
-append_none (x ∷ xs) = ap (λ ys. x ∷ ys) (append_none xs)
 
 filter_more : (p : ℕ → Bool) (n : ℕ) → filter p (range_with_len 0 (n + 1)) ≡ noted_if (p n) (filter p (range_with_len 0 n)) n
 filter_more p n =
@@ -109,10 +90,10 @@ filter_more p n =
     let e : 0 + n ≡ n = omega arith in
     let one_more : n + 1 ≡ suc n = omega arith in
     let begin : filter p (range_with_len 0 (n + 1)) ≡ row ++ filter p (n ∷ []) =
-    ap (filter p) (ap (range_with_len 0) one_more ∙ range_more 0 n ∙ ap (λ x. range_with_len 0 n ++ x ∷ []) e) ∙ filter-append p (range_with_len 0 n) (n ∷ []) in
+    ap (filter p) (ap (range_with_len 0) one_more ∙ range_pushed 0 n ∙ ap (λ x. range_with_len 0 n ++ x ∷ []) e) ∙ filter-append p (range_with_len 0 n) (n ∷ []) in
     elim (cases_Bool (p n)) [
       | inl t ↦ begin ∙ ap (λ b. row ++ cond b (n ∷ []) []) t ∙ sym new ∙ ap (λ b. noted_if b row n) (sym t)
-      | inr f ↦ begin ∙ ap (λ b. row ++ cond b (n ∷ []) []) f ∙ append_none row ∙ ap (λ b. noted_if b row n) (sym f)
+      | inr f ↦ begin ∙ ap (λ b. row ++ cond b (n ∷ []) []) f ∙ append-nil row ∙ ap (λ b. noted_if b row n) (sym f)
     ]
 
 no_row : (n j : ℕ) → slice_index_or (replicate n (let none : List ℕ = [] in none)) j [] ≡ []
@@ -143,25 +124,18 @@ all_users f n uses e so = record {
 
 -- ## What holds of each user
 
-both_true : (a b : Bool) → (a && b) ≡ true → (a ≡ true) × (b ≡ true)
-both_true true b h = (refl, h)
-both_true false b h = cc
-
-above : (u a : ℕ) → (u ≡ a → ⊥) → a ≤ u → a + 1 ≤ u
-above u a ne le = elim (cases_lt a u) [ inl l ↦ omega arith | inr g ↦ absurd (ne (omega arith)) ]
-
 pub of_users : (t p : ℕ → Bool) (a n u : ℕ) → list_all t (filter p (range_with_len a n)) ≡ true → a ≤ u → u < a + n → p u ≡ true → t u ≡ true
 of_users t p a zero u h le l q = absurd (omega arith)
 of_users t p a (suc n) u h le l q = elim (cases_Bool (p a)) [
-  | inl y ↦ let both = both_true (t a) _ (subst (λ b. list_all t (cond b (a ∷ filter p (range_with_len (a + 1) n)) (filter p (range_with_len (a + 1) n))) ≡ true) y h) in
+  | inl y ↦ let both = and_parts (t a) _ (subst (λ b. list_all t (cond b (a ∷ filter p (range_with_len (a + 1) n)) (filter p (range_with_len (a + 1) n))) ≡ true) y h) in
       elim (cases_eq u a) [
         | inl e ↦ subst (λ x. t x ≡ true) (sym e) both.0
-        | inr ne ↦ of_users t p (a + 1) n u both.1 (above u a ne le) (omega arith) q
+        | inr ne ↦ of_users t p (a + 1) n u both.1 (omega arith) (omega arith) q
       ]
   | inr z ↦ let rest = subst (λ b. list_all t (cond b (a ∷ filter p (range_with_len (a + 1) n)) (filter p (range_with_len (a + 1) n))) ≡ true) z h in
       elim (cases_eq u a) [
         | inl e ↦ absurd (false≢true (sym z ∙ subst (λ x. p x ≡ true) e q))
-        | inr ne ↦ of_users t p (a + 1) n u rest (above u a ne le) (omega arith) q
+        | inr ne ↦ of_users t p (a + 1) n u rest (omega arith) (omega arith) q
       ]
 ]
 
@@ -170,6 +144,6 @@ to_users t p a zero h = refl
 to_users t p a (suc n) h =
     let rest = to_users t p (a + 1) n (λ u l q. h u (omega arith) q) in
     elim (cases_Bool (p a)) [
-      | inl y ↦ subst (λ b. list_all t (cond b (a ∷ filter p (range_with_len (a + 1) n)) (filter p (range_with_len (a + 1) n))) ≡ true) (sym y) (true_and _ _ (h a (omega arith) y) rest)
+      | inl y ↦ subst (λ b. list_all t (cond b (a ∷ filter p (range_with_len (a + 1) n)) (filter p (range_with_len (a + 1) n))) ≡ true) (sym y) (and_from _ _ (h a (omega arith) y) rest)
       | inr z ↦ subst (λ b. list_all t (cond b (a ∷ filter p (range_with_len (a + 1) n)) (filter p (range_with_len (a + 1) n))) ≡ true) (sym z) rest
     ]

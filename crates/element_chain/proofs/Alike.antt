@@ -1,7 +1,7 @@
 -- A run of an element by itself, and its run where it stands in the whole.
-use Rattle.std.proofs.Common.{◌≡◌, ◌≢◌, ℕ, zero, suc, ◌<◌, ◌==◌, ◌||◌, Bool, true, false, cond, List, [], ◌∷◌, ◌++◌, length, refl, sym, ap, ◌∙◌, arith, slice_index, true≢false, Option, Some, None}
+use Rattle.std.proofs.Common.{◌≡◌, ◌≢◌, ℕ, zero, suc, ◌<◌, ◌==◌, Bool, true, false, cond, List, [], ◌∷◌, ◌++◌, length, refl, sym, ap, ◌∙◌, arith, slice_index, true≢false, Option, Some, None}
 use Rattle.std.specs.List.{list_any}
-use Rattle.std.proofs.lemmas.Bool.{eqb-true}
+use Rattle.std.proofs.lemmas.Bool.{eqb-true, or_left, or_right}
 use Rattle.gal_bits.specs.Operators.{value_of as operator_value}
 use Rattle.packet_fields.specs.declared.field.Field.{Field}
 use Rattle.packet_fields.specs.declared.field.Field.TheVariants.{MetaPort}
@@ -20,9 +20,9 @@ use Rattle.element_lang.specs.Meaning.{State, Outcome, Running, Ended, then_do, 
 use Rattle.element_chain.specs.Chain.{After}
 use Rattle.element_chain.specs.Compose.{Numbering, Spot, seen, renamed, all_renamed, followed, joined}
 use Rattle.element_chain.specs.Laws.{reads_bytes, any_reads_bytes}
-use Rattle.element_chain.proofs.Tests.{left, right}
 use Rattle.element_lang.specs.KeptRuns.{Fits, FitsOutcome}
 use Rattle.element_chain.proofs.Numbers.{Extends, IsNumbered}
+use Rattle.lemmas.proofs.Tests.{and_first, and_second}
 
 -- An element in a run of the whole: the widths of all locals, the packet that came to the entry and the one that came to
 -- the element, the objects before and behind its own, which fields some element sets, and what becomes of its verdict.
@@ -143,23 +143,13 @@ seen_value : (widths : List ℕ) (packet : Packet) (s t : State) (port : Option 
 seen_value widths packet s t None f port rest = all_same t.fields s.fields (field_index f) port rest
 seen_value widths packet s t (Some j) f port rest = seen_value_by widths packet s t j f (field_index f == 0) refl port rest
 
-pub either_left : (a b : Bool) → a ≡ true → (a || b) ≡ true
-either_left true b e = refl
-either_left false b e = absurd (true≢false (sym e))
-
-pub either_right : (a b : Bool) → b ≡ true → (a || b) ≡ true
-either_right true b e = refl
-either_right false b e = e
-
 module _ (i : Instance) (n : Numbering) (scope : List ℕ) (numbered : IsNumbered (local_widths i.m) n) (within : (x : ℕ) → IsIn x scope → x < length n.names)
     (grown : Extends n.widths i.widths) (s t : State) (alike : Alike i scope n.names s t) where
   width_alike : (e : ExprTree) → is_good_expr (local_widths i.m) scope e ≡ true → width_of i.widths (renamed i.port n.names e) ≡ width_of (local_widths i.m) e
-  width_alike (lit value width) good = refl
   width_alike (local x) good = grown.same (slice_index n.names x) (numbered.below x (within x good)) ∙ numbered.wide x (within x good)
   width_alike (field f) good = seen_width i.widths i.port f
-  width_alike (byte index) good = refl
-  width_alike (shift op by arg) good = width_alike arg (right _ _ good)
-  width_alike (apply op width args) good = refl
+  width_alike (shift op by arg) good = width_alike arg (and_second _ _ good)
+  width_alike _ good = refl
 
   mutual
     pub value_alike : (e : ExprTree) → is_good_expr (local_widths i.m) scope e ≡ true → (reads_bytes e ≡ true → i.own.bytes ≡ i.whole.bytes)
@@ -168,18 +158,18 @@ module _ (i : Instance) (n : Numbering) (scope : List ℕ) (numbered : IsNumbere
     value_alike (local x) good bytes = alike.locals x good
     value_alike (field f) good bytes = seen_value i.widths i.whole s t i.port f alike.port alike.fields
     value_alike (byte index) good bytes =
-        ap (slice_index i.whole.bytes) (value_alike index (left _ _ good) (λ _. bytes refl))
+        ap (slice_index i.whole.bytes) (value_alike index (and_first _ _ good) (λ _. bytes refl))
         ∙ ap (λ b. slice_index b (value_of (local_widths i.m) i.own index s)) (sym (bytes refl))
     value_alike (shift op by arg) good bytes =
-        ap (λ v. operator_value op (width_of i.widths (renamed i.port n.names arg)) (v ∷ by ∷ [])) (value_alike arg (right _ _ good) bytes)
-        ∙ ap (λ w. operator_value op w (value_of (local_widths i.m) i.own arg s ∷ by ∷ [])) (width_alike arg (right _ _ good))
-    value_alike (apply op width args) good bytes = ap (operator_value op width) (values_alike args (left _ _ good) bytes)
+        ap (λ v. operator_value op (width_of i.widths (renamed i.port n.names arg)) (v ∷ by ∷ [])) (value_alike arg (and_second _ _ good) bytes)
+        ∙ ap (λ w. operator_value op w (value_of (local_widths i.m) i.own arg s ∷ by ∷ [])) (width_alike arg (and_second _ _ good))
+    value_alike (apply op width args) good bytes = ap (operator_value op width) (values_alike args (and_first _ _ good) bytes)
 
     pub values_alike : (es : Exprs) → are_good_exprs (local_widths i.m) scope es ≡ true → (any_reads_bytes es ≡ true → i.own.bytes ≡ i.whole.bytes)
         → values_of i.widths i.whole (all_renamed i.port n.names es) t ≡ values_of (local_widths i.m) i.own es s
     values_alike no_expr good bytes = refl
     values_alike (expr e es) good bytes =
         ap (λ v. v ∷ values_of i.widths i.whole (all_renamed i.port n.names es) t)
-        (value_alike e (left _ _ good) (λ h. bytes (either_left (reads_bytes e) (any_reads_bytes es) h)))
+        (value_alike e (and_first _ _ good) (λ h. bytes (or_left (reads_bytes e) (any_reads_bytes es) h)))
         ∙ ap (λ vs. value_of (local_widths i.m) i.own e s ∷ vs)
-        (values_alike es (right (is_good_expr (local_widths i.m) scope e) _ good) (λ h. bytes (either_right (reads_bytes e) (any_reads_bytes es) h)))
+        (values_alike es (and_second (is_good_expr (local_widths i.m) scope e) _ good) (λ h. bytes (or_right (reads_bytes e) (any_reads_bytes es) h)))

@@ -1,6 +1,6 @@
 -- The body of an element by itself, and where it stands in the whole.
 use Rattle.std.proofs.Common.{◌≡◌, ℕ, suc, ◌+◌, ◌<◌, ◌≤◌, ◌%◌, ◌^◌, ◌==◌, Bool, true, false, cond, List, [], ◌∷◌, ◌++◌, length, nat_le, refl, sym, ap, ◌∙◌, subst, arith, slice_index, slice_get, mod-eq_of_lt, eq-eqb}
-use Rattle.std.proofs.lemmas.Bool.{eqb-true, leb-true}
+use Rattle.std.proofs.lemmas.Bool.{eqb-true, leb-true, or_left, or_right}
 use Rattle.std.proofs.lemmas.List.{length_push}
 use Rattle.packet_fields.specs.Arrivals.{IsArrival}
 use Rattle.packet_fields.specs.declared.field.Field.{Field}
@@ -19,13 +19,13 @@ use Rattle.element_lang.specs.Meaning.{State, Outcome, Running, Ended, then_do, 
 use Rattle.element_chain.specs.Chain.{After}
 use Rattle.element_chain.specs.Compose.{Numbering, Spot, Sends, one, renamed, all_renamed, joined, declared, all_declared, numbers, stmt_placed, body_placed, sets, sets_in}
 use Rattle.element_chain.specs.Laws.{reads_bytes, any_reads_bytes, uses_bytes, any_uses_bytes}
-use Rattle.element_chain.proofs.Tests.{left, right}
 use Rattle.packet_fields.specs.FieldOrder.{index-lt, field_width_at}
 use Rattle.element_lang.specs.KeptRuns.{Fits, value_fits, bound_fits, stmt_fits, body_fits}
 use Rattle.element_chain.proofs.Numbers.{Extends, extends_more, IsNumbered, carries_one, stmt_carries, body_carries, the_first}
 use Rattle.element_chain.proofs.Sent.{written_behind_port, written_same}
-use Rattle.element_chain.proofs.Alike.{Instance, spot_of, IsIn, Alike, AlikeOutcomes, then_alike, fewer_outcomes, do_followed, value_alike, values_alike, either_left, either_right}
+use Rattle.element_chain.proofs.Alike.{Instance, spot_of, IsIn, Alike, AlikeOutcomes, then_alike, fewer_outcomes, do_followed, value_alike, values_alike}
 use Rattle.element_chain.proofs.Steps.{bound_alike, assigned_alike, field_alike, put_alike, del_alike, look_alike, turns_alike, declared_there, counted_within}
+use Rattle.lemmas.proofs.Tests.{and_first, and_second}
 
 abbrev pub ended : After → Outcome
 ended a = Ended (joined a.stores) a.verdict
@@ -79,16 +79,16 @@ more_names scope names others grown within x is = (is, grown.same x (within x is
 
 in_behind : (xs scope : List ℕ) (x : ℕ) → IsIn x scope → IsIn x (xs ++ scope)
 in_behind [] scope x is = is
-in_behind (y ∷ xs) scope x is = either_right (y == x) _ (in_behind xs scope x is)
+in_behind (y ∷ xs) scope x is = or_right (y == x) _ (in_behind xs scope x is)
 
 -- a statement's locals have numbers behind it
 pub bound_within : (m : Tree) (s : StmtTree) (scope : List ℕ) (next : ℕ) → is_good_stmt m scope next s ≡ true → ((y : ℕ) → IsIn y scope → y < next) → (y : ℕ) → IsIn y (binds s ++ scope) → y < next + declared_in s
-bound_within m (let_local x value) scope next good within y is = counted_within next (x ∷ []) scope y (right _ _ (left _ _ good)) within is
+bound_within m (let_local x value) scope next good within y is = counted_within next (x ∷ []) scope y (and_second _ _ (and_first _ _ good)) within is
 bound_within m (assign x value) scope next good within y is = omega (arith, within y is)
 bound_within m (set_field f value) scope next good within y is = omega (arith, within y is)
-bound_within m (look found into object keys) scope next good within y is = counted_within next (found ∷ into) scope y (right _ _ (left _ _ good)) within is
-bound_within m (put ok object keys values) scope next good within y is = counted_within next (ok ∷ []) scope y (right _ _ (left _ _ good)) within is
-bound_within m (del was object keys) scope next good within y is = counted_within next (was ∷ []) scope y (right _ _ (left _ _ good)) within is
+bound_within m (look found into object keys) scope next good within y is = counted_within next (found ∷ into) scope y (and_second _ _ (and_first _ _ good)) within is
+bound_within m (put ok object keys values) scope next good within y is = counted_within next (ok ∷ []) scope y (and_second _ _ (and_first _ _ good)) within is
+bound_within m (del was object keys) scope next good within y is = counted_within next (was ∷ []) scope y (and_second _ _ (and_first _ _ good)) within is
 bound_within m (choose cond first second) scope next good within y is = omega (arith, within y is)
 bound_within m (repeat index count body) scope next good within y is = omega (arith, within y is)
 bound_within m (send port) scope next good within y is = omega (arith, within y is)
@@ -135,26 +135,26 @@ module _ (i : Instance) (sent : Sends) (ready : IsReady i sent) where
     stmt_alike scope next (let_local x value) n is good numbered within room grown bytes set a t fits alike =
         let carries = stmt_carries i.m (spot_of i) sent ready.grow scope next (let_local x value) n is good numbered in
         let old = extends_more n.widths (declared (spot_of i) x n).widths i.widths carries.widths grown in
-        let first : x ≡ next = the_first next x [] (right _ _ (left _ _ good)) in
-        let same = value_alike i n scope numbered within old a t alike value (left _ _ (left _ _ (left _ _ good))) bytes in
+        let first : x ≡ next = the_first next x [] (and_second _ _ (and_first _ _ good)) in
+        let same = value_alike i n scope numbered within old a t alike value (and_first _ _ (and_first _ _ (and_first _ _ good))) bytes in
         subst (λ v. Alike i (x ∷ scope) (declared (spot_of i) x n).names (bound x (value_of (local_widths i.m) i.own value a) a) (bound (length n.widths) v t)) (sym same)
         (bound_alike i scope n x (value_of (local_widths i.m) i.own value a) a t (first ∙ is) numbered within (omega (arith, first, room))
         (omega (arith, grown.longer, length_push n.widths (slice_index (local_widths i.m) x))) alike)
     stmt_alike scope next (assign x value) n is good numbered within room grown bytes set a t fits alike =
-        let same = value_alike i n scope numbered within grown a t alike value (left _ _ (left _ _ good)) bytes in
+        let same = value_alike i n scope numbered within grown a t alike value (and_first _ _ (and_first _ _ good)) bytes in
         subst (λ v. Alike i scope n.names (bound x (value_of (local_widths i.m) i.own value a) a) (bound (slice_index n.names x) v t)) (sym same)
-        (assigned_alike i scope n x (value_of (local_widths i.m) i.own value a) a t numbered within (right _ _ (left _ _ good)) (omega (arith, room, is)) grown.longer alike)
+        (assigned_alike i scope n x (value_of (local_widths i.m) i.own value a) a t numbered within (and_second _ _ (and_first _ _ good)) (omega (arith, room, is)) grown.longer alike)
     stmt_alike scope next (set_field f value) n is good numbered within room grown bytes set a t fits alike =
-        let same = value_alike i n scope numbered within grown a t alike value (left _ _ (left _ _ good)) bytes in
+        let same = value_alike i n scope numbered within grown a t alike value (and_first _ _ (and_first _ _ good)) bytes in
         subst (λ v. Alike i scope n.names (assigned f (value_of (local_widths i.m) i.own value a) a) (assigned f v t)) (sym same)
-        (field_alike i scope n.names f (value_of (local_widths i.m) i.own value a) a t (written_behind_port f (right _ _ (left _ _ good))) (index-lt f) (set f (itself (field_index f))) alike)
+        (field_alike i scope n.names f (value_of (local_widths i.m) i.own value a) a t (written_behind_port f (and_second _ _ (and_first _ _ good))) (index-lt f) (set f (itself (field_index f))) alike)
     stmt_alike scope next (look found into object keys) n is good numbered within room grown bytes set a t fits alike =
         let carries = stmt_carries i.m (spot_of i) sent ready.grow scope next (look found into object keys) n is good numbered in
         let old = extends_more n.widths (all_declared (spot_of i) (found ∷ into) n).widths i.widths carries.widths grown in
-        let three = left _ _ (left _ _ (left _ _ (left _ _ good))) in
-        let counted : counted_from (length n.names) (found ∷ into) ≡ true = subst (λ k. counted_from k (found ∷ into) ≡ true) is (right _ _ (left _ _ good)) in
-        let same = values_alike i n scope numbered within old a t alike keys (left _ _ three) bytes in
-        let there : object < length a.store = there_in a object (widths_of (local_widths i.m) keys) fits (right _ _ three) in
+        let three = and_first _ _ (and_first _ _ (and_first _ _ (and_first _ _ good))) in
+        let counted : counted_from (length n.names) (found ∷ into) ≡ true = subst (λ k. counted_from k (found ∷ into) ≡ true) is (and_second _ _ (and_first _ _ good)) in
+        let same = values_alike i n scope numbered within old a t alike keys (and_first _ _ three) bytes in
+        let there : object < length a.store = there_in a object (widths_of (local_widths i.m) keys) fits (and_second _ _ three) in
         subst (λ vs. Alike i ((found ∷ into) ++ scope) (all_declared (spot_of i) (found ∷ into) n).names (looked found into object (values_of (local_widths i.m) i.own keys a) a)
         (looked (length n.widths) (numbers (suc (length n.widths)) into) (i.base + object) vs t)) (sym same)
         (look_alike i scope n found into object (values_of (local_widths i.m) i.own keys a) a t counted numbered within (omega (arith, room, is))
@@ -162,14 +162,14 @@ module _ (i : Instance) (sent : Sends) (ready : IsReady i sent) where
     stmt_alike scope next (put ok object keys values) n is good numbered within room grown bytes set a t fits alike =
         let carries = stmt_carries i.m (spot_of i) sent ready.grow scope next (put ok object keys values) n is good numbered in
         let old = extends_more n.widths (declared (spot_of i) ok n).widths i.widths carries.widths grown in
-        let first : ok ≡ next = the_first next ok [] (right _ _ (left _ _ good)) in
-        let six = left _ _ (left _ _ good) in
-        let four = left _ _ (left _ _ six) in
-        let three = left _ _ four in
-        let two = left _ _ three in
-        let same_keys = values_alike i n scope numbered within old a t alike keys (left _ _ two) (λ h. bytes (either_left (any_reads_bytes keys) (any_reads_bytes values) h)) in
-        let same_values = values_alike i n scope numbered within old a t alike values (right _ _ two) (λ h. bytes (either_right (any_reads_bytes keys) (any_reads_bytes values) h)) in
-        let there : object < length a.store = there_in a object (widths_of (local_widths i.m) keys) fits (right _ _ four) in
+        let first : ok ≡ next = the_first next ok [] (and_second _ _ (and_first _ _ good)) in
+        let six = and_first _ _ (and_first _ _ good) in
+        let four = and_first _ _ (and_first _ _ six) in
+        let three = and_first _ _ four in
+        let two = and_first _ _ three in
+        let same_keys = values_alike i n scope numbered within old a t alike keys (and_first _ _ two) (λ h. bytes (or_left (any_reads_bytes keys) (any_reads_bytes values) h)) in
+        let same_values = values_alike i n scope numbered within old a t alike values (and_second _ _ two) (λ h. bytes (or_right (any_reads_bytes keys) (any_reads_bytes values) h)) in
+        let there : object < length a.store = there_in a object (widths_of (local_widths i.m) keys) fits (and_second _ _ four) in
         let own : State = stored ok object (values_of (local_widths i.m) i.own keys a) (values_of (local_widths i.m) i.own values a) a in
         subst (λ ks. Alike i (ok ∷ scope) (declared (spot_of i) ok n).names own
         (stored (length n.widths) (i.base + object) ks (values_of i.widths i.whole (all_renamed i.port n.names values) t) t)) (sym same_keys)
@@ -179,18 +179,18 @@ module _ (i : Instance) (sent : Sends) (ready : IsReady i sent) where
     stmt_alike scope next (del was object keys) n is good numbered within room grown bytes set a t fits alike =
         let carries = stmt_carries i.m (spot_of i) sent ready.grow scope next (del was object keys) n is good numbered in
         let old = extends_more n.widths (declared (spot_of i) was n).widths i.widths carries.widths grown in
-        let first : was ≡ next = the_first next was [] (right _ _ (left _ _ good)) in
-        let four = left _ _ (left _ _ good) in
-        let three = left _ _ four in
-        let same = values_alike i n scope numbered within old a t alike keys (left _ _ (left _ _ three)) bytes in
-        let there : object < length a.store = there_in a object (widths_of (local_widths i.m) keys) fits (right _ _ three) in
+        let first : was ≡ next = the_first next was [] (and_second _ _ (and_first _ _ good)) in
+        let four = and_first _ _ (and_first _ _ good) in
+        let three = and_first _ _ four in
+        let same = values_alike i n scope numbered within old a t alike keys (and_first _ _ (and_first _ _ three)) bytes in
+        let there : object < length a.store = there_in a object (widths_of (local_widths i.m) keys) fits (and_second _ _ three) in
         subst (λ ks. Alike i (was ∷ scope) (declared (spot_of i) was n).names (deleted was object (values_of (local_widths i.m) i.own keys a) a) (deleted (length n.widths) (i.base + object) ks t)) (sym same)
         (del_alike i scope n was object (values_of (local_widths i.m) i.own keys a) a t (first ∙ is) numbered within (omega (arith, first, room))
         (omega (arith, grown.longer, length_push n.widths (slice_index (local_widths i.m) was))) ready.base there alike)
     stmt_alike scope next (choose test first second) n is good numbered within room grown bytes set a t fits alike =
-        let good_first : is_good_body i.m scope next first ≡ true = right _ _ (left _ _ good) in
-        let good_second : is_good_body i.m scope (next + declared_by first) second ≡ true = right _ _ good in
-        let good_test = left _ _ (left _ _ (left _ _ good)) in
+        let good_first : is_good_body i.m scope next first ≡ true = and_second _ _ (and_first _ _ good) in
+        let good_second : is_good_body i.m scope (next + declared_by first) second ≡ true = and_second _ _ good in
+        let good_test = and_first _ _ (and_first _ _ (and_first _ _ good)) in
         let middle : Numbering = (body_placed (spot_of i) sent first n).numbering in
         let last : Numbering = (body_placed (spot_of i) sent second middle).numbering in
         let one_carries = body_carries i.m (spot_of i) sent ready.grow scope next first n is good_first numbered in
@@ -198,9 +198,9 @@ module _ (i : Instance) (sent : Sends) (ready : IsReady i sent) where
         let two_carries = body_carries i.m (spot_of i) sent ready.grow scope (next + declared_by first) second middle next_is good_second one_carries.numbered in
         let grown_middle = extends_more middle.widths last.widths i.widths two_carries.widths grown in
         let old = extends_more n.widths middle.widths i.widths one_carries.widths grown_middle in
-        let test_bytes : reads_bytes test ≡ true → i.own.bytes ≡ i.whole.bytes = (λ h. bytes (either_left (reads_bytes test) _ h)) in
-        let first_bytes : any_uses_bytes first ≡ true → i.own.bytes ≡ i.whole.bytes = (λ h. bytes (either_right (reads_bytes test) _ (either_left (any_uses_bytes first) (any_uses_bytes second) h))) in
-        let second_bytes : any_uses_bytes second ≡ true → i.own.bytes ≡ i.whole.bytes = (λ h. bytes (either_right (reads_bytes test) _ (either_right (any_uses_bytes first) (any_uses_bytes second) h))) in
+        let test_bytes : reads_bytes test ≡ true → i.own.bytes ≡ i.whole.bytes = (λ h. bytes (or_left (reads_bytes test) _ h)) in
+        let first_bytes : any_uses_bytes first ≡ true → i.own.bytes ≡ i.whole.bytes = (λ h. bytes (or_right (reads_bytes test) _ (or_left (any_uses_bytes first) (any_uses_bytes second) h))) in
+        let second_bytes : any_uses_bytes second ≡ true → i.own.bytes ≡ i.whole.bytes = (λ h. bytes (or_right (reads_bytes test) _ (or_right (any_uses_bytes first) (any_uses_bytes second) h))) in
         let same = value_alike i n scope numbered within old a t alike test good_test test_bytes in
         let within_middle : (y : ℕ) → IsIn y scope → y < length middle.names = (λ y there. omega (arith, within y there, one_carries.names.longer)) in
         let alike_middle = fewer_outcomes i scope n.names scope middle.names (Running a) (Running t) (more_names scope n.names middle.names one_carries.names within) alike in
@@ -208,22 +208,22 @@ module _ (i : Instance) (sent : Sends) (ready : IsReady i sent) where
         let yes_part = fewer_outcomes i scope n.names scope last.names (do_body (local_widths i.m) i.own first a) (do_body i.widths i.whole (body_placed (spot_of i) sent first n).body t)
         (more_names scope n.names last.names (extends_names n.names middle.names last.names one_carries.names two_carries.names) within)
         (body_alike scope next first n is good_first numbered within (omega (arith, room)) grown_middle first_bytes
-        (λ f h. set f (either_left (sets_in f first) (sets_in f second) h)) a t fits alike) in
+        (λ f h. set f (or_left (sets_in f first) (sets_in f second) h)) a t fits alike) in
         let no_part = fewer_outcomes i scope middle.names scope last.names (do_body (local_widths i.m) i.own second a) (do_body i.widths i.whole (body_placed (spot_of i) sent second middle).body t)
         (more_names scope middle.names last.names two_carries.names within_middle)
         (body_alike scope (next + declared_by first) second middle next_is good_second one_carries.numbered within_middle (omega (arith, room)) grown second_bytes
-        (λ f h. set f (either_right (sets_in f first) (sets_in f second) h)) a t fits alike_middle) in
+        (λ f h. set f (or_right (sets_in f first) (sets_in f second) h)) a t fits alike_middle) in
         subst (λ o. AlikeOutcomes i scope last.names (cond (v == 0) (do_body (local_widths i.m) i.own second a) (do_body (local_widths i.m) i.own first a)) o)
         (sym (do_one i.widths i.whole (choose (renamed i.port n.names test) (body_placed (spot_of i) sent first n).body (body_placed (spot_of i) sent second middle).body) t
         ∙ ap (λ u. cond (u == 0) (do_body i.widths i.whole (body_placed (spot_of i) sent second middle).body t) (do_body i.widths i.whole (body_placed (spot_of i) sent first n).body t)) same))
         (choose_by i scope last.names (v == 0) _ _ _ _ no_part yes_part)
     stmt_alike scope next (repeat index count body) n is good numbered within room grown bytes set a t fits alike =
-        let good_body : is_good_body i.m (index ∷ scope) (next + 1) body ≡ true = right _ _ good in
-        let index_counted : counted_from next (index ∷ []) ≡ true = right _ _ (left _ _ (left _ _ good)) in
-        let four = left _ _ (left _ _ (left _ _ good)) in
-        let times = left (is_count count) _ (left _ _ (left _ _ four)) in
-        let few : count ≤ 64 = leb-true count 64 (right _ (nat_le count 64) times) in
-        let wide : slice_index (local_widths i.m) index ≡ 32 = eqb-true (slice_index (local_widths i.m) index) 32 (right _ _ four) in
+        let good_body : is_good_body i.m (index ∷ scope) (next + 1) body ≡ true = and_second _ _ good in
+        let index_counted : counted_from next (index ∷ []) ≡ true = and_second _ _ (and_first _ _ (and_first _ _ good)) in
+        let four = and_first _ _ (and_first _ _ (and_first _ _ good)) in
+        let times = and_first (is_count count) _ (and_first _ _ (and_first _ _ four)) in
+        let few : count ≤ 64 = leb-true count 64 (and_second _ (nat_le count 64) times) in
+        let wide : slice_index (local_widths i.m) index ≡ 32 = eqb-true (slice_index (local_widths i.m) index) 32 (and_second _ _ four) in
         let first : index ≡ next = the_first next index [] index_counted in
         let inner : Numbering = declared (spot_of i) index n in
         let last : Numbering = (body_placed (spot_of i) sent body inner).numbering in
@@ -245,10 +245,10 @@ module _ (i : Instance) (sent : Sends) (ready : IsReady i sent) where
         count 0 a t (omega (arith, few)) fits alike))
     stmt_alike scope next (send port) n is good numbered within room grown bytes set a t fits alike =
         let old = extends_more n.widths (sent (renamed i.port n.names port) n.widths).widths i.widths (ready.grow (renamed i.port n.names port) n.widths) grown in
-        let wide : width_of (local_widths i.m) port ≡ 8 = eqb-true (width_of (local_widths i.m) port) 8 (right _ _ good) in
+        let wide : width_of (local_widths i.m) port ≡ 8 = eqb-true (width_of (local_widths i.m) port) 8 (and_second _ _ good) in
         let v : ℕ = value_of (local_widths i.m) i.own port a in
-        let small : v < 2 ^ 8 = subst (λ w. v < 2 ^ w) wide (value_fits i.m i.own scope a ready.arrives fits port (left _ _ good)) in
-        send_alike scope n.names n.names a t (renamed i.port n.names port) n.widths v fits alike small (value_alike i n scope numbered within old a t alike port (left _ _ good) bytes) grown
+        let small : v < 2 ^ 8 = subst (λ w. v < 2 ^ w) wide (value_fits i.m i.own scope a ready.arrives fits port (and_first _ _ good)) in
+        send_alike scope n.names n.names a t (renamed i.port n.names port) n.widths v fits alike small (value_alike i n scope numbered within old a t alike port (and_first _ _ good) bytes) grown
     stmt_alike scope next drop n is good numbered within room grown bytes set a t fits alike = (alike.store ∙ (ready.drops a.store).0, (ready.drops a.store).1)
 
     pub body_alike : (scope : List ℕ) (next : ℕ) (b : BodyTree) (n : Numbering) → next ≡ length n.names → is_good_body i.m scope next b ≡ true → IsNumbered (local_widths i.m) n
@@ -258,8 +258,8 @@ module _ (i : Instance) (sent : Sends) (ready : IsReady i sent) where
         → AlikeOutcomes i scope n.names (do_body (local_widths i.m) i.own b a) (do_body i.widths i.whole (body_placed (spot_of i) sent b n).body t)
     body_alike scope next done n is good numbered within room grown bytes set a t fits alike = alike
     body_alike scope next (stmt s b) n is good numbered within room grown bytes set a t fits alike =
-        let good_stmt : is_good_stmt i.m scope next s ≡ true = left _ _ (left _ _ good) in
-        let good_rest : is_good_body i.m (binds s ++ scope) (next + declared_in s) b ≡ true = right _ _ good in
+        let good_stmt : is_good_stmt i.m scope next s ≡ true = and_first _ _ (and_first _ _ good) in
+        let good_rest : is_good_body i.m (binds s ++ scope) (next + declared_in s) b ≡ true = and_second _ _ good in
         let middle : Numbering = (stmt_placed (spot_of i) sent s n).numbering in
         let last : Numbering = (body_placed (spot_of i) sent b middle).numbering in
         let carries = stmt_carries i.m (spot_of i) sent ready.grow scope next s n is good_stmt numbered in
@@ -272,10 +272,10 @@ module _ (i : Instance) (sent : Sends) (ready : IsReady i sent) where
         (sym (do_followed i.widths i.whole (stmt_placed (spot_of i) sent s n).body (body_placed (spot_of i) sent b middle).body t))
         (then_alike i (binds s ++ scope) middle.names scope n.names (do_stmt (local_widths i.m) i.own s a) (do_body i.widths i.whole (stmt_placed (spot_of i) sent s n).body t)
         (do_body (local_widths i.m) i.own b) (do_body i.widths i.whole (body_placed (spot_of i) sent b middle).body)
-        (stmt_alike scope next s n is good_stmt numbered within (omega (arith, room)) grown_middle (λ h. bytes (either_left (uses_bytes s) (any_uses_bytes b) h))
-        (λ f h. set f (either_left (sets f s) (sets_in f b) h)) a t fits alike)
+        (stmt_alike scope next s n is good_stmt numbered within (omega (arith, room)) grown_middle (λ h. bytes (or_left (uses_bytes s) (any_uses_bytes b) h))
+        (λ f h. set f (or_left (sets f s) (sets_in f b) h)) a t fits alike)
         (stmt_fits i.m i.own scope next s a ready.arrives fits good_stmt)
         (λ u v ok alike'. fewer_outcomes i (binds s ++ scope) middle.names scope n.names (do_body (local_widths i.m) i.own b u) (do_body i.widths i.whole (body_placed (spot_of i) sent b middle).body v)
         (λ y there. (in_behind (binds s) scope y there, sym (carries.names.same y (within y there))))
         (body_alike (binds s ++ scope) (next + declared_in s) b middle next_is good_rest carries.numbered within_rest (omega (arith, room)) grown
-        (λ h. bytes (either_right (uses_bytes s) (any_uses_bytes b) h)) (λ f h. set f (either_right (sets f s) (sets_in f b) h)) u v ok alike')))
+        (λ h. bytes (or_right (uses_bytes s) (any_uses_bytes b) h)) (λ f h. set f (or_right (sets f s) (sets_in f b) h)) u v ok alike')))

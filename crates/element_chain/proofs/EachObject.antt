@@ -7,8 +7,7 @@ use Rattle.packet_fields.specs.declared.verdict.Verdict.{Verdict}
 use Rattle.packet_fields.specs.declared.verdict.Verdict.TheVariants.{Drop, Send}
 use Rattle.state_store.specs.Store.{Store, object_at}
 use Rattle.element_lang.specs.Tree.{StmtTree, BodyTree, Tree}
-use Rattle.element_lang.specs.Tree.StmtTree.{let_local, assign, set_field, look, put, del, choose, repeat, send}
-use Rattle.element_lang.specs.Tree.StmtTree.{drop as drop_all}
+use Rattle.element_lang.specs.Tree.StmtTree.{put, del, choose, repeat}
 use Rattle.element_lang.specs.Tree.BodyTree.{done, stmt}
 use Rattle.element_lang.specs.Meaning.{State, Outcome, Running, Ended, then_do, bound, value_of, turns, do_stmt, do_body, store_after, source_store, source_verdict}
 use Rattle.element_chain.specs.declared.chain.Wire.{Wire}
@@ -41,17 +40,12 @@ turns_have k x go goes (suc n) i s has =
 
 mutual
   stmt_has : (widths : List ℕ) (packet : Packet) (k : ℕ) (t : StmtTree) (s : State) → length s.store ≡ k → HasObjects k (do_stmt widths packet t s)
-  stmt_has widths packet k (let_local x value) s has = has
-  stmt_has widths packet k (assign x value) s has = has
-  stmt_has widths packet k (set_field f value) s has = has
-  stmt_has widths packet k (look found into object keys) s has = has
   stmt_has widths packet k (put ok object keys values) s has = length-set s.store object _ ∙ has
   stmt_has widths packet k (del was object keys) s has = length-set s.store object _ ∙ has
   stmt_has widths packet k (choose test first second) s has =
       either_has k (value_of widths packet test s == 0) (do_body widths packet second s) (do_body widths packet first s) (body_has widths packet k second s has) (body_has widths packet k first s has)
   stmt_has widths packet k (repeat index count body) s has = turns_have k index (do_body widths packet body) (λ u has'. body_has widths packet k body u has') count 0 s has
-  stmt_has widths packet k (send port) s has = has
-  stmt_has widths packet k drop_all s has = has
+  stmt_has widths packet k _ s has = has
 
   body_has : (widths : List ℕ) (packet : Packet) (k : ℕ) (b : BodyTree) (s : State) → length s.store ≡ k → HasObjects k (do_body widths packet b s)
   body_has widths packet k done s has = has

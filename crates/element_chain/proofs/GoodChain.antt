@@ -22,7 +22,6 @@ use Rattle.element_chain.specs.Chain.{Connected, element_at}
 use Rattle.element_chain.specs.Compose.{Placed, Spot, Sends, Written, one, followed, tests, sent_by, wires_of, ends_within, element_placed, entry_within, composed, closed, clearing, cleared, is_set, base_of, prefixed, objects_from}
 use Rattle.element_chain.specs.Laws.{IsSmall}
 use Rattle.element_chain.proofs.Ranked.{IsRanked, FallsTo, IsCalm, passes}
-use Rattle.element_chain.proofs.Tests.{left}
 use Rattle.element_chain.proofs.Numbers.{Extends, extends_self, extends_more}
 use Rattle.element_chain.proofs.Sets.{set_only}
 use Rattle.element_chain.proofs.Wired.{EachWire}
@@ -32,6 +31,7 @@ use Rattle.element_chain.proofs.GoodBodies.{bound_after, good_one, good_followed
 use Rattle.element_chain.proofs.GoodStmts.{first_in, body_keeps}
 use Rattle.element_chain.proofs.Whole.{good_at, no_names, tests_grow, sent_grow, ends_grow, width_of_locals, length_of_locals}
 use Rattle.element_chain.proofs.GoodWhole.{ends_count, sent_count, ends_end, sent_end, clearing_declares, sends_quiet, IsKnown, known_wires, each_mapped, all_fresh}
+use Rattle.lemmas.proofs.Tests.{and_first}
 
 -- ## clearing
 cleared_good : (m : Tree) (around : List ℕ) (k : ℕ) (f : Field) → (row f).writable ≡ true → is_good_stmt m around k (cleared f) ≡ true
@@ -79,9 +79,6 @@ eq_fits : (w : ℕ) → w ≡ 8 → fits_operator Eq 1 (w ∷ 8 ∷ []) ≡ true
 eq_fits w is = subst (λ k. fits_operator Eq 1 (k ∷ 8 ∷ []) ≡ true) (sym is) refl
 
 module _ (c : Connected) (fit : IsRanked c) (calm : IsCalm c) (small : IsSmall c) where
-  abbrev all : Tree
-  all = composed c
-
   few_widths : length (local_widths (composed c)) ≡ length (composed c).locals
   few_widths = length-map (composed c).locals (λ l. l.width)
 
@@ -211,7 +208,7 @@ module _ (c : Connected) (fit : IsRanked c) (calm : IsCalm c) (small : IsSmall c
       let widths_are : local_widths (composed c) ≡ entry.numbering.widths = width_of_locals 0 entry.numbering.widths in
       let placed = placed_good n (ends_good n) 0 fit.some (omega arith) calm.entry None none_some [] [] (λ y is. absurd (true≢false (sym is)))
       (subst (Extends entry.numbering.widths) (sym widths_are) (extends_self entry.numbering.widths)) in
-      let objects : are_good_objects [] (objects_from 0 c.elements) ≡ true = all_objects_good c.elements small.elements (λ e lt. left _ _ (left _ _ (fit.good e lt))) in
+      let objects : are_good_objects [] (objects_from 0 c.elements) ≡ true = all_objects_good c.elements small.elements (λ e lt. and_first _ _ (and_first _ _ (fit.good e lt))) in
       let count : declared_by entry.body ≡ length (composed c).locals = omega (arith, placed.1, length_of_locals 0 entry.numbering.widths) in
       and_from _ _ (and_from _ _ objects (eq-eqb (declared_by entry.body) (length (composed c).locals) count)) placed.0
     where

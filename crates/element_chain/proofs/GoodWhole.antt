@@ -3,13 +3,13 @@ use Rattle.std.proofs.Common.{◌≡◌, ℕ, zero, suc, ◌+◌, ◌<◌, ◌�
 use Rattle.std.specs.Fmt.{decimal}
 use Rattle.std.specs.List.{list_any, filter, All}
 use Rattle.std.specs.Str.{bytes_eq}
-use Rattle.std.proofs.lemmas.Bool.{eqb-true, and_from, false_from_ne_true}
+use Rattle.std.proofs.lemmas.Bool.{eqb-true, and_from, false_from_ne_true, or_from}
 use Rattle.std.proofs.lemmas.List.{length_push}
 use Rattle.packet_fields.specs.declared.field.Field.{Field}
 use Rattle.packet_fields.specs.Table.{all_fields}
 use Rattle.state_store.specs.declared.object.ObjectDecl.{ObjectDecl}
 use Rattle.element_lang.specs.Tree.{ExprTree, StmtTree, BodyTree, Tree}
-use Rattle.element_lang.specs.Tree.StmtTree.{let_local, assign, set_field, look, put, del, choose, repeat, send}
+use Rattle.element_lang.specs.Tree.StmtTree.{let_local, look, put, del, choose, repeat, send}
 use Rattle.element_lang.specs.Tree.StmtTree.{drop as drop_all}
 use Rattle.element_lang.specs.Tree.BodyTree.{done, stmt}
 use Rattle.element_lang.specs.Widths.{local_widths}
@@ -22,7 +22,6 @@ use Rattle.element_chain.specs.Chain.{Connected, element_at}
 use Rattle.element_chain.specs.Compose.{Numbering, Placed, Spot, Sends, Ends, one, followed, declared, stmt_placed, body_placed, tests, sent_by, wires_of, ends_within, element_placed, entry_within, whole_within, closed, clearing, is_set, base_of, named_objects, objects_from}
 use Rattle.element_chain.specs.Laws.{any_sends_again}
 use Rattle.element_chain.proofs.Ranked.{IsRanked, IsWireOf, IsCalm, IsPassedOn, passes}
-use Rattle.element_chain.proofs.Tests.{left, right}
 use Rattle.element_chain.proofs.Wired.{EachWire, each_low}
 use Rattle.element_chain.proofs.Alike.{IsIn}
 use Rattle.element_chain.proofs.Names.{same_local, local_there}
@@ -30,6 +29,7 @@ use Rattle.element_chain.proofs.Bodies.{length-all_widths}
 use Rattle.element_chain.proofs.GoodBodies.{declared_followed, quiet_followed, ends_followed, quiet_body, body_ends_same}
 use Rattle.element_chain.proofs.GoodStmts.{first_in, later_in, length-numbers}
 use Rattle.element_chain.proofs.Whole.{length_of_locals}
+use Rattle.lemmas.proofs.Tests.{and_first, and_second}
 
 -- ## how many locals are declared
 module _ (spot : Spot) (sent : Sends) (counts : (p : ExprTree) (widths : List ℕ) → length widths + declared_by (sent p widths).body ≡ length (sent p widths).widths) where
@@ -39,15 +39,13 @@ module _ (spot : Spot) (sent : Sends) (counts : (p : ExprTree) (widths : List �
   mutual
     stmt_counts : (s : StmtTree) (n : Numbering) → length n.widths + declared_by (stmt_placed spot sent s n).body ≡ length (stmt_placed spot sent s n).numbering.widths
     stmt_counts (let_local x value) n = omega (arith, open_one x n)
-    stmt_counts (assign x value) n = omega arith
-    stmt_counts (set_field f value) n = omega arith
     stmt_counts (look found into object keys) n = omega (arith, length-numbers (suc (length n.widths)) into, length-all_widths spot (found ∷ into) n)
     stmt_counts (put ok object keys values) n = omega (arith, open_one ok n)
     stmt_counts (del was object keys) n = omega (arith, open_one was n)
     stmt_counts (choose test first second) n = omega (arith, body_counts first n, body_counts second (body_placed spot sent first n).numbering)
     stmt_counts (repeat index count body) n = omega (arith, open_one index n, body_counts body (declared spot index n))
     stmt_counts (send port) n = counts _ n.widths
-    stmt_counts drop_all n = omega arith
+    stmt_counts _ n = omega arith
 
     body_counts : (b : BodyTree) (n : Numbering) → length n.widths + declared_by (body_placed spot sent b n).body ≡ length (body_placed spot sent b n).numbering.widths
     body_counts done n = omega arith
@@ -138,17 +136,13 @@ closed_quiet own b h = by_test (ends_always own)
     by_test true = h
     by_test false = quiet_followed b (one drop_all) h refl
 
-no_or : (a b : Bool) → a ≡ false → b ≡ false → (a || b) ≡ false
-no_or true b h h' = h
-no_or false b h h' = h'
-
 abbrev QuietEnds : (Target → Type 0) → Ends → Type 0
 QuietEnds may end = (target : Target) (input : ℕ) (widths : List ℕ) → may target → any_repeats (end target input widths).body ≡ false
 
 tests_quiet : (may : Target → Type 0) (end : Ends) → QuietEnds may end → (v : ℕ) (ws : List Wire) (widths : List ℕ) → EachWire (λ (w : Wire). may w.to) ws → any_repeats (tests end v ws widths).body ≡ false
 tests_quiet may end quiet v [] widths each = refl
 tests_quiet may end quiet v (w ∷ ws) widths each =
-    no_or _ false (no_or _ _ (quiet w.to w.input widths each.0) (tests_quiet may end quiet v ws (end w.to w.input widths).widths each.1)) refl
+    or_from _ false (or_from _ _ (quiet w.to w.input widths each.0) (tests_quiet may end quiet v ws (end w.to w.input widths).widths each.1)) refl
 
 sent_quiet : (may : Target → Type 0) (end : Ends) → QuietEnds may end → (ws : List Wire) (p : ExprTree) (widths : List ℕ) → EachWire (λ (w : Wire). may w.to) ws → any_repeats (sent_by end ws p widths).body ≡ false
 sent_quiet may end quiet [] p widths each = refl
@@ -226,12 +220,12 @@ module _ (c : Connected) (n : ℕ) (few : length (whole_within c n).locals < 2 ^
   pub all_fresh : (scope xs : List ℕ) (next : ℕ) → counted_from next xs ≡ true → next + length xs ≤ length (whole_within c n).locals → ((y : ℕ) → IsIn y scope → y < next) → are_fresh (whole_within c n) scope xs ≡ true
   all_fresh scope [] next counted room below = refl
   all_fresh scope (x ∷ xs) next counted room below =
-      let here : x ≡ next = eqb-true x next (left _ _ counted) in
+      let here : x ≡ next = eqb-true x next (and_first _ _ counted) in
       let lt : x < length (whole_within c n).locals = omega (arith, here, room) in
       let object : list_any (bytes_eq (local_name (whole_within c n) x)) (object_names (whole_within c n)) ≡ false
       = ap (λ a. list_any (bytes_eq a) (object_names (whole_within c n))) (name_is x lt) ∙ no_objects (decimal x) 0 c.elements in
       and_from _ _ (and_from _ _ (ap not object) (ap not (others_apart x scope lt (λ y there. omega (arith, below y there, here)))))
-      (all_fresh (x ∷ scope) xs (next + 1) (right (x == next) _ counted) (omega (arith, room)) (λ y there. below_more y there here))
+      (all_fresh (x ∷ scope) xs (next + 1) (and_second (x == next) _ counted) (omega (arith, room)) (λ y there. below_more y there here))
     where
       below_more : (y : ℕ) → IsIn y (x ∷ scope) → x ≡ next → y < next + 1
       below_more y there here = by_test (x == y) refl there

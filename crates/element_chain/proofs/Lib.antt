@@ -21,3 +21,4 @@ pub mod Starts
 pub mod KeptJoins
 pub mod ReadNames
 pub mod EachObject
+pub mod Laws

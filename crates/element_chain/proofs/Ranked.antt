@@ -1,7 +1,7 @@
 -- Chains whose elements have ranks, and which elements stand within a `repeat`.
 use Rattle.std.proofs.Common.{◌≡◌, inl, inr, ℕ, zero, suc, ◌<◌, ◌^◌, ◌==◌, ◌&&◌, ◌||◌, Bool, true, false, IsTrue, List, length, refl, sym, ◌∙◌, subst, arith, true≢false, ⊎_elim}
 use Rattle.std.specs.List.{All, Contains}
-use Rattle.std.proofs.lemmas.Bool.{and_parts, and_from, eqb-true, eq-eqb, cases_Bool}
+use Rattle.std.proofs.lemmas.Bool.{and_parts, and_from, eqb-true, eq-eqb, cases_Bool, or_cases, or_left, or_right}
 use Rattle.std.proofs.lemmas.List.Elements.{All-contains, Contains-get_or}
 use Rattle.element_lang.specs.Rules.{is_good, any_repeats}
 use Rattle.element_chain.specs.declared.chain.Wire.{Wire}
@@ -10,7 +10,7 @@ use Rattle.element_chain.specs.declared.chain.Target.TheVariants.{Element, Out}
 use Rattle.element_chain.specs.Chain.{Connected, element_at}
 use Rattle.element_chain.specs.Wiring.{directly, IsWithin, leads_by}
 use Rattle.element_chain.specs.Laws.{IsFit, IsReached, RepeatsBehind, any_uses_bytes, any_sends_again}
-use Rattle.element_chain.proofs.Ranks.{leads_so, so_leads, leads_on, leads_within, rank_by, rank_falls, rank_few, or_cases, or_left, or_right}
+use Rattle.element_chain.proofs.Ranks.{leads_so, so_leads, leads_on, leads_within, rank_by, rank_falls, rank_few}
 
 -- A wire leads to an element that is there, by an input of 8 bits. The elements have ranks, which fall along each wire:
 -- the wires have no cycle.

@@ -22,7 +22,8 @@ use Rattle.element_lang.specs.Tree.{Tree}
 use Rattle.element_lang.specs.Accepted.{HasNames}
 use Rattle.element_chain.specs.Chain.{Connected, element_at}
 use Rattle.element_chain.specs.Compose.{prefixed, named_objects, objects_from, locals_from, composed, entry_within}
-use Rattle.element_chain.proofs.Tests.{left, right}
+use Rattle.lemmas.proofs.Lists.{first_taken, list_all_append}
+use Rattle.lemmas.proofs.Tests.{and_first, and_second}
 
 -- ## bytes
 digit_bounds : (b : ℕ) → digit_value b < 10 → (48 ≤ b) × (b ≤ 57)
@@ -35,13 +36,9 @@ digits_bytes : (ds : List ℕ) → AllDigits 10 ds → list_all is_number_byte d
 digits_bytes [] all = refl
 digits_bytes (d ∷ ds) all = and_from _ _ (digit_byte d all.0) (digits_bytes ds all.1)
 
-all_append : (p : ℕ → Bool) (xs ys : List ℕ) → list_all p xs ≡ true → list_all p ys ≡ true → list_all p (xs ++ ys) ≡ true
-all_append p [] ys h h' = h'
-all_append p (x ∷ xs) ys h h' = and_from _ _ (left _ _ h) (all_append p xs ys (right (p x) _ h) h')
-
 word_bytes : (bs : List ℕ) → list_all is_number_byte bs ≡ true → list_all is_word_byte bs ≡ true
 word_bytes [] h = refl
-word_bytes (b ∷ bs) h = and_from _ _ (one_way (is_number_byte b) (b == 46) (left _ _ h)) (word_bytes bs (right (is_number_byte b) _ h))
+word_bytes (b ∷ bs) h = and_from _ _ (one_way (is_number_byte b) (b == 46) (and_first _ _ h)) (word_bytes bs (and_second (is_number_byte b) _ h))
   where
     one_way : (x y : Bool) → x ≡ true → (x || y) ≡ true
     one_way true y e = refl
@@ -59,12 +56,12 @@ no_dot b h = by_test (b == 46) refl
 
 no_dots : (bs : List ℕ) → list_all is_number_byte bs ≡ true → list_any (λ b. b == 46) bs ≡ false
 no_dots [] h = refl
-no_dots (b ∷ bs) h = ap (λ x. x || list_any (λ b. b == 46) bs) (no_dot b (left _ _ h)) ∙ no_dots bs (right (is_number_byte b) _ h)
+no_dots (b ∷ bs) h = ap (λ x. x || list_any (λ b. b == 46) bs) (no_dot b (and_first _ _ h)) ∙ no_dots bs (and_second (is_number_byte b) _ h)
 
 taken : (p : ℕ → Bool) (bs : List ℕ) → list_all p bs ≡ true → take_while p bs ≡ bs
 taken p [] h = refl
 taken p (b ∷ bs) h =
-    take_while-cons p b bs ∙ ap (λ t. cond t (b ∷ take_while p bs) []) (left (p b) (list_all p bs) h) ∙ ap (λ cs. b ∷ cs) (taken p bs (right (p b) (list_all p bs) h))
+    take_while-cons p b bs ∙ ap (λ t. cond t (b ∷ take_while p bs) []) (and_first (p b) (list_all p bs) h) ∙ ap (λ cs. b ∷ cs) (taken p bs (and_second (p b) (list_all p bs) h))
 
 -- ## a letter, a digit, and more
 choose_word : (l d : Bool) (w digits : List ℕ) (m : Option Mark) → l ≡ true → (if l then word_lexeme w else (if d then number_lexeme digits else symbol_of m)) ≡ word_lexeme w
@@ -102,7 +99,7 @@ e_name : (ds a : List ℕ) → 0 < length ds → AllDigits 10 ds → list_all is
 e_name [] a some all bytes = absurd (omega (arith, some))
 e_name (d ∷ ds) a some all bytes =
     name_from 101 (d ∷ (ds ++ 95 ∷ a)) refl
-    (and_from _ _ refl (all_append is_number_byte (d ∷ ds) (95 ∷ a) (digits_bytes (d ∷ ds) all) (and_from _ _ refl bytes)))
+    (and_from _ _ refl (list_all_append is_number_byte (d ∷ ds) (95 ∷ a) (digits_bytes (d ∷ ds) all) (and_from _ _ refl bytes)))
     (keyword_e d (ds ++ 95 ∷ a) (no_l d all.0))
 
 -- ## a name has no dot
@@ -111,24 +108,20 @@ same_lexeme x y h =
     let same : x ≡ y = cc in
     (ap (λ (x : Lexeme). x.token) same, ap (λ (x : Lexeme). x.len) same)
 
-not_a_number : (n : Option ℕ) (len : ℕ) (word : List ℕ) (x : ℕ) → sized_lexeme len (number_token n) ≡ Some (record { token = name word; len = x }) → ⊥
+pub not_a_number : (n : Option ℕ) (len : ℕ) (word : List ℕ) (x : ℕ) → sized_lexeme len (number_token n) ≡ Some (record { token = name word; len = x }) → ⊥
 not_a_number None len word x h = cc
 not_a_number (Some n) len word x h = let (token, same_len) = same_lexeme _ _ h in cc
 
-not_a_symbol : (m : Option Mark) (word : List ℕ) (x : ℕ) → symbol_of m ≡ Some (record { token = name word; len = x }) → ⊥
+pub not_a_symbol : (m : Option Mark) (word : List ℕ) (x : ℕ) → symbol_of m ≡ Some (record { token = name word; len = x }) → ⊥
 not_a_symbol None word x h = cc
 not_a_symbol (Some m) word x h = let (token, same_len) = same_lexeme _ _ h in cc
 
-letter_first : (l d : Bool) (w digits : List ℕ) (m : Option Mark) (word : List ℕ)
+pub letter_first : (l d : Bool) (w digits : List ℕ) (m : Option Mark) (word : List ℕ)
     → (if l then word_lexeme w else (if d then number_lexeme digits else symbol_of m)) ≡ Some (record { token = name word; len = length word })
     → word_lexeme w ≡ Some (record { token = name word; len = length word })
 letter_first true d w digits m word h = h
 letter_first false true w digits m word h = absurd (not_a_number (number_value digits) (length digits) word (length word) h)
 letter_first false false w digits m word h = absurd (not_a_symbol m word (length word) h)
-
-first_taken : (t : Bool) (b : ℕ) (bs cs : List ℕ) → length (cond t (b ∷ cs) []) ≡ length (b ∷ bs) → (t ≡ true) × (length cs ≡ length bs)
-first_taken true b bs cs h = (refl, omega (arith, h))
-first_taken false b bs cs h = absurd (omega (arith, h))
 
 all_taken : (p : ℕ → Bool) (bs : List ℕ) → length (take_while p bs) ≡ length bs → list_all p bs ≡ true
 all_taken p [] h = refl
@@ -159,7 +152,7 @@ plain_bytes : (bs : List ℕ) → list_all is_word_byte bs ≡ true → list_any
 plain_bytes [] h none = refl
 plain_bytes (b ∷ bs) h none =
     let two = quiet_or (b == 46) (list_any (λ b. b == 46) bs) none in
-    and_from _ _ (plain_byte b (left _ _ h) two.0) (plain_bytes bs (right (is_word_byte b) _ h) two.1)
+    and_from _ _ (plain_byte b (and_first _ _ h) two.0) (plain_bytes bs (and_second (is_word_byte b) _ h) two.1)
   where
     quiet_or : (x y : Bool) → (x || y) ≡ false → (x ≡ false) × (y ≡ false)
     quiet_or true y h = absurd (true≢false h)

@@ -8,17 +8,17 @@ use Rattle.packet_fields.specs.Fields.{place, with_field}
 use Rattle.packet_fields.specs.Shape.{shape_of}
 use Rattle.packet_fields.specs.Table.{row, all_fields, field_index}
 use Rattle.element_lang.specs.Tree.{StmtTree, BodyTree, Tree}
-use Rattle.element_lang.specs.Tree.StmtTree.{let_local, assign, set_field, look, put, del, choose, repeat, send, drop}
+use Rattle.element_lang.specs.Tree.StmtTree.{set_field, choose, repeat}
 use Rattle.element_lang.specs.Tree.BodyTree.{done, stmt}
 use Rattle.element_lang.specs.Rules.{is_good_stmt, is_good_body, declared_in, declared_by, binds}
 use Rattle.element_lang.specs.Meaning.{with_fields}
 use Rattle.element_chain.specs.Chain.{element_at}
 use Rattle.element_chain.specs.Compose.{sets, sets_in, is_set}
-use Rattle.element_chain.proofs.Tests.{left, right}
 use Rattle.packet_fields.specs.FieldOrder.{same_index}
 use Rattle.packet_fields.specs.Fitting.{bit_of-lt, spelled-lt}
 use Rattle.packet_fields.proofs.BitRows.{replaced-lt, length-bytes_of, get_or-bytes_of}
 use Rattle.packet_fields.proofs.SetFields.{with_field_there, with_field_absent}
+use Rattle.lemmas.proofs.Tests.{and_first, and_second}
 
 -- ## which fields
 either : (P : Type 0) (a b : Bool) → (a || b) ≡ true → (a ≡ true → P) → (b ≡ true → P) → P
@@ -29,26 +29,20 @@ mutual
   sets_writable : (m : Tree) (f : Field) (scope : List ℕ) (next : ℕ) (s : StmtTree) → is_good_stmt m scope next s ≡ true → sets f s ≡ true → (row f).writable ≡ true
   sets_writable m f scope next (set_field g value) good h =
       let same : f ≡ g = same_index f g (eqb-true (field_index f) (field_index g) h) in
-      ap (λ (x : Field). (row x).writable) same ∙ right _ _ (left _ _ good)
+      ap (λ (x : Field). (row x).writable) same ∙ and_second _ _ (and_first _ _ good)
   sets_writable m f scope next (choose test first second) good h =
       either ((row f).writable ≡ true) (sets_in f first) (sets_in f second) h
-      (λ e. body_sets_writable m f scope next first (right _ _ (left _ _ good)) e)
-      (λ e. body_sets_writable m f scope (next + declared_by first) second (right _ _ good) e)
-  sets_writable m f scope next (repeat index count body) good h = body_sets_writable m f (index ∷ scope) (next + 1) body (right _ _ good) h
-  sets_writable m f scope next (let_local x value) good h = absurd (true≢false (sym h))
-  sets_writable m f scope next (assign x value) good h = absurd (true≢false (sym h))
-  sets_writable m f scope next (look found into object keys) good h = absurd (true≢false (sym h))
-  sets_writable m f scope next (put ok object keys values) good h = absurd (true≢false (sym h))
-  sets_writable m f scope next (del was object keys) good h = absurd (true≢false (sym h))
-  sets_writable m f scope next (send port) good h = absurd (true≢false (sym h))
-  sets_writable m f scope next drop good h = absurd (true≢false (sym h))
+      (λ e. body_sets_writable m f scope next first (and_second _ _ (and_first _ _ good)) e)
+      (λ e. body_sets_writable m f scope (next + declared_by first) second (and_second _ _ good) e)
+  sets_writable m f scope next (repeat index count body) good h = body_sets_writable m f (index ∷ scope) (next + 1) body (and_second _ _ good) h
+  sets_writable m f scope next _ good h = absurd (true≢false (sym h))
 
   body_sets_writable : (m : Tree) (f : Field) (scope : List ℕ) (next : ℕ) (b : BodyTree) → is_good_body m scope next b ≡ true → sets_in f b ≡ true → (row f).writable ≡ true
   body_sets_writable m f scope next done good h = absurd (true≢false (sym h))
   body_sets_writable m f scope next (stmt s b) good h =
       either ((row f).writable ≡ true) (sets f s) (sets_in f b) h
-      (λ e. sets_writable m f scope next s (left _ _ (left _ _ good)) e)
-      (λ e. body_sets_writable m f (binds s ++ scope) (next + declared_in s) b (right _ _ good) e)
+      (λ e. sets_writable m f scope next s (and_first _ _ (and_first _ _ good)) e)
+      (λ e. body_sets_writable m f (binds s ++ scope) (next + declared_in s) b (and_second _ _ good) e)
 
 -- only fields that can be written are set
 pub set_only : (elements : List Tree) (f : Field) → ((e : ℕ) → e < length elements → is_good_body (element_at elements e) [] 0 (element_at elements e).body ≡ true)

@@ -1,7 +1,7 @@
 -- What the whole starts with.
 use Rattle.std.proofs.Common.{◌≡◌, ℕ, suc, List, [], ◌∷◌, ◌++◌, map, refl, ap, ◌∙◌}
 use Rattle.state_store.specs.declared.object.Kind.{Kind}
-use Rattle.state_store.specs.declared.object.Kind.TheVariants.{Table, Map, Vector, Int}
+use Rattle.state_store.specs.declared.object.Kind.TheVariants.{Table}
 use Rattle.state_store.specs.declared.object.ObjectDecl.{ObjectDecl}
 use Rattle.state_store.specs.Store.{Contents, start_contents, start_object, start_store}
 use Rattle.element_lang.specs.Tree.{Tree}
@@ -11,9 +11,7 @@ use Rattle.element_chain.specs.Compose.{prefixed, named_objects, objects_from, c
 -- a name plays no part
 pub same_contents : (kind : Kind) (o : ObjectDecl) (name : List ℕ) → start_contents kind (record o { name = name }) ≡ start_contents kind o
 same_contents Table o name = refl
-same_contents Map o name = refl
-same_contents Vector o name = refl
-same_contents Int o name = refl
+same_contents _ o name = refl
 
 named_start : (e : ℕ) (os rest : List ObjectDecl) → start_store (named_objects e os ++ rest) ≡ start_store os ++ start_store rest
 named_start e [] rest = refl

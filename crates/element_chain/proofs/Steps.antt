@@ -9,18 +9,18 @@ use Rattle.packet_fields.specs.declared.field.Field.{Field}
 use Rattle.packet_fields.specs.Table.{row, field_index}
 use Rattle.state_store.specs.declared.object.ObjectDecl.{ObjectDecl}
 use Rattle.state_store.specs.Fitting.{fits_keys}
-use Rattle.state_store.specs.Store.{Object, Store, object_at, with_object, is_stored, put_row, put_answer, del_row, looked_up}
+use Rattle.state_store.specs.Store.{Object, object_at, with_object, is_stored, put_row, put_answer, del_row, looked_up}
 use Rattle.state_store.specs.Store as store
 use Rattle.element_lang.specs.Widths.{local_widths}
 use Rattle.element_lang.specs.Rules.{counted_from}
 use Rattle.element_lang.specs.Meaning.{State, Outcome, bind_from, bound, assigned, looked, stored, deleted, turns}
 use Rattle.element_chain.specs.Compose.{Numbering, Spot, declared, all_declared, numbers}
-use Rattle.element_chain.proofs.Tests.{left, right}
 use Rattle.packet_fields.specs.FieldOrder.{same_index}
 use Rattle.element_lang.specs.KeptRuns.{Fits, FitsOutcome}
 use Rattle.element_chain.proofs.Numbers.{IsNumbered, Carries, carries_one}
 use Rattle.element_chain.proofs.Stores.{object_within, set_within}
 use Rattle.element_chain.proofs.Alike.{Instance, spot_of, own_port, IsIn, Alike, AlikeOutcomes, then_alike, fewer_alike}
+use Rattle.lemmas.proofs.Tests.{and_first, and_second}
 
 -- ## locals
 -- what agrees of the locals
@@ -89,14 +89,6 @@ with_locals i scope names scope' names' s t own all alike agree same_own same_al
   store = alike.store;
   unset = alike.unset;
 }
-
--- what is numbered has room
-record HasRoom (i : Instance) (scope : List ℕ) (n : Numbering) (x : ℕ) : Type 0 where
-  pub is : x ≡ length n.names
-  pub numbered : IsNumbered (local_widths i.m) n
-  pub within : (y : ℕ) → IsIn y scope → y < length n.names
-  pub room : x < length i.m.locals
-  pub place : length n.widths < length i.widths
 
 pub bound_alike : (i : Instance) (scope : List ℕ) (n : Numbering) (x v : ℕ) (s t : State) → x ≡ length n.names → IsNumbered (local_widths i.m) n → ((y : ℕ) → IsIn y scope → y < length n.names)
     → x < length i.m.locals → length n.widths < length i.widths → Alike i scope n.names s t
@@ -174,10 +166,6 @@ change_alike i scope names s t o ob base lt alike = record {
   unset = alike.unset;
 }
 
--- a put, in two parts: the row, and the local that tells of it
-put_by : (o ok : ℕ) (key values : List ℕ) (s : State) (ob : Object) → State
-put_by o ok key values s ob = bound ok (bit (is_stored (put_answer ob key))) (record s { store = with_object s.store o (put_row ob key values) })
-
 pub put_alike : (i : Instance) (scope : List ℕ) (n : Numbering) (ok o : ℕ) (key values : List ℕ) (s t : State) → ok ≡ length n.names → IsNumbered (local_widths i.m) n
     → ((y : ℕ) → IsIn y scope → y < length n.names) → ok < length i.m.locals → length n.widths < length i.widths → length i.before ≡ i.base → o < length s.store → Alike i scope n.names s t
     → Alike i (ok ∷ scope) (declared (spot_of i) ok n).names (stored ok o key values s) (stored (length n.widths) (i.base + o) key values t)
@@ -223,10 +211,10 @@ any_middle y x (z ∷ xs) scope = moved_back (x == y) (z == y) (any_is y (xs ++ 
 pub counted_within : (next : ℕ) (xs scope : List ℕ) (y : ℕ) → counted_from next xs ≡ true → ((y : ℕ) → IsIn y scope → y < next) → IsIn y (xs ++ scope) → y < next + length xs
 counted_within next [] scope y counted within is = omega (arith, within y is)
 counted_within next (x ∷ xs) scope y counted within is =
-    let here : x ≡ next = eqb-true x next (left _ _ counted) in
+    let here : x ≡ next = eqb-true x next (and_first _ _ counted) in
     in_cases (y < next + length (x ∷ xs)) y x (xs ++ scope) is
     (λ same. omega (arith, same, here))
-    (λ other there. omega (arith, counted_within (next + 1) xs scope y (right (x == next) _ counted) (λ z old. omega (arith, within z old)) there))
+    (λ other there. omega (arith, counted_within (next + 1) xs scope y (and_second (x == next) _ counted) (λ z old. omega (arith, within z old)) there))
 
 -- in_cases where both are lists
 bind_agrees : (spot : Spot) (into values : List ℕ) (i next : ℕ) (n : Numbering) (scope own all : List ℕ) → next ≡ length n.names → counted_from next into ≡ true → IsNumbered spot.widths n
@@ -234,7 +222,7 @@ bind_agrees : (spot : Spot) (into values : List ℕ) (i next : ℕ) (n : Numberi
     → LocalsAgree (into ++ scope) (all_declared spot into n).names (bind_from i into values own) (bind_from i (numbers (length n.widths) into) values all)
 bind_agrees spot [] values i next n scope own all is counted numbered within room place agree = agree
 bind_agrees spot (x ∷ xs) values i next n scope own all is counted numbered within room place agree =
-    let here : x ≡ next = eqb-true x next (left _ _ counted) in
+    let here : x ≡ next = eqb-true x next (and_first _ _ counted) in
     let v : ℕ = slice_index values i in
     let one = carries_one spot x n (here ∙ is) numbered in
     let many : length (declared spot x n).names ≡ length n.names + 1 = one.count in
@@ -244,7 +232,7 @@ bind_agrees spot (x ∷ xs) values i next n scope own all is counted numbered wi
     let rest : LocalsAgree (xs ++ (x ∷ scope)) (all_declared spot xs (declared spot x n)).names
     (bind_from (i + 1) xs values (slice_set own x v)) (bind_from (i + 1) (numbers (length (declared spot x n).widths) xs) values (slice_set all (length n.widths) v))
     = bind_agrees spot xs values (i + 1) (next + 1) (declared spot x n) (x ∷ scope) (slice_set own x v) (slice_set all (length n.widths) v) (omega (arith, is, many))
-    (right (x == next) _ counted) one.numbered
+    (and_second (x == next) _ counted) one.numbered
     (λ y there. in_cases (y < length (declared spot x n).names) y x scope there (λ same. omega (arith, same, here, is, many)) (λ other old. omega (arith, within y old, many)))
     (omega (arith, room, length-set own x v)) (omega (arith, place, wider, length-set all (length n.widths) v)) first in
     let moved : LocalsAgree (xs ++ (x ∷ scope)) (all_declared spot xs (declared spot x n)).names
@@ -276,7 +264,7 @@ look_by i scope n found into b values s t counted numbered within room place ali
     spot = spot_of i
 
     is : found ≡ length n.names
-    is = eqb-true found (length n.names) (left _ _ counted)
+    is = eqb-true found (length n.names) (and_first _ _ counted)
 
     one : Carries (local_widths i.m) n (declared (spot_of i) found n) 1
     one = carries_one (spot_of i) found n is numbered
@@ -293,7 +281,7 @@ look_by i scope n found into b values s t counted numbered within room place ali
     rest : LocalsAgree (into ++ (found ∷ scope)) (all_declared (spot_of i) into (declared (spot_of i) found n)).names
         (bind_from 0 into values (slice_set s.locals found b)) (bind_from 0 (numbers (length (declared (spot_of i) found n).widths) into) values (slice_set t.locals (length n.widths) b))
     rest = bind_agrees (spot_of i) into values 0 (length n.names + 1) (declared (spot_of i) found n) (found ∷ scope) (slice_set s.locals found b) (slice_set t.locals (length n.widths) b)
-        (sym many) (right (found == length n.names) _ counted) one.numbered
+        (sym many) (and_second (found == length n.names) _ counted) one.numbered
         (λ y there. in_cases (y < length (declared (spot_of i) found n).names) y found scope there (λ same. omega (arith, same, is, many)) (λ other old. omega (arith, within y old, many)))
         (omega (arith, room, length-set s.locals found b, alike.own_many)) (omega (arith, place, wider, length-set t.locals (length n.widths) b, alike.many)) first
 

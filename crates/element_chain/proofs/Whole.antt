@@ -20,7 +20,7 @@ use Rattle.state_store.specs.Store.{Store}
 use Rattle.element_lang.specs.Tree.{ExprTree, StmtTree, BodyTree, Tree}
 use Rattle.element_lang.specs.Tree.ExprTree.{lit, local, apply}
 use Rattle.element_lang.specs.Tree.Exprs.{no_expr, expr}
-use Rattle.element_lang.specs.Tree.StmtTree.{let_local, assign, set_field, look, put, del, choose, repeat, send}
+use Rattle.element_lang.specs.Tree.StmtTree.{choose, send}
 use Rattle.element_lang.specs.Tree.StmtTree.{drop as drop_all}
 use Rattle.element_lang.specs.Tree.BodyTree.{done, stmt}
 use Rattle.element_lang.specs.Widths.{local_widths}
@@ -33,7 +33,6 @@ use Rattle.element_chain.specs.Chain.{Connected, After, element_at, store_at, dr
 use Rattle.element_chain.specs.Compose.{Numbering, Spot, Written, one, followed, joined, tests, sent_by, Ends, wires_of, ends_within, element_placed, entry_within, whole_within, composed, closed, clearing, is_set, base_of, locals_from}
 use Rattle.element_chain.specs.Laws.{IsSmall, AreKept}
 use Rattle.element_chain.proofs.Ranked.{IsRanked, IsWireOf, FallsTo}
-use Rattle.element_chain.proofs.Tests.{left, right}
 use Rattle.packet_fields.specs.FieldOrder.{same_index}
 use Rattle.packet_fields.specs.FieldOrder.{at_index, index-lt, length-all_fields}
 use Rattle.element_lang.specs.KeptRuns.{start_fits}
@@ -46,6 +45,7 @@ use Rattle.element_chain.proofs.Wired.{first_at, EachWire, each_of, first_of_all
 use Rattle.element_chain.proofs.Alike.{Instance, Alike, AlikeOutcomes, do_followed}
 use Rattle.element_chain.proofs.Clearing.{eq_value, no_place, clearing_leaves, before_clearing}
 use Rattle.element_chain.proofs.Bodies.{ended, IsReady, do_one, body_alike}
+use Rattle.lemmas.proofs.Tests.{and_first, and_second}
 
 -- ## what always ends has ended
 abbrev HasEnded : Outcome → Type 0
@@ -68,16 +68,10 @@ mutual
   stmt_ends : (widths : List ℕ) (packet : Packet) (s : StmtTree) (a : State) → always_ends s ≡ true → HasEnded (do_stmt widths packet s a)
   stmt_ends widths packet (choose test first second) a h =
       ended_either (value_of widths packet test a == 0) (do_body widths packet second a) (do_body widths packet first a)
-      (body_ends widths packet second a (right (ends_always first) _ h)) (body_ends widths packet first a (left _ _ h))
+      (body_ends widths packet second a (and_second (ends_always first) _ h)) (body_ends widths packet first a (and_first _ _ h))
   stmt_ends widths packet (send port) a h = tt
   stmt_ends widths packet drop_all a h = tt
-  stmt_ends widths packet (let_local x value) a h = absurd (true≢false (sym h))
-  stmt_ends widths packet (assign x value) a h = absurd (true≢false (sym h))
-  stmt_ends widths packet (set_field f value) a h = absurd (true≢false (sym h))
-  stmt_ends widths packet (look found into object keys) a h = absurd (true≢false (sym h))
-  stmt_ends widths packet (put ok object keys values) a h = absurd (true≢false (sym h))
-  stmt_ends widths packet (del was object keys) a h = absurd (true≢false (sym h))
-  stmt_ends widths packet (repeat index count body) a h = absurd (true≢false (sym h))
+  stmt_ends widths packet _ a h = absurd (true≢false (sym h))
 
   body_ends : (widths : List ℕ) (packet : Packet) (b : BodyTree) (a : State) → ends_always b ≡ true → HasEnded (do_body widths packet b a)
   body_ends widths packet done a h = absurd (true≢false (sym h))
@@ -96,8 +90,8 @@ all_counted = refl
 at_place_by : (fs : List Field) (k n : ℕ) → counted k fs ≡ true → n < length fs → field_index (get_or fs n MetaPort) ≡ k + n
 unfolding counted
 at_place_by [] k n h lt = absurd (omega (arith, lt))
-at_place_by (f ∷ fs) k zero h lt = eqb-true (field_index f) k (left _ _ h) ∙ omega arith
-at_place_by (f ∷ fs) k (suc n) h lt = at_place_by fs (suc k) n (right (field_index f == k) _ h) (omega (arith, lt)) ∙ omega arith
+at_place_by (f ∷ fs) k zero h lt = eqb-true (field_index f) k (and_first _ _ h) ∙ omega arith
+at_place_by (f ∷ fs) k (suc n) h lt = at_place_by fs (suc k) n (and_second (field_index f == k) _ h) (omega (arith, lt)) ∙ omega arith
 
 by_place : (values : List ℕ) (g : Field → ℕ) (k : ℕ) → length values ≡ 37 → ((f : Field) → field_index f ≢ 0 → slice_index values (field_index f) ≡ g f) → k ≢ 0
     → slice_index values k ≡ slice_index (map g all_fields) k
@@ -124,12 +118,12 @@ port_read bytes port = value_absent bytes port MetaPort (no_place (shape_of byte
 
 -- ## an element at its place
 pub good_at : (c : Connected) → IsRanked c → (e : ℕ) → is_good_body (element_at c.elements e) [] 0 (element_at c.elements e).body ≡ true
-good_at c fit e = ⊎_elim (λ lt. right _ _ (fit.good e lt))
+good_at c fit e = ⊎_elim (λ lt. and_second _ _ (fit.good e lt))
     (λ le. subst (λ (m : Tree). is_good_body m [] 0 m.body ≡ true) (sym (get_or_past c.elements e (record { objects = []; locals = []; body = done }) le)) refl)
     (cases_lt e (length c.elements))
 
 locals_at : (c : Connected) → IsRanked c → (e : ℕ) → e < length c.elements → declared_by (element_at c.elements e).body ≡ length (element_at c.elements e).locals
-locals_at c fit e lt = eqb-true (declared_by (element_at c.elements e).body) (length (element_at c.elements e).locals) (right _ _ (left _ _ (fit.good e lt)))
+locals_at c fit e lt = eqb-true (declared_by (element_at c.elements e).body) (length (element_at c.elements e).locals) (and_second _ _ (and_first _ _ (fit.good e lt)))
 
 pub no_names : (own widths : List ℕ) → IsNumbered own (record { names = []; widths = widths })
 no_names own widths = record {

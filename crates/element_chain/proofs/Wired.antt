@@ -7,7 +7,7 @@ use Rattle.std.proofs.lemmas.Bool.Decides.{nat_tests}
 use Rattle.element_chain.specs.declared.chain.Wire.{Wire}
 use Rattle.element_chain.specs.Chain.{wire_at}
 use Rattle.element_chain.specs.Compose.{with_wire, wires_from, wires_of}
-use Rattle.element_chain.proofs.Tests.{left, right}
+use Rattle.lemmas.proofs.Tests.{and_first, and_second}
 
 -- the first wire of an output
 abbrev pub first_at : ℕ → List Wire → Option Wire
@@ -25,7 +25,7 @@ found_at P (w ∷ ws) e output all = by_test (w.from == e && w.output == output)
   where
     by_test : (b : Bool) → (w.from == e && w.output == output) ≡ b → IfWire (λ (w : Wire). P w × (w.from ≡ e) × (w.output ≡ output)) (wire_at ws e output)
         → IfWire (λ (w : Wire). P w × (w.from ≡ e) × (w.output ≡ output)) (cond b (Some w) (wire_at ws e output))
-    by_test true h later = (All-head P w ws all, eqb-true w.from e (left _ _ h), eqb-true w.output output (right (w.from == e) _ h))
+    by_test true h later = (All-head P w ws all, eqb-true w.from e (and_first _ _ h), eqb-true w.output output (and_second (w.from == e) _ h))
     by_test false h later = later
 
 abbrev pub EachWire : (Wire → Type 0) → List Wire → Type 0

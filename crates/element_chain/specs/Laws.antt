@@ -4,7 +4,7 @@ use Rattle.std.specs.List.{All}
 use Rattle.state_store.specs.Kept.{IsKept}
 use Rattle.state_store.specs.Store.{Store}
 use Rattle.element_lang.specs.Tree.{ExprTree, Exprs, StmtTree, BodyTree, Tree}
-use Rattle.element_lang.specs.Tree.ExprTree.{lit, local, field, byte, shift, apply}
+use Rattle.element_lang.specs.Tree.ExprTree.{byte, shift, apply, lit, local, field}
 use Rattle.element_lang.specs.Tree.Exprs.{no_expr, expr}
 use Rattle.element_lang.specs.Tree.StmtTree.{let_local, assign, set_field, look, put, del, choose, repeat, send, drop}
 use Rattle.element_lang.specs.Tree.BodyTree.{done, stmt}

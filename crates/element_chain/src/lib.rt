@@ -2,9 +2,5 @@
 #![tactic(auto)]
 
 mod chain;
-mod laws;
 
 pub use chain::{Chain, Classes, Element, Elements, Target, Wire, Wires};
-pub use laws::{
-    chains_end, composition_keeps_the_meaning, composition_keeps_the_rules, wires_lead,
-};

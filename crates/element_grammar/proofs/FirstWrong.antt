@@ -1,7 +1,6 @@
 -- Where the machine stops is the first wrong token, and there is no other.
-use Rattle.std.proofs.Common.{◌≡◌, ◌≤◌, ◌<◌, ◌-◌, ℕ, suc, List, [], ◌∷◌, ◌++◌, length, take, drop, map, Some, None, refl, sym, ap, subst, ◌∙◌, append_assoc, arith, length-append, ◌⊎◌, inl, inr, take-take}
+use Rattle.std.proofs.Common.{◌≡◌, ◌≤◌, ◌<◌, ◌-◌, ℕ, suc, List, [], ◌∷◌, ◌++◌, length, take, drop, map, Some, None, refl, sym, ap, subst, ◌∙◌, append_assoc, arith, length-append, ◌⊎◌, inl, inr}
 use Rattle.std.proofs.Math.Nat.{eq-or-lt_of_le}
-use Rattle.std.proofs.lemmas.Bool.{cases_order}
 use Rattle.std.proofs.lemmas.List.{take-append-drop, length-map}
 use Rattle.element_lang.specs.Token.{Token}
 use Rattle.element_lang.specs.Surface.{Surface}
@@ -72,14 +71,6 @@ first_wrong_of f ts left e = let P : ℕ → Type 0 = λ n. IsFirstWrong (map f 
 pub left_fits_of : {A : Type 0} (f : A → Token) (ts : List A) (left : ℕ) → left_at (middlebox ∷ []) (map f ts) ≡ Some left → left ≤ length ts
 left_fits_of f ts left e = omega (arith, left_fits (map f ts) left e, length-map ts f)
 
--- what begins a source still begins one when it is cut
-begins_cut : (ts : List Token) (n m : ℕ) → n ≤ m → Begins (take m ts) → Begins (take n ts)
-begins_cut ts n m le b =
-    let whole : take n ts ++ drop n (take m ts) ≡ take m ts = ap (λ l. l ++ drop n (take m ts)) (sym (take-take n m ts le)) ∙ take-append-drop n (take m ts) in
-    let same : take m ts ++ b.0 ≡ take n ts ++ (drop n (take m ts) ++ b.0) =
-    ap (λ l. l ++ b.0) (sym whole) ∙ append_assoc (take n ts) (drop n (take m ts)) b.0 in
-    (drop n (take m ts) ++ b.0, b.1, spells_same b.1 same b.2)
-
 -- tokens that spell a source have no wrong token
 pub none_wrong : (ts : List Token) (place : ℕ) (surface : Surface) → IsFirstWrong ts place → Spells ts surface → ⊥
 none_wrong ts place surface h p = go (eq-or-lt_of_le h.within)
@@ -87,15 +78,3 @@ none_wrong ts place surface h p = go (eq-or-lt_of_le h.within)
     go : (place ≡ length ts) ⊎ (place < length ts) → ⊥
     go (inl e) = h.too_short e surface p
     go (inr lt) = h.wrong lt (drop (suc place) ts, surface, spells_same surface (sym (take-append-drop (suc place) ts)) p)
-
--- no wrong token stands before one that is the first
-none_before : (ts : List Token) (a b : ℕ) → IsFirstWrong ts a → IsFirstWrong ts b → a < b → ⊥
-none_before ts a b h i lt = h.wrong (omega (arith, i.within)) (begins_cut ts (suc a) b (omega arith) i.begins)
-
-pub one_place : (ts : List Token) (a b : ℕ) → IsFirstWrong ts a → IsFirstWrong ts b → a ≡ b
-one_place ts a b h i = go (cases_order a b)
-  where
-    go : (a ≡ b) ⊎ ((a < b) ⊎ (b < a)) → a ≡ b
-    go (inl e) = e
-    go (inr (inl lt)) = absurd (none_before ts a b h i lt)
-    go (inr (inr lt)) = absurd (none_before ts b a i h lt)

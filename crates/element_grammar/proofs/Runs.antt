@@ -5,7 +5,7 @@ use Rattle.element_lang.specs.declared.mark.Mark.{Mark}
 use Rattle.element_lang.specs.declared.mark.Mark.TheVariants as marks
 use Rattle.element_lang.specs.Token.{Token, fixed, number}
 use Rattle.element_lang.specs.Surface.{SurfaceExpr, SurfaceExprs, SurfaceStmt, SurfaceBody, Literal, SurfaceRow, SurfaceDecl, Declared}
-use Rattle.element_lang.specs.Grammar.{infix_of, shift_of, IsPrim, is_literal, is_name, is_field, is_in_brackets, is_byte, is_cast, is_select, is_adjust, IsUnary, is_prim, is_not, IsExpr, is_unary, is_infix, is_shift, AreExprs, are_last, are_more, AreKeys, are_no_keys, are_keys, AreNames, are_no_names, are_names}
+use Rattle.element_lang.specs.Grammar.{infix_of, shift_of, IsPrim, is_literal, is_in_brackets, is_byte, is_cast, is_select, is_adjust, IsUnary, is_prim, is_not, IsExpr, is_unary, is_infix, is_shift, AreExprs, are_last, are_more, AreKeys, are_no_keys, are_keys, AreNames, are_no_names, are_names}
 use Rattle.element_lang.specs.Grammar.{IsStmt, is_let, is_assign, is_set_field, is_look, is_put, is_del, is_if, is_repeat, is_send, is_drop, IsElse, is_absent, is_else, IsBody, is_end, is_more}
 use Rattle.element_lang.specs.Grammar.{AreWidths, is_last_width, is_width_and_more, AreLiterals, is_last_literal, is_literal_and_more, AreRows, are_no_rows, are_rows, IsDecl, is_table, is_map, is_vector, is_int, IsMiddlebox, is_process, is_declared}
 use Rattle.element_grammar.specs.Machine.{Awaited, mark, some_number, some_name, prim, unary, expr, operand, exprs, more_exprs, keys, names, stmt, otherwise, body, widths, literals, rows, middlebox}
@@ -47,10 +47,6 @@ as_expr close (t ∷ ts) below =
     ap (λ o. when_it_fits o (λ stack. left_at stack ts) (suc (length ts)))
     (starts_both (unary_after t) (operand ∷ []) (more_exprs close ∷ []) below (step below t) (step (more_exprs close ∷ below) t))
 
-pub exprs_as_unary : (close : Mark) (ts : List Token) (below : List Awaited)
-    → left_at (exprs close ∷ below) ts ≡ left_at (unary ∷ operand ∷ more_exprs close ∷ below) ts
-exprs_as_unary close ts below = as_expr close ts below ∙ as_unary ts (more_exprs close ∷ below)
-
 -- keys are expressions where the bracket that closes them doesn't stand in front
 keys_but : (t : Token) → (t ≡ fixed marks.RightBracket → ⊥) → keys_move t ≡ starts (unary_after t) (operand ∷ more_exprs marks.RightBracket ∷ [])
 keys_but (fixed marks.RightBracket) free = absurd (free refl)
@@ -61,10 +57,6 @@ pub keys_as_exprs : (ts : List Token) → NoMark marks.RightBracket ts → (belo
 keys_as_exprs [] free below = refl
 keys_as_exprs (t ∷ ts) free below =
     ap (λ v. when_it_fits (after v below (step below t)) (λ stack. left_at stack ts) (suc (length ts))) (keys_but t (λ e. free.none ts (ap (λ u. u ∷ ts) e)))
-
-pub keys_as_unary : (ts : List Token) → NoMark marks.RightBracket ts → (below : List Awaited)
-    → left_at (keys ∷ below) ts ≡ left_at (unary ∷ operand ∷ more_exprs marks.RightBracket ∷ below) ts
-keys_as_unary ts free below = keys_as_exprs ts free below ∙ exprs_as_unary marks.RightBracket ts below
 
 -- a symbol makes a second operand awaited, or the number of a shift
 pub pushed : (t : Token) (ts : List Token) (op : Op) → infix_at t ≡ Some op → (below : List Awaited)
@@ -85,19 +77,10 @@ pushed_shift m ts op is below =
 -- an operand begins with no sign
 as_prim : {e : SurfaceExpr} {ts rest : List Token} → IsPrim e ts rest → (below : List Awaited) → left_at (unary ∷ below) ts ≡ left_at (prim ∷ below) ts
 as_prim is_literal below = refl
-as_prim is_name below = refl
-as_prim is_field below = refl
-as_prim (is_in_brackets p) below = refl
-as_prim (is_byte p) below = refl
-as_prim (is_cast p) below = refl
-as_prim (is_select p q r) below = refl
-as_prim (is_adjust p q r) below = refl
+as_prim _ below = refl
 
 mutual
   pub reads_prim : {e : SurfaceExpr} {ts rest : List Token} → IsPrim e ts rest → (below : List Awaited) → left_at (prim ∷ below) ts ≡ left_at below rest
-  reads_prim is_literal below = refl
-  reads_prim is_name below = refl
-  reads_prim is_field below = refl
   reads_prim (is_in_brackets p) below = reads_expr p (refl, refl) (mark marks.RightParen ∷ below)
   reads_prim (is_byte p) below = reads_expr p (refl, refl) (mark marks.RightParen ∷ below)
   reads_prim (is_cast p) below = reads_expr p (refl, refl) (mark marks.RightParen ∷ below)
@@ -107,6 +90,7 @@ mutual
   reads_prim (is_adjust p q r) below =
       reads_expr p (refl, refl) (mark marks.Comma ∷ expr ∷ mark marks.Comma ∷ expr ∷ mark marks.RightParen ∷ below)
       ∙ reads_expr q (refl, refl) (mark marks.Comma ∷ expr ∷ mark marks.RightParen ∷ below) ∙ reads_expr r (refl, refl) (mark marks.RightParen ∷ below)
+  reads_prim _ below = refl
 
   pub reads_unary : {e : SurfaceExpr} {ts rest : List Token} → IsUnary e ts rest → (below : List Awaited) → left_at (unary ∷ below) ts ≡ left_at below rest
   reads_unary (is_prim p) below = as_prim p below ∙ reads_prim p below
@@ -158,13 +142,7 @@ reads_exprs {close = close} {ts = ts} (are_more {us = us} p q) c below =
 -- no expression begins with the bracket that closes keys
 prim_no_bracket : {e : SurfaceExpr} {ts rest : List Token} → IsPrim e ts rest → NoMark marks.RightBracket ts
 prim_no_bracket is_literal = record { none = λ rest e. cc }
-prim_no_bracket is_name = record { none = λ rest e. cc }
-prim_no_bracket is_field = record { none = λ rest e. cc }
-prim_no_bracket (is_in_brackets p) = record { none = λ rest e. cc }
-prim_no_bracket (is_byte p) = record { none = λ rest e. cc }
-prim_no_bracket (is_cast p) = record { none = λ rest e. cc }
-prim_no_bracket (is_select p q r) = record { none = λ rest e. cc }
-prim_no_bracket (is_adjust p q r) = record { none = λ rest e. cc }
+prim_no_bracket _ = record { none = λ rest e. cc }
 
 unary_no_bracket : {e : SurfaceExpr} {ts rest : List Token} → IsUnary e ts rest → NoMark marks.RightBracket ts
 unary_no_bracket (is_prim p) = prim_no_bracket p
@@ -191,15 +169,7 @@ reads_names (are_names p) below = reads_names p below
 -- the tokens of a body begin with no `else`
 stmt_free : {s : SurfaceStmt} {ts rest : List Token} → IsStmt s ts rest → NoElse ts
 stmt_free (is_let p) = refl
-stmt_free (is_assign p) = refl
-stmt_free (is_set_field p) = refl
-stmt_free (is_look p q) = refl
-stmt_free (is_put p q) = refl
-stmt_free (is_del p) = refl
-stmt_free (is_if p a b) = refl
-stmt_free (is_repeat p) = refl
-stmt_free (is_send p) = refl
-stmt_free is_drop = refl
+stmt_free _ = refl
 
 pub free_else : {b : SurfaceBody} {ts rest : List Token} → IsBody b ts rest → NoElse ts
 free_else is_end = refl
@@ -209,15 +179,7 @@ free_else (is_more p q) = stmt_free p
 pub as_stmt : {s : SurfaceStmt} {ts rest : List Token} → IsStmt s ts rest → (below : List Awaited)
     → left_at (body ∷ below) ts ≡ left_at (stmt ∷ body ∷ below) ts
 as_stmt (is_let p) below = refl
-as_stmt (is_assign p) below = refl
-as_stmt (is_set_field p) below = refl
-as_stmt (is_look p q) below = refl
-as_stmt (is_put p q) below = refl
-as_stmt (is_del p) below = refl
-as_stmt (is_if p a b) below = refl
-as_stmt (is_repeat p) below = refl
-as_stmt (is_send p) below = refl
-as_stmt is_drop below = refl
+as_stmt _ below = refl
 
 mutual
   pub reads_stmt : {s : SurfaceStmt} {ts rest : List Token} → IsStmt s ts rest → NoElse rest → (below : List Awaited)

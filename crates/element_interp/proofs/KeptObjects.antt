@@ -12,9 +12,9 @@ use Rattle.state_store.specs.Kept.{have_widths, IsWhole, IsKeptObject, IsKept}
 use Rattle.state_store.specs.Store.{key_cmp, Contents, with_rows, zeros_from, start_contents, start_object, start_store, object_at}
 use Rattle.element_lang.specs.declared.sizes.TheConstants.{MAX_ROWS}
 use Rattle.element_lang.specs.Rules.{same_widths, is_size, are_good_rows, is_good_object, are_good_objects}
-use Rattle.element_interp.proofs.Tests.{left, right}
 use Rattle.gal_bits.specs.Fits.{same_list}
 use Rattle.state_store.specs.Widths.{one_width, zeros_have_widths}
+use Rattle.lemmas.proofs.Tests.{and_first, and_second}
 
 -- ---- rows
 no_rows : (keys values : List ℕ) → HaveRowWidths keys values empty
@@ -33,9 +33,9 @@ few_declared rows size all = omega (arith, few_rows rows empty, len-empty key_cm
 rows_fit : (keys values : List ℕ) (seen : List (List ℕ)) (rows : List Row) (contents : Contents) → are_good_rows keys values seen rows ≡ true → HaveRowWidths keys values contents → HaveRowWidths keys values (with_rows rows contents)
 rows_fit keys values seen [] contents h old = old
 rows_fit keys values seen (row ∷ rows) contents h old =
-    let widths = left _ _ (left _ _ h) in
-    rows_fit keys values (row.keys ∷ seen) rows (insert contents row.keys row.values) (right _ (are_good_rows keys values (row.keys ∷ seen) rows) h)
-    (with_row keys values row.keys row.values contents (left (have_widths keys row.keys) _ widths) (right _ (have_widths values row.values) widths) old)
+    let widths = and_first _ _ (and_first _ _ h) in
+    rows_fit keys values (row.keys ∷ seen) rows (insert contents row.keys row.values) (and_second _ (are_good_rows keys values (row.keys ∷ seen) rows) h)
+    (with_row keys values row.keys row.values contents (and_first (have_widths keys row.keys) _ widths) (and_second _ (have_widths values row.values) widths) old)
 
 -- the zeros of a vector, whose indices have 32 bits
 few_zeros : (n i width : ℕ) (contents : Contents) → len (zeros_from n i width contents) ≤ len contents + n
@@ -55,7 +55,7 @@ zeros_fit values (suc n) i contents within old =
 
 small_size : (n : ℕ) → is_size n ≡ true → n ≤ 2 ^ 32
 small_size n h =
-    let most : n ≤ MAX_ROWS = leb-true n MAX_ROWS (right _ (nat_le n MAX_ROWS) h) in
+    let most : n ≤ MAX_ROWS = leb-true n MAX_ROWS (and_second _ (nat_le n MAX_ROWS) h) in
     omega arith
 
 -- the one row of an integer
@@ -75,28 +75,28 @@ kept_from d contents is few rows = record {
 
 start_kept : (kind : Kind) (d : ObjectDecl) → is_good_object kind d ≡ true → d.kind ≡ kind → IsKeptObject d (start_object d)
 start_kept Table d h is =
-    let all : d.size ≡ length d.rows = eqb-true d.size (length d.rows) (right _ _ (left _ _ (left _ _ h))) in
+    let all : d.size ≡ length d.rows = eqb-true d.size (length d.rows) (and_second _ _ (and_first _ _ (and_first _ _ h))) in
     kept_from d (with_rows d.rows empty) (ap (λ (kind : Kind). start_contents kind d) is)
     (few_declared d.rows d.size all)
-    (rows_fit d.keys d.values [] d.rows empty (right _ (are_good_rows d.keys d.values [] d.rows) h) (no_rows d.keys d.values))
+    (rows_fit d.keys d.values [] d.rows empty (and_second _ (are_good_rows d.keys d.values [] d.rows) h) (no_rows d.keys d.values))
 start_kept Map d h is =
     kept_from d empty (ap (λ (kind : Kind). start_contents kind d) is) (omega (arith, len-empty key_cmp (List ℕ))) (no_rows d.keys d.values)
 start_kept Vector d h is =
-    let three = left _ _ (left _ _ h) in
-    let index : d.keys ≡ 32 ∷ [] = same_list d.keys (32 ∷ []) (left (same_widths d.keys (32 ∷ [])) _ (left _ _ three)) in
-    let small : d.size ≤ 2 ^ 32 = small_size d.size (right _ (is_size d.size) three) in
+    let three = and_first _ _ (and_first _ _ h) in
+    let index : d.keys ≡ 32 ∷ [] = same_list d.keys (32 ∷ []) (and_first (same_widths d.keys (32 ∷ [])) _ (and_first _ _ three)) in
+    let small : d.size ≤ 2 ^ 32 = small_size d.size (and_second _ (is_size d.size) three) in
     kept_from d (zeros_from d.size 0 (length d.values) empty) (ap (λ (kind : Kind). start_contents kind d) is)
     (few_indices d.size (length d.values))
     (subst (λ keys. HaveRowWidths keys d.values (zeros_from d.size 0 (length d.values) empty)) (sym index) (zeros_fit d.values d.size 0 empty (omega arith) (no_rows (32 ∷ []) d.values)))
 start_kept Int d h is =
-    let five = left _ _ h in
-    let four = left _ _ five in
-    let two = left _ _ (left _ _ four) in
+    let five = and_first _ _ h in
+    let four = and_first _ _ five in
+    let two = and_first _ _ (and_first _ _ four) in
     let width : ℕ = slice_index d.values 0 in
-    let none : d.keys ≡ [] = no_widths d.keys (eqb-true (length d.keys) 0 (left (length d.keys == 0) _ two)) in
-    let single : d.values ≡ width ∷ [] = same_list d.values (width ∷ []) (right _ (same_widths d.values (width ∷ [])) two) in
-    let one : d.size ≡ 1 = eqb-true d.size 1 (right _ _ four) in
-    let small : d.start < 2 ^ width = ltb-true d.start (2 ^ width) (right _ _ five) in
+    let none : d.keys ≡ [] = no_widths d.keys (eqb-true (length d.keys) 0 (and_first (length d.keys == 0) _ two)) in
+    let single : d.values ≡ width ∷ [] = same_list d.values (width ∷ []) (and_second _ (same_widths d.values (width ∷ [])) two) in
+    let one : d.size ≡ 1 = eqb-true d.size 1 (and_second _ _ four) in
+    let small : d.start < 2 ^ width = ltb-true d.start (2 ^ width) (and_second _ _ five) in
     kept_from d (insert empty [] (d.start ∷ [])) (ap (λ (kind : Kind). start_contents kind d) is)
     (one_row (d.start ∷ []) d.size one)
     (with_row d.keys d.values [] (d.start ∷ []) empty
@@ -114,8 +114,8 @@ start_length (o ∷ os) = ap suc (start_length os)
 
 start_each : (names : List (List ℕ)) (os : List ObjectDecl) → are_good_objects names os ≡ true → (number : ℕ) (d : ObjectDecl) → slice_get os number ≡ Some d → IsKeptObject d (object_at (start_store os) number)
 start_each names [] h number d got = cc
-start_each names (o ∷ os) h zero d got = subst (λ (x : ObjectDecl). IsKeptObject x (start_object o)) (same_Some o d got) (start_kept o.kind o (left _ _ (left _ _ h)) refl)
-start_each names (o ∷ os) h (suc number) d got = start_each (o.name ∷ names) os (right _ _ h) number d got
+start_each names (o ∷ os) h zero d got = subst (λ (x : ObjectDecl). IsKeptObject x (start_object o)) (same_Some o d got) (start_kept o.kind o (and_first _ _ (and_first _ _ h)) refl)
+start_each names (o ∷ os) h (suc number) d got = start_each (o.name ∷ names) os (and_second _ _ h) number d got
 
 -- each object starts whole
 start_whole_each : (os : List ObjectDecl) (number : ℕ) (d : ObjectDecl) → slice_get os number ≡ Some d → IsWhole d (object_at (start_store os) number)

@@ -12,10 +12,10 @@ use Rattle.element_lang.specs.Meaning.{source_store, serial_store}
 use Rattle.element_lang.specs.Rules.{is_good}
 use Rattle.element_lang.specs.Tree.{Tree}
 use Rattle.element_interp.proofs.KeptObjects.{start_is_kept}
-use Rattle.element_interp.proofs.Tests.{left}
+use Rattle.lemmas.proofs.Tests.{and_first}
 
 pub starts_kept : (m : Tree) → is_good m ≡ true → IsKept m.objects (start_store m.objects)
-starts_kept m h = start_is_kept [] m.objects (left _ _ (left _ _ h))
+starts_kept m h = start_is_kept [] m.objects (and_first _ _ (and_first _ _ h))
 
 serial_kept : (m : Tree) (st : Store) (packets : List Packet) → is_good m ≡ true → All IsArrival packets → IsKept m.objects st → IsKept m.objects (serial_store m st packets)
 serial_kept m st [] h arrive kept = kept

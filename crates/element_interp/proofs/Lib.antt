@@ -1,4 +1,3 @@
-pub mod Tests
 pub mod Assigned
 pub mod NoBits
 pub mod GoodRuns
@@ -6,3 +5,4 @@ pub mod KeptObjects
 pub mod KeptRuns
 pub mod Bindings
 pub mod Turns
+pub mod Laws

@@ -7,9 +7,7 @@ ghost use Rattle.element_lang.specs.Meaning.{with_fields};
 ghost use Rattle.element_interp.specs.Fields.{arrived, fields_over, with_assigned};
 
 use gal_bits::{Op, eval};
-use packet_fields::{
-    FIELD_COUNT, Field, Shape, field_index, fields, fields_stand_alone, get, set, width, writable,
-};
+use packet_fields::{FIELD_COUNT, Field, Shape, field_index, fields, get, set, width, writable};
 use std::marker::Model;
 
 /// The value of each field that was assigned one, in field order. Each fits its field.
@@ -96,7 +94,6 @@ impl AssignedFields {
         ensures { (port : ℕ)
             → packet.new ≡ with_fields all_fields (fields_over self.now packet.old port) packet.old }
     {
-        fields_stand_alone();
         for field in fields() {
             self.write_field(packet, shape, field);
         }

@@ -4,10 +4,8 @@
 mod fields;
 mod frame;
 mod interp;
-mod laws;
 mod serial;
 mod value;
 
 pub use interp::run;
-pub use laws::stores_are_kept;
 pub use serial::{SerialRun, run_all};

@@ -4,7 +4,7 @@ use Rattle.std.proofs.lemmas.Bool.Decides.{nat_tests}
 use Rattle.state_store.specs.declared.object.ObjectDecl.{ObjectDecl}
 use Rattle.element_lang.specs.declared.broken.Broken.{Broken}
 use Rattle.element_lang.specs.Token.{Token}
-use Rattle.element_lang.specs.Surface.{SurfaceStmt, SurfaceBody, Declared, Surface, let_local, assign, set_field, look, put, del, choose, repeat, send, drop, done, stmt, object_of}
+use Rattle.element_lang.specs.Surface.{SurfaceStmt, SurfaceBody, Declared, Surface, choose, repeat, done, stmt, object_of}
 use Rattle.element_lang.specs.Grammar.{Spells, IsStmt, IsElse, IsBody, IsMiddlebox}
 use Rattle.element_lang.specs.Grammar.IsStmt.{is_let, is_assign, is_set_field, is_look, is_put, is_del, is_if, is_repeat, is_send, is_drop}
 use Rattle.element_lang.specs.Grammar.IsElse.{is_absent, is_else}
@@ -14,6 +14,8 @@ use Rattle.element_lang.specs.Broken.{Sight, inside, in_repeat, behind, stmt_tes
 use Rattle.element_lang.specs.First.{Site, sites_within, sites_in, declared_sites, first_sight, surface_sites, StandsIn, breaks, IsFirstBroken, BreakNone}
 use Rattle.element_lang.specs.First.StandsIn.{first, later}
 use Rattle.element_lang.proofs.Shorter as shorter
+use Rattle.lemmas.proofs.Tests.{and_first, and_second}
+use Rattle.std.proofs.lemmas.Bool.{ltb-true}
 
 -- ## One part
 
@@ -21,17 +23,6 @@ use Rattle.element_lang.proofs.Shorter as shorter
 abbrev rising : ℕ → List (ℕ × Bool) → Bool
 rising n [] = true
 rising n ((rule, broken) ∷ tests) = nat_lt n rule && rising rule tests
-
-left : (a b : Bool) → (a && b) ≡ true → a ≡ true
-left true b e = refl
-left false b e = cc
-
-right : (a b : Bool) → (a && b) ≡ true → b ≡ true
-right true b e = e
-right false b e = cc
-
-is_below : (a b : ℕ) → nat_lt a b ≡ true → a < b
-is_below a b e = grind (arith, nat_tests)
 
 other_rule : (a b : ℕ) → b < a → nat_eq a b ≡ false
 other_rule a b h = grind (arith, nat_tests)
@@ -61,9 +52,9 @@ or_that a false e = cc
 none_lower : (n rule : ℕ) (tests : List (ℕ × Bool)) → rising n tests ≡ true → rule ≤ n → breaks tests rule ≡ false
 none_lower n rule [] h low = refl
 none_lower n rule ((r, broken) ∷ tests) h low =
-    let above : n < r = is_below n r (left (nat_lt n r) (rising r tests) h) in
+    let above : n < r = ltb-true n r (and_first (nat_lt n r) (rising r tests) h) in
     neither (nat_eq r rule) broken (breaks tests rule) (other_rule r rule (omega arith))
-    (none_lower r rule tests (right (nat_lt n r) (rising r tests) h) (omega arith))
+    (none_lower r rule tests (and_second (nat_lt n r) (rising r tests) h) (omega arith))
 
 record Lowest (at n : ℕ) (tests : List (ℕ × Bool)) (b : Broken) : Type 0 where
   pub there : at ≡ b.at
@@ -74,7 +65,7 @@ lowest_told : (at n : ℕ) (tests : List (ℕ × Bool)) (b : Broken) → rising 
 lowest_told at n [] b h e = cc
 lowest_told at n ((r, true) ∷ tests) b h e =
     let is : record { rule = r; at = at } ≡ b = cc in
-    let rest = right (nat_lt n r) (rising r tests) h in
+    let rest = and_second (nat_lt n r) (rising r tests) h in
     let P : Broken → Type 0 = λ b. Lowest at n ((r, true) ∷ tests) b in
     subst P is (record {
       there = refl;
@@ -82,7 +73,7 @@ lowest_told at n ((r, true) ∷ tests) b h e =
       lowest = λ rule low. neither (nat_eq r rule) true (breaks tests rule) (other_rule r rule low) (none_lower r rule tests rest (omega arith));
     })
 lowest_told at n ((r, false) ∷ tests) b h e =
-    let k = lowest_told at r tests b (right (nat_lt n r) (rising r tests) h) e in
+    let k = lowest_told at r tests b (and_second (nat_lt n r) (rising r tests) h) e in
     record {
       there = k.there;
       broken = or_that (nat_eq r b.rule) (breaks tests b.rule) k.broken;
@@ -117,14 +108,7 @@ mutual
   within_is sight (choose cond b c) =
       both_are (in_is (inside sight) b) (in_is (inside sight) c) ∙ first_joined (sites_in (inside sight) b) (sites_in (inside sight) c)
   within_is sight (repeat index count body) = in_is (in_repeat sight (repeat index count body)) body
-  within_is sight (let_local word value) = refl
-  within_is sight (assign word value) = refl
-  within_is sight (set_field f value) = refl
-  within_is sight (look found into object keys) = refl
-  within_is sight (put ok object keys values) = refl
-  within_is sight (del was object keys) = refl
-  within_is sight (send port) = refl
-  within_is sight drop = refl
+  within_is sight _ = refl
 
   in_is : (sight : Sight) (b : SurfaceBody) → broken_in sight b ≡ first_in (sites_in sight b)
   in_is sight done = refl

@@ -31,7 +31,7 @@ front_begins [] b bs some e = absurd (omega arith)
 front_begins (c ∷ cs) b bs some e = (and_parts (nat_eq c b) (starts_with nat_eq bs cs) e).0
 
 -- each mark is written with some byte
-written : (m : Mark) → 0 < length (spelling m)
+pub written : (m : Mark) → 0 < length (spelling m)
 written Table = lit< tt
 written _ = lit< tt
 

@@ -2,3 +2,4 @@ pub mod Longest
 pub mod FirstByte
 pub mod Shorter
 pub mod FirstBroken
+pub mod Laws

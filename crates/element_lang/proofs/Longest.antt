@@ -1,36 +1,20 @@
 -- In a list of marks in which the longer ones stand in front, the first that fits is one that no longer one beats.
-use Rattle.std.proofs.Common.{◌≡◌, ℕ, Bool, true, false, not, ◌&&◌, ◌||◌, cond, List, [], ◌∷◌, ◌++◌, length, nat_lt, Option, Some, refl, subst, arith, append_assoc}
+use Rattle.std.proofs.Common.{◌≡◌, ℕ, Bool, true, false, not, ◌&&◌, cond, List, [], ◌∷◌, ◌++◌, length, nat_lt, Option, Some, refl, subst, arith, append_assoc}
 use Rattle.std.specs.List.{find, list_any, list_all}
 use Rattle.std.proofs.lemmas.Bool.Decides.{nat_tests}
 use Rattle.element_lang.specs.declared.mark.Mark.{Mark}
 use Rattle.element_lang.specs.Mark.{spelling, stands, is_longer, is_beaten, symbols, symbol_in_front}
+use Rattle.std.proofs.lemmas.Bool.{and_left, and_parts, or_from, or_parts}
 
 -- each is as long as those behind it, or longer
 abbrev falling : List Mark → Bool
 falling [] = true
 falling (m ∷ ms) = list_all (λ k. not (is_longer k m)) ms && falling ms
 
-both : (a b : Bool) → (a && b) ≡ true → (a ≡ true) × (b ≡ true)
-both true b e = (refl, e)
-both false b e = cc
-
-none_of : (a b : Bool) → (a || b) ≡ false → (a ≡ false) × (b ≡ false)
-none_of false b e = (refl, e)
-none_of true b e = cc
-
 no_beat : (a b : Bool) → not b ≡ true → (a && b) ≡ false
 no_beat a true e = cc
 no_beat true false e = refl
 no_beat false false e = refl
-
-no_stand : (a b : Bool) → a ≡ false → (a && b) ≡ false
-no_stand false b e = refl
-no_stand true b e = cc
-
-either : (a b : Bool) → a ≡ false → b ≡ false → (a || b) ≡ false
-either false false e f = refl
-either true b e f = cc
-either false true e f = cc
 
 not_below : (n : ℕ) → not (nat_lt n n) ≡ true
 not_below n = grind (arith, nat_tests)
@@ -38,27 +22,27 @@ not_below n = grind (arith, nat_tests)
 none_behind : (bs : List ℕ) (m : Mark) (ms : List Mark) → list_all (λ k. not (is_longer k m)) ms ≡ true → is_beaten ms bs m ≡ false
 none_behind bs m [] h = refl
 none_behind bs m (k ∷ ms) h =
-    let (first, others) = both (not (is_longer k m)) (list_all (λ k. not (is_longer k m)) ms) h in
-    either (stands bs k && is_longer k m) (is_beaten ms bs m) (no_beat (stands bs k) (is_longer k m) first) (none_behind bs m ms others)
+    let (first, others) = and_parts (not (is_longer k m)) (list_all (λ k. not (is_longer k m)) ms) h in
+    or_from (stands bs k && is_longer k m) (is_beaten ms bs m) (no_beat (stands bs k) (is_longer k m) first) (none_behind bs m ms others)
 
 -- none of those in front stands there
 none_beats : (bs : List ℕ) (m : Mark) (front rest : List Mark) → list_any (stands bs) front ≡ false → is_beaten rest bs m ≡ false → is_beaten (front ++ rest) bs m ≡ false
 none_beats bs m [] rest none h = h
 none_beats bs m (k ∷ front) rest none h =
-    let (first, others) = none_of (stands bs k) (list_any (stands bs) front) none in
-    either (stands bs k && is_longer k m) (is_beaten (front ++ rest) bs m) (no_stand (stands bs k) (is_longer k m) first) (none_beats bs m front rest others h)
+    let (first, others) = or_parts (stands bs k) (list_any (stands bs) front) none in
+    or_from (stands bs k && is_longer k m) (is_beaten (front ++ rest) bs m) (and_left (stands bs k) (is_longer k m) first) (none_beats bs m front rest others h)
 
 unbeaten : (bs : List ℕ) (m : Mark) (front ms : List Mark) → list_any (stands bs) front ≡ false → falling (m ∷ ms) ≡ true → is_beaten (front ++ m ∷ ms) bs m ≡ false
 unbeaten bs m front ms none h =
-    let (first, others) = both (list_all (λ k. not (is_longer k m)) ms) (falling ms) h in
+    let (first, others) = and_parts (list_all (λ k. not (is_longer k m)) ms) (falling ms) h in
     none_beats bs m front (m ∷ ms) none
-    (either (stands bs m && is_longer m m) (is_beaten ms bs m) (no_beat (stands bs m) (is_longer m m) (not_below (length (spelling m)))) (none_behind bs m ms first))
+    (or_from (stands bs m && is_longer m m) (is_beaten ms bs m) (no_beat (stands bs m) (is_longer m m) (not_below (length (spelling m)))) (none_behind bs m ms first))
 
 none_more : (bs : List ℕ) (m : Mark) (front : List Mark) → list_any (stands bs) front ≡ false → stands bs m ≡ false → list_any (stands bs) (front ++ m ∷ []) ≡ false
-none_more bs m [] none e = either (stands bs m) false e refl
+none_more bs m [] none e = or_from (stands bs m) false e refl
 none_more bs m (k ∷ front) none e =
-    let (first, others) = none_of (stands bs k) (list_any (stands bs) front) none in
-    either (stands bs k) (list_any (stands bs) (front ++ m ∷ [])) first (none_more bs m front others e)
+    let (first, others) = or_parts (stands bs k) (list_any (stands bs) front) none in
+    or_from (stands bs k) (list_any (stands bs) (front ++ m ∷ [])) first (none_more bs m front others e)
 
 abbrev best : List Mark → List ℕ → Mark → Bool
 best all bs m = stands bs m && not (is_beaten all bs m)
@@ -83,7 +67,7 @@ first_best : (bs : List ℕ) (front ms : List Mark) → list_any (stands bs) fro
     → find (stands bs) ms ≡ find (best (front ++ ms) bs) ms
 first_best bs front [] none h = refl
 first_best bs front (m ∷ ms) none h =
-    let (first, others) = both (list_all (λ k. not (is_longer k m)) ms) (falling ms) h in
+    let (first, others) = and_parts (list_all (λ k. not (is_longer k m)) ms) (falling ms) h in
     let P : List Mark → Type 0 = λ all. find (stands bs) ms ≡ find (best all bs) ms in
     let rest : stands bs m ≡ false → find (stands bs) ms ≡ find (best (front ++ m ∷ ms) bs) ms = λ e.
     subst P (append_assoc front (m ∷ []) ms) (first_best bs (front ++ m ∷ []) ms (none_more bs m front none e) others) in

@@ -2,9 +2,9 @@
 -- store that keeps what was declared.
 use Rattle.std.proofs.Common.{◌≡◌, ◌≤◌, ◌<◌, ◌+◌, ◌%◌, ◌^◌, ◌==◌, ℕ, zero, suc, Bool, true, false, cond, not, ◌&&◌}
 use Rattle.std.proofs.Common.{List, [], ◌∷◌, ◌++◌, length, nat_le, map, replicate, Option, Some, None, is_some}
-use Rattle.std.proofs.Common.{unwrap_or, slice_get, slice_index, slice_set, refl, sym, ap, ◌∙◌, subst, arith, lit<}
+use Rattle.std.proofs.Common.{unwrap_or, slice_get, slice_index, slice_set, refl, sym, subst, arith, lit<}
 use Rattle.std.proofs.Common.{true≢false}
-use Rattle.std.proofs.lemmas.Bool.{and_parts, cond_both, eqb-true, leb-true, ltb-true}
+use Rattle.std.proofs.lemmas.Bool.{cond_both, eqb-true, leb-true, ltb-true}
 use Rattle.gal_bits.specs.Operators.{bit}
 use Rattle.gal_bits.specs.Fits.{cut_fits, operator_fits, same_list}
 use Rattle.packet_fields.specs.declared.field.Field.{Field}
@@ -20,7 +20,7 @@ use Rattle.state_store.specs.Kept.{have_widths, IsKeptObject, IsKept}
 use Rattle.state_store.specs.Kinds.{is_table}
 use Rattle.state_store.specs.Store.{Object, Store, object_at, looked_up}
 use Rattle.state_store.specs.Store as store
-use Rattle.state_store.specs.Widths.{AtWidths, at_widths, one_width, zero_at, at_place, set_fits}
+use Rattle.state_store.specs.Widths.{AtWidths, at_widths, one_width, zero_at, set_fits}
 use Rattle.element_lang.specs.Tree.{ExprTree, Exprs, StmtTree, BodyTree, Tree}
 use Rattle.element_lang.specs.Tree.ExprTree.{lit, local, field, byte, shift, apply}
 use Rattle.element_lang.specs.Tree.Exprs.{no_expr, expr}
@@ -33,12 +33,7 @@ use Rattle.element_lang.specs.Rules.{declared_in, declared_by, binds}
 use Rattle.element_lang.specs.Meaning.{State, Outcome, Running, Ended, then_do, bind_from, value_of, values_of}
 use Rattle.element_lang.specs.Meaning.{looked, stored, bound, deleted, turns, do_stmt, do_body, start_state}
 use Rattle.element_lang.specs.Meaning.{store_after, source_store}
-
-left : (a b : Bool) → (a && b) ≡ true → a ≡ true
-left a b h = (and_parts a b h).0
-
-right : (a b : Bool) → (a && b) ≡ true → b ≡ true
-right a b h = (and_parts a b h).1
+use Rattle.lemmas.proofs.Tests.{and_first, and_second}
 
 -- the variables of a run fit what was declared of them
 pub record Fits (m : Tree) (s : State) : Type 0 where
@@ -80,7 +75,7 @@ field_assigned f value values fit =
 pub value_fits : (m : Tree) (packet : Packet) (scope : List ℕ) (s : State) → IsArrival packet → Fits m s
     → (e : ExprTree) → is_good_expr (local_widths m) scope e ≡ true
     → value_of (local_widths m) packet e s < 2 ^ width_of (local_widths m) e
-value_fits m packet scope s arrives fits (lit value width) good = ltb-true value (2 ^ width) (right _ _ good)
+value_fits m packet scope s arrives fits (lit value width) good = ltb-true value (2 ^ width) (and_second _ _ good)
 value_fits m packet scope s arrives fits (local x) good = fits.locals x
 value_fits m packet scope s arrives fits (field f) good =
     subst (λ w. slice_index s.fields (field_index f) < 2 ^ w) (field_width_at f) (fits.fields (field_index f))
@@ -98,8 +93,8 @@ values_fit m packet scope s arrives fits no_expr good = refl
 values_fit m packet scope s arrives fits (expr e es) good =
     one_width (width_of (local_widths m) e) (value_of (local_widths m) packet e s) (widths_of (local_widths m) es)
     (values_of (local_widths m) packet es s)
-    (value_fits m packet scope s arrives fits e (left (is_good_expr (local_widths m) scope e) _ good))
-    (values_fit m packet scope s arrives fits es (right _ (are_good_exprs (local_widths m) scope es) good))
+    (value_fits m packet scope s arrives fits e (and_first (is_good_expr (local_widths m) scope e) _ good))
+    (values_fit m packet scope s arrives fits es (and_second _ (are_good_exprs (local_widths m) scope es) good))
 
 -- values of widths that are those of a declaration
 as_declared : (widths declared values : List ℕ) → same_widths widths declared ≡ true
@@ -139,7 +134,7 @@ looked_fits d o key kept = by_row (store.look o key) (kept.rows key)
         → ((values : List ℕ) → found ≡ Some values → (have_widths d.keys key && have_widths d.values values) ≡ true)
         → AtWidths d.values (unwrap_or found (replicate o.count 0))
     by_row None rows place = zero_at o.count place (slice_index d.values place)
-    by_row (Some values) rows place = at_widths d.values values (right _ _ (rows values refl)) place
+    by_row (Some values) rows place = at_widths d.values values (and_second _ _ (rows values refl)) place
 
 -- ---- statements
 look_fits : (m : Tree) (found : ℕ) (into : List ℕ) (object : ℕ) (key : List ℕ) (s : State) → Fits m s
@@ -241,46 +236,46 @@ mutual
       → IsArrival packet → Fits m s → is_good_stmt m scope next t ≡ true
       → FitsOutcome m (do_stmt (local_widths m) packet t s)
   stmt_fits m packet scope next (let_local x value) s arrives fits h =
-      let two = left _ _ (left _ _ h) in
-      value_bound m packet scope s arrives fits x value (left _ _ two) (right _ _ two)
+      let two = and_first _ _ (and_first _ _ h) in
+      value_bound m packet scope s arrives fits x value (and_first _ _ two) (and_second _ _ two)
   stmt_fits m packet scope next (assign x value) s arrives fits h =
-      value_bound m packet scope s arrives fits x value (left _ _ (left _ _ h)) (right _ _ h)
+      value_bound m packet scope s arrives fits x value (and_first _ _ (and_first _ _ h)) (and_second _ _ h)
   stmt_fits m packet scope next (set_field f value) s arrives fits h = record {
     locals = fits.locals;
     fields = field_assigned f (value_of (local_widths m) packet value s) s.fields fits.fields;
     store = fits.store;
   }
   stmt_fits m packet scope next (look found into object keys) s arrives fits h =
-      let three = left _ _ (left _ _ h) in
+      let three = and_first _ _ (and_first _ _ h) in
       look_fits m found into object (values_of (local_widths m) packet keys s) s fits
-      (right _ _ (left _ _ three)) (right _ _ three)
+      (and_second _ _ (and_first _ _ three)) (and_second _ _ three)
   stmt_fits m packet scope next (put ok object keys values) s arrives fits h =
-      let six = left _ _ (left _ _ h) in
-      let five = left _ _ six in
-      let four = left _ _ five in
-      let three = left _ _ four in
-      let two = left _ _ three in
+      let six = and_first _ _ (and_first _ _ h) in
+      let five = and_first _ _ six in
+      let four = and_first _ _ five in
+      let three = and_first _ _ four in
+      let two = and_first _ _ three in
       put_fits m ok object (widths_of (local_widths m) keys) (widths_of (local_widths m) values)
       (values_of (local_widths m) packet keys s) (values_of (local_widths m) packet values s) s fits
-      (values_fit m packet scope s arrives fits keys (left _ _ two))
-      (values_fit m packet scope s arrives fits values (right _ _ two))
-      (right _ _ three) (right _ _ four) (right _ _ five) (right _ _ six)
+      (values_fit m packet scope s arrives fits keys (and_first _ _ two))
+      (values_fit m packet scope s arrives fits values (and_second _ _ two))
+      (and_second _ _ three) (and_second _ _ four) (and_second _ _ five) (and_second _ _ six)
   stmt_fits m packet scope next (del was object keys) s arrives fits h =
-      let four = left _ _ (left _ _ h) in
+      let four = and_first _ _ (and_first _ _ h) in
       del_fits m was object (values_of (local_widths m) packet keys s) s fits
-      (right _ _ (left _ _ (left _ _ four))) (right _ _ four)
+      (and_second _ _ (and_first _ _ (and_first _ _ four))) (and_second _ _ four)
   stmt_fits m packet scope next (choose cond first second) s arrives fits h =
       cond_both (value_of (local_widths m) packet cond s == 0) (do_body (local_widths m) packet second s)
       (do_body (local_widths m) packet first s) (FitsOutcome m)
-      (λ _. body_fits m packet scope (next + declared_by first) second s arrives fits (right _ _ h))
-      (λ _. body_fits m packet scope next first s arrives fits (right _ _ (left _ _ h)))
+      (λ _. body_fits m packet scope (next + declared_by first) second s arrives fits (and_second _ _ h))
+      (λ _. body_fits m packet scope next first s arrives fits (and_second _ _ (and_first _ _ h)))
   stmt_fits m packet scope next (repeat index count body) s arrives fits h =
-      let four = left _ _ (left _ _ (left _ _ h)) in
-      let times = left (is_count count) _ (left _ _ (left _ _ four)) in
-      let few : count ≤ 64 = leb-true count 64 (right _ (nat_le count 64) times) in
+      let four = and_first _ _ (and_first _ _ (and_first _ _ h)) in
+      let times = and_first (is_count count) _ (and_first _ _ (and_first _ _ four)) in
+      let few : count ≤ 64 = leb-true count 64 (and_second _ (nat_le count 64) times) in
       turns_fit m index (do_body (local_widths m) packet body)
-      (eqb-true (slice_index (local_widths m) index) 32 (right _ _ four))
-      (λ after ok. body_fits m packet (index ∷ scope) (next + 1) body after arrives ok (right _ _ h))
+      (eqb-true (slice_index (local_widths m) index) 32 (and_second _ _ four))
+      (λ after ok. body_fits m packet (index ∷ scope) (next + 1) body after arrives ok (and_second _ _ h))
       count 0 s (omega arith) fits
   stmt_fits m packet scope next (send port) s arrives fits h = fits.store
   stmt_fits m packet scope next drop s arrives fits h = fits.store
@@ -291,8 +286,8 @@ mutual
   body_fits m packet scope next done s arrives fits h = fits
   body_fits m packet scope next (stmt t b) s arrives fits h =
       then_fits m (do_stmt (local_widths m) packet t s) (do_body (local_widths m) packet b)
-      (stmt_fits m packet scope next t s arrives fits (left _ _ (left _ _ h)))
-      (λ after goes. body_fits m packet (binds t ++ scope) (next + declared_in t) b after arrives goes (right _ _ h))
+      (stmt_fits m packet scope next t s arrives fits (and_first _ _ (and_first _ _ h)))
+      (λ after goes. body_fits m packet (binds t ++ scope) (next + declared_in t) b after arrives goes (and_second _ _ h))
 
 -- ---- whole runs
 pub start_fits : (m : Tree) (st : Store) (packet : Packet) → IsArrival packet → IsKept m.objects st
@@ -308,4 +303,4 @@ pub runs_kept : (m : Tree) (st : Store) (packet : Packet) → is_good m ≡ true
 runs_kept m st packet h arrives kept =
     store_fits m (do_body (local_widths m) packet m.body (start_state m st packet))
     (body_fits m packet [] 0 m.body (start_state m st packet) arrives (start_fits m st packet arrives kept)
-    (right _ _ h))
+    (and_second _ _ h))

@@ -1,5 +1,5 @@
 -- What a middlebox does to packets.
-use Rattle.std.specs.Prelude.{ℕ, zero, suc, ◌+◌, ◌%◌, ◌^◌, ◌==◌, Bool, true, false, List, [], ◌∷◌, map, length}
+use Rattle.std.specs.Prelude.{ℕ, zero, suc, ◌+◌, ◌%◌, ◌^◌, ◌==◌, List, [], ◌∷◌, map, length}
 use Rattle.std.specs.Prelude.{replicate, is_some, if◌then◌else◌, slice_index, slice_set}
 use Rattle.gal_bits.specs.Operators.{bit, value_of as operator_value}
 use Rattle.packet_fields.specs.declared.field.Field.{Field}

@@ -1,6 +1,6 @@
 -- The rules that a middlebox keeps, each as a test.
 use Rattle.std.specs.Prelude.{ℕ, suc, ◌+◌, ◌^◌, Bool, true, false, not, ◌&&◌, ◌||◌, List, [], ◌∷◌, ◌++◌, map, length}
-use Rattle.std.specs.Prelude.{nat_le, nat_lt, ◌==◌, Option, Some, None, slice_get, slice_index}
+use Rattle.std.specs.Prelude.{nat_le, nat_lt, ◌==◌, slice_get, slice_index}
 use Rattle.std.specs.List.{list_any, list_all}
 use Rattle.std.specs.Str.{bytes_eq}
 pub use Rattle.gal_bits.specs.Fitting.{is_width, same_widths, fits_operator, is_shift}
@@ -11,7 +11,6 @@ use Rattle.state_store.specs.declared.object.Kind.{Kind}
 use Rattle.state_store.specs.declared.object.Kind.TheVariants.{Table, Map, Vector, Int}
 use Rattle.state_store.specs.declared.object.Row.{Row}
 use Rattle.state_store.specs.declared.object.ObjectDecl.{ObjectDecl}
-use Rattle.state_store.specs.Kinds.{is_table, is_map}
 use Rattle.state_store.specs.Kept.{have_widths}
 use Rattle.element_lang.specs.Tree.{ExprTree, Exprs, StmtTree, BodyTree, Tree}
 use Rattle.element_lang.specs.Tree.ExprTree.{lit, local, field, byte, shift, apply}

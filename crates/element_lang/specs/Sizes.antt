@@ -1,10 +1,10 @@
 -- How much a middlebox holds, and how often it may write in a run.
 use Rattle.std.specs.Prelude.{ℕ, ◌+◌, ◌*◌, List, [], ◌∷◌, length}
 use Rattle.state_store.specs.declared.object.Kind.{Kind}
-use Rattle.state_store.specs.declared.object.Kind.TheVariants.{Table, Map, Vector, Int}
+use Rattle.state_store.specs.declared.object.Kind.TheVariants.{Table, Int, Map, Vector}
 use Rattle.state_store.specs.declared.object.ObjectDecl.{ObjectDecl}
 use Rattle.element_lang.specs.Tree.{StmtTree, BodyTree, Tree}
-use Rattle.element_lang.specs.Tree.StmtTree.{let_local, assign, set_field, look, put, del, choose, repeat, send, drop}
+use Rattle.element_lang.specs.Tree.StmtTree.{put, del, choose, repeat, let_local, assign, set_field, look, send, drop}
 use Rattle.element_lang.specs.Tree.BodyTree.{done, stmt}
 
 -- the rows of a table, the capacity of a map, the length of a vector, and nothing for an integer

@@ -1,8 +1,13 @@
 -- The tokens of a source.
-use Rattle.std.specs.Prelude.{◌≡◌, ℕ, suc, ◌+◌, ◌-◌, ◌*◌, ◌^◌, Bool, true, false, not, ◌&&◌, ◌||◌, List, [], ◌∷◌}
+use Rattle.std.specs.Prelude.{◌≡◌, ℕ, ◌+◌, ◌-◌, ◌*◌, ◌^◌, Bool, ◌&&◌, ◌||◌, List, [], ◌∷◌}
 use Rattle.std.specs.Prelude.{length, drop}
 use Rattle.std.specs.Prelude.{Option, Some, None, nat_eq, nat_lt, nat_le, ◌==◌, if◌then◌else◌, codes, take_while}
 use Rattle.std.specs.List.{starts_with, list_any}
+use Rattle.lexer.specs.declared.token.Lexeme.{Lexeme as AnyLexeme}
+use Rattle.lexer.specs.declared.token.Placed.{Placed as AnyPlaced}
+use Rattle.lexer.specs.Tokens as lexer
+pub use Rattle.lexer.specs.Bytes.{gap, is_blank, is_letter, is_digit, is_number_byte}
+pub use Rattle.lexer.specs.Tokens.{sized_lexeme}
 use Rattle.packet_fields.specs.declared.field.Field.{Field}
 use Rattle.packet_fields.specs.Table.{field_named}
 use Rattle.element_lang.specs.declared.mark.Mark.{Mark}
@@ -15,35 +20,9 @@ pub data Token : Type 0 where
   name : List ℕ → Token
   field : Field → Token
 
--- a space, a tab, a CR or an LF
-abbrev pub is_blank : ℕ → Bool
-is_blank b = b == 32 || b == 9 || b == 13 || b == 10
-
--- an ASCII letter
-abbrev pub is_letter : ℕ → Bool
-is_letter b = nat_le 65 b && nat_le b 90 || nat_le 97 b && nat_le b 122
-
-abbrev pub is_digit : ℕ → Bool
-is_digit b = nat_le 48 b && nat_le b 57
-
--- over what a number goes on: letters, digits and `_`
-abbrev pub is_number_byte : ℕ → Bool
-is_number_byte b = is_letter b || is_digit b || b == 95
-
--- over what a word goes on: the same and dots
+-- over what a word goes on: letters, digits, `_` and dots
 abbrev pub is_word_byte : ℕ → Bool
 is_word_byte b = is_number_byte b || b == 46
-
-abbrev pub starts_comment : List ℕ → Bool
-starts_comment bs = starts_with nat_eq bs (codes "//")
-
--- How many bytes of blanks and comments stand in front. `inside` says whether a comment has begun; it ends before the
--- next LF.
-abbrev pub gap : Bool → List ℕ → ℕ
-gap inside [] = 0
-gap true (b ∷ bs) = suc (gap (not (b == 10)) bs)
-gap false (b ∷ bs) = if is_blank b then suc (gap false bs)
-    else (if starts_comment (b ∷ bs) then suc (gap true bs) else 0)
 
 -- a word with a dot is the name of a field, and any other a keyword or a name
 abbrev pub field_token : Option Field → Option Token
@@ -99,13 +78,8 @@ number_token None = None
 number_token (Some n) = Some (number n)
 
 -- a token, and how many bytes it takes
-pub record Lexeme : Type 0 where
-  pub token : Token
-  pub len : ℕ
-
-abbrev pub sized_lexeme : ℕ → Option Token → Option Lexeme
-sized_lexeme len None = None
-sized_lexeme len (Some t) = Some (record { token = t; len = len })
+abbrev pub Lexeme : Type 0
+Lexeme = AnyLexeme Token
 
 abbrev pub word_lexeme : List ℕ → Option Lexeme
 word_lexeme word = sized_lexeme (length word) (word_token word)
@@ -130,23 +104,17 @@ abbrev pub IsName : List ℕ → Type 0
 IsName word = lexeme word ≡ Some (record { token = name word; len = length word })
 
 -- a token and the offset of its first byte in the text
-pub record Placed : Type 0 where
-  pub token : Token
-  pub offset : ℕ
+abbrev pub Placed : Type 0
+Placed = AnyPlaced Token
 
 -- The text from `offset` on has these tokens, and then `rest` at `stop`, where blanks and comments have been passed.
 abbrev pub HasTokens : ℕ → List ℕ → List Placed → ℕ → List ℕ → Type 0
-HasTokens offset bs [] stop rest = (stop ≡ offset + gap false bs) × (rest ≡ drop (gap false bs) bs)
-HasTokens offset bs (t ∷ ts) stop rest =
-    let n = gap false bs in
-    (x : Lexeme) × (lexeme (drop n bs) ≡ Some x) × (t ≡ record { token = x.token; offset = offset + n })
-    × HasTokens (offset + n + x.len) (drop x.len (drop n bs)) ts stop rest
+HasTokens = lexer.HasTokens lexeme
 
 -- all of the text is these tokens
 abbrev pub AreTokens : List ℕ → List Placed → Type 0
-AreTokens text ts = HasTokens 0 text ts (length text) []
+AreTokens = lexer.AreTokens lexeme
 
 -- behind some tokens stands a byte at which no token starts
 abbrev pub IsNoToken : List ℕ → ℕ → Type 0
-IsNoToken text offset = (ts : List Placed) × (b : ℕ) × (rest : List ℕ) × HasTokens 0 text ts offset (b ∷ rest)
-    × (lexeme (b ∷ rest) ≡ None)
+IsNoToken = lexer.IsNoToken lexeme

@@ -3,13 +3,11 @@
 
 mod broken;
 mod copy;
-mod laws;
 mod mark;
 mod sizes;
 mod tree;
 
 pub use broken::Broken;
-pub use laws::the_first_is_told;
 pub use mark::Mark;
 pub use sizes::{MAX_DEPTH, MAX_ENTRIES, MAX_OBJECTS, MAX_ROWS, MAX_WRITES, What, is_size};
 pub use tree::{Body, Expr, Local, Locals, Middlebox, Stmt};

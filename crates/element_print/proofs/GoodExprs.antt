@@ -9,17 +9,18 @@ use Rattle.element_lang.specs.Surface.{SurfaceExpr, SurfaceExprs, local_name, wr
 use Rattle.element_lang.specs.Surface as surface
 use Rattle.element_lang.specs.Widths.{width_of}
 use Rattle.element_lang.specs.Rules.{is_good_expr, are_good_exprs, fits_operator, same_widths, is_shift, is_width, widths_of}
-use Rattle.element_print.proofs.BoolParts.{left, right, is_equal}
+use Rattle.element_print.proofs.BoolParts.{is_equal}
 use Rattle.element_print.proofs.Spelled.{Spelled, AllSpelled, count, literal_spelled, name_spelled, field_spelled, byte_spelled, shift_by, not_applied, infix_applied, cast_applied, select_applied, adjust_applied}
+use Rattle.lemmas.proofs.Tests.{and_first, and_second}
 
 pub same_length : (xs ys : List ℕ) → same_widths xs ys ≡ true → length xs ≡ length ys
 same_length [] [] h = refl
 same_length [] (y ∷ ys) h = cc
 same_length (x ∷ xs) [] h = cc
-same_length (x ∷ xs) (y ∷ ys) h = omega (arith, same_length xs ys (right (x == y) (same_widths xs ys) h))
+same_length (x ∷ xs) (y ∷ ys) h = omega (arith, same_length xs ys (and_second (x == y) (same_widths xs ys) h))
 
 compared : (w : ℕ) (ws : List ℕ) → ((w == 1) && same_widths ws (slice_index ws 0 ∷ slice_index ws 0 ∷ [])) ≡ true → length ws ≡ 2
-compared w ws h = same_length ws (slice_index ws 0 ∷ slice_index ws 0 ∷ []) (right (w == 1) (same_widths ws (slice_index ws 0 ∷ slice_index ws 0 ∷ [])) h)
+compared w ws h = same_length ws (slice_index ws 0 ∷ slice_index ws 0 ∷ []) (and_second (w == 1) (same_widths ws (slice_index ws 0 ∷ slice_index ws 0 ∷ [])) h)
 
 applied : (op : Op) (w : ℕ) (ws : List ℕ) (args : SurfaceExprs) → length ws ≡ count args → fits_operator op w ws ≡ true → AllSpelled args
     → Spelled (surface.apply op (written_width op w) args)
@@ -32,16 +33,15 @@ applied And w ws args n fits h = infix_applied And args refl refl (omega (arith,
 applied Or w ws args n fits h = infix_applied Or args refl refl (omega (arith, same_length ws (w ∷ w ∷ []) fits)) h
 applied Xor w ws args n fits h = infix_applied Xor args refl refl (omega (arith, same_length ws (w ∷ w ∷ []) fits)) h
 applied Not w ws args n fits h = not_applied args (omega (arith, same_length ws (w ∷ []) fits)) h
-applied Shl w ws args n fits h = cc
-applied Shr w ws args n fits h = cc
 applied Eq w ws args n fits h = infix_applied Eq args refl refl (omega (arith, compared w ws fits)) h
 applied Ne w ws args n fits h = infix_applied Ne args refl refl (omega (arith, compared w ws fits)) h
 applied Lt w ws args n fits h = infix_applied Lt args refl refl (omega (arith, compared w ws fits)) h
 applied Le w ws args n fits h = infix_applied Le args refl refl (omega (arith, compared w ws fits)) h
-applied Cast w ws args n fits h = cast_applied w args (omega (arith, is_equal (length ws) 1 (right (is_width w) (length ws == 1) fits))) h
+applied Cast w ws args n fits h = cast_applied w args (omega (arith, is_equal (length ws) 1 (and_second (is_width w) (length ws == 1) fits))) h
 applied Select w ws args n fits h = select_applied args (omega (arith, same_length ws (1 ∷ w ∷ w ∷ []) fits)) h
 applied Adjust w ws args n fits h = adjust_applied args
-    (omega (arith, same_length ws (16 ∷ 16 ∷ 16 ∷ []) (right (w == 16) (same_widths ws (16 ∷ 16 ∷ 16 ∷ [])) fits))) h
+    (omega (arith, same_length ws (16 ∷ 16 ∷ 16 ∷ []) (and_second (w == 16) (same_widths ws (16 ∷ 16 ∷ 16 ∷ [])) fits))) h
+applied _ w ws args n fits h = cc
 
 shifted : (op : Op) (by : ℕ) (e : SurfaceExpr) → is_shift op ≡ true → Spelled e → Spelled (surface.shift op by e)
 shifted Shl by e is h = shift_by Shl by e refl h
@@ -58,19 +58,19 @@ mutual
   good_expr m widths scope (local x) h = name_spelled (local_name m x)
   good_expr m widths scope (field f) h = field_spelled f
   good_expr m widths scope (byte e) h =
-      byte_spelled (named_expr m e) (good_expr m widths scope e (left (is_good_expr widths scope e) (width_of widths e == 16) h))
+      byte_spelled (named_expr m e) (good_expr m widths scope e (and_first (is_good_expr widths scope e) (width_of widths e == 16) h))
   good_expr m widths scope (shift op by e) h =
-      let named = left (is_shift op && nat_le by 63) (is_good_expr widths scope e) h in
-      let good = right (is_shift op && nat_le by 63) (is_good_expr widths scope e) h in
-      shifted op by (named_expr m e) (left (is_shift op) (nat_le by 63) named) (good_expr m widths scope e good)
+      let named = and_first (is_shift op && nat_le by 63) (is_good_expr widths scope e) h in
+      let good = and_second (is_shift op && nat_le by 63) (is_good_expr widths scope e) h in
+      shifted op by (named_expr m e) (and_first (is_shift op) (nat_le by 63) named) (good_expr m widths scope e good)
   good_expr m widths scope (apply op w args) h =
       let good = are_good_exprs widths scope args in
       let fits = fits_operator op w (widths_of widths args) in
-      applied op w (widths_of widths args) (named_exprs m args) (counted m widths args) (right good fits h) (good_exprs m widths scope args (left good fits h))
+      applied op w (widths_of widths args) (named_exprs m args) (counted m widths args) (and_second good fits h) (good_exprs m widths scope args (and_first good fits h))
 
   pub good_exprs : (m : Tree) (widths scope : List ℕ) (es : Exprs) → are_good_exprs widths scope es ≡ true → AllSpelled (named_exprs m es)
   good_exprs m widths scope no_expr h = tt
   good_exprs m widths scope (expr e es) h =
       let first = is_good_expr widths scope e in
       let others = are_good_exprs widths scope es in
-      (good_expr m widths scope e (left first others h), good_exprs m widths scope es (right first others h))
+      (good_expr m widths scope e (and_first first others h), good_exprs m widths scope es (and_second first others h))

@@ -7,10 +7,10 @@ use Rattle.element_lang.specs.Tree.BodyTree.{done, stmt}
 use Rattle.element_lang.specs.Surface.{local_name, object_name, named_expr, named_exprs, named_stmt, named_body}
 use Rattle.element_lang.specs.Widths.{local_widths}
 use Rattle.element_lang.specs.Rules.{is_good_stmt, is_good_body, widths_of, fits_values, binds, declared_in, declared_by}
-use Rattle.element_print.proofs.BoolParts.{left, right}
 use Rattle.element_print.proofs.Spelled.{count}
 use Rattle.element_print.proofs.GoodExprs.{good_expr, good_exprs, counted, same_length}
 use Rattle.element_print.proofs.SpelledStmts.{StmtSpelled, BodySpelled, let_spelled, assign_spelled, set_field_spelled, look_spelled, put_spelled, del_spelled, if_spelled, repeat_spelled, send_spelled, drop_spelled, done_spelled, stmt_spelled}
+use Rattle.lemmas.proofs.Tests.{and_first, and_second}
 
 -- each object has values
 pub record HaveValues (os : List ObjectDecl) : Type 0 where
@@ -29,28 +29,28 @@ some_values m v object values fits =
 
 mutual
   good_stmt : (m : Tree) → HaveValues m.objects → (scope : List ℕ) (next : ℕ) (s : StmtTree) → is_good_stmt m scope next s ≡ true → StmtSpelled (named_stmt m s)
-  good_stmt m v scope next (let_local x e) h = let_spelled (local_name m x) (named_expr m e) (good_expr m _ scope e (left _ _ (left _ _ (left _ _ h))))
-  good_stmt m v scope next (assign x e) h = assign_spelled (local_name m x) (named_expr m e) (good_expr m _ scope e (left _ _ (left _ _ h)))
-  good_stmt m v scope next (set_field f e) h = set_field_spelled f (named_expr m e) (good_expr m _ scope e (left _ _ (left _ _ h)))
+  good_stmt m v scope next (let_local x e) h = let_spelled (local_name m x) (named_expr m e) (good_expr m _ scope e (and_first _ _ (and_first _ _ (and_first _ _ h))))
+  good_stmt m v scope next (assign x e) h = assign_spelled (local_name m x) (named_expr m e) (good_expr m _ scope e (and_first _ _ (and_first _ _ h)))
+  good_stmt m v scope next (set_field f e) h = set_field_spelled f (named_expr m e) (good_expr m _ scope e (and_first _ _ (and_first _ _ h)))
   good_stmt m v scope next (look found into object keys) h =
       look_spelled (local_name m found) (object_name m object) (map (local_name m) into) (named_exprs m keys)
-      (good_exprs m _ scope keys (left _ _ (left _ _ (left _ _ (left _ _ (left _ _ h))))))
+      (good_exprs m _ scope keys (and_first _ _ (and_first _ _ (and_first _ _ (and_first _ _ (and_first _ _ h))))))
   good_stmt m v scope next (put ok object keys values) h =
       put_spelled (local_name m ok) (object_name m object) (named_exprs m keys) (named_exprs m values)
-      (some_values m v object values (right _ _ (left _ _ (left _ _ (left _ _ h)))))
-      (good_exprs m _ scope keys (left _ _ (left _ _ (left _ _ (left _ _ (left _ _ (left _ _ (left _ _ h))))))))
-      (good_exprs m _ scope values (right _ _ (left _ _ (left _ _ (left _ _ (left _ _ (left _ _ (left _ _ h))))))))
+      (some_values m v object values (and_second _ _ (and_first _ _ (and_first _ _ (and_first _ _ h)))))
+      (good_exprs m _ scope keys (and_first _ _ (and_first _ _ (and_first _ _ (and_first _ _ (and_first _ _ (and_first _ _ (and_first _ _ h))))))))
+      (good_exprs m _ scope values (and_second _ _ (and_first _ _ (and_first _ _ (and_first _ _ (and_first _ _ (and_first _ _ (and_first _ _ h))))))))
   good_stmt m v scope next (del was object keys) h =
       del_spelled (local_name m was) (object_name m object) (named_exprs m keys)
-      (good_exprs m _ scope keys (left _ _ (left _ _ (left _ _ (left _ _ (left _ _ h))))))
+      (good_exprs m _ scope keys (and_first _ _ (and_first _ _ (and_first _ _ (and_first _ _ (and_first _ _ h))))))
   good_stmt m v scope next (choose cond first second) h =
       if_spelled (named_expr m cond) (named_body m first) (named_body m second)
-      (good_expr m _ scope cond (left _ _ (left _ _ (left _ _ h))))
-      (good_body m v scope next first (right _ _ (left _ _ h)))
-      (good_body m v scope (next + declared_by first) second (right _ _ h))
+      (good_expr m _ scope cond (and_first _ _ (and_first _ _ (and_first _ _ h))))
+      (good_body m v scope next first (and_second _ _ (and_first _ _ h)))
+      (good_body m v scope (next + declared_by first) second (and_second _ _ h))
   good_stmt m v scope next (repeat index n body) h =
-      repeat_spelled (local_name m index) n (named_body m body) (good_body m v (index ∷ scope) (next + 1) body (right _ _ h))
-  good_stmt m v scope next (send port) h = send_spelled (named_expr m port) (good_expr m _ scope port (left _ _ h))
+      repeat_spelled (local_name m index) n (named_body m body) (good_body m v (index ∷ scope) (next + 1) body (and_second _ _ h))
+  good_stmt m v scope next (send port) h = send_spelled (named_expr m port) (good_expr m _ scope port (and_first _ _ h))
   good_stmt m v scope next drop h = drop_spelled
 
   pub good_body : (m : Tree) → HaveValues m.objects → (scope : List ℕ) (next : ℕ) (b : BodyTree) → is_good_body m scope next b ≡ true
@@ -58,5 +58,5 @@ mutual
   good_body m v scope next done h = done_spelled
   good_body m v scope next (stmt s b) h =
       stmt_spelled (named_stmt m s) (named_body m b)
-      (good_stmt m v scope next s (left _ _ (left _ _ h)))
-      (good_body m v (binds s ++ scope) (next + declared_in s) b (right _ _ h))
+      (good_stmt m v scope next s (and_first _ _ (and_first _ _ h)))
+      (good_body m v (binds s ++ scope) (next + declared_in s) b (and_second _ _ h))

@@ -16,7 +16,7 @@ use Rattle.element_lang.specs.Surface as surface
 use Rattle.element_lang.specs.Surface.{named_expr, named_stmt, named_body}
 use Rattle.element_print.specs.Printed.{stmt_tokens, body_tokens, else_tokens, in_braces}
 
-tree_of_if : (cond : Expr) (first second : Vec Stmt Global)
+pub tree_of_if : (cond : Expr) (first second : Vec Stmt Global)
     → stmt_tree (If cond first second) ≡ choose (expr_tree cond) (body_tree first.items) (body_tree second.items)
 tree_of_if cond first second = ap stmt_tree (sym (rolls-If cond first second)) ∙ fold-roll-Stmt StmtTree stmt_step (Stmt-F.If cond first second)
 

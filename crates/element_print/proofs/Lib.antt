@@ -17,7 +17,7 @@ pub mod ReadableDecls
 pub mod Least
 pub mod Shortest
 pub mod Sources
-pub mod Digits
 pub mod Counted
 pub mod TextLengths
 pub mod TextDepths
+pub mod Laws

@@ -14,16 +14,17 @@ use Rattle.element_lang.specs.Accepted.{HasNames}
 use Rattle.element_lang.specs.Tree.{ExprTree, Exprs, Tree}
 use Rattle.element_lang.specs.Tree.ExprTree.{lit, local, field, byte, shift, apply}
 use Rattle.element_lang.specs.Tree.Exprs.{no_expr, expr}
-use Rattle.element_lang.specs.Surface.{SurfaceExpr, SurfaceExprs, local_name, name_of_local, object_name, name_of_object, written_width, named_expr, named_exprs}
+use Rattle.element_lang.specs.Surface.{SurfaceExprs, local_name, name_of_local, object_name, name_of_object, written_width, named_expr, named_exprs}
 use Rattle.element_lang.specs.Surface as surface
 use Rattle.element_lang.specs.Widths.{width_of}
 use Rattle.element_lang.specs.Rules.{is_good_expr, are_good_exprs, fits_operator, is_shift, is_width, widths_of}
 use Rattle.element_print.specs.declared.place.Place.{Place}
 use Rattle.element_print.specs.declared.place.Place.TheVariants.{Whole, Operand, Turned}
 use Rattle.element_print.specs.Printed.{expr_tokens, exprs_tokens, parts, joined, behind_each, in_brackets, in_brackets_if, needs_brackets, mark_of}
-use Rattle.element_print.proofs.BoolParts.{left, right, is_at_most, is_below}
 use Rattle.element_print.proofs.Words.{Readable, fixed_readable, field_readable, name_readable, number_readable}
 use Rattle.element_print.proofs.TextTokens.{AllReadable, readable_append}
+use Rattle.lemmas.proofs.Tests.{and_first, and_second}
+use Rattle.std.proofs.lemmas.Bool.{leb-true, ltb-true}
 
 -- ## Parts
 
@@ -63,13 +64,13 @@ exprs_readable es h = joined_readable marks.Comma (parts Whole es) (parts_readab
 -- ## Widths
 
 pub width_small : (w : ℕ) → is_width w ≡ true → w ≤ 64
-width_small w h = is_at_most w 64 (right (nat_le 1 w) (nat_le w 64) h)
+width_small w h = leb-true w 64 (and_second (nat_le 1 w) (nat_le w 64) h)
 
 pub width_readable : (w : ℕ) → is_width w ≡ true → Readable (number w)
 width_readable w h = number_readable w (omega (arith, width_small w h))
 
 pub value_readable : (v w : ℕ) → w ≤ 64 → nat_lt v (2 ^ w) ≡ true → Readable (number v)
-value_readable v w small h = number_readable v (omega (arith, is_below v (2 ^ w) h, pow_mono small))
+value_readable v w small h = number_readable v (omega (arith, ltb-true v (2 ^ w) h, pow_mono small))
 
 -- ## Names
 
@@ -102,7 +103,7 @@ applied ops.Cast w ws args fits h = (
   fixed_readable marks.Cast,
   bracketed (joined marks.Comma ((number w ∷ []) ∷ parts Whole args))
       (joined_readable marks.Comma ((number w ∷ []) ∷ parts Whole args)
-      ((width_readable w (left (is_width w) (length ws == 1) fits), tt), parts_readable Whole args h)),
+      ((width_readable w (and_first (is_width w) (length ws == 1) fits), tt), parts_readable Whole args h)),
 )
 applied ops.Select w ws args fits h = (fixed_readable marks.Select, bracketed (exprs_tokens args) (exprs_readable args h))
 applied ops.Adjust w ws args fits h = (fixed_readable marks.Adjust, bracketed (exprs_tokens args) (exprs_readable args h))
@@ -125,16 +126,16 @@ mutual
   pub expr_readable : (m : Tree) (widths scope : List ℕ) (e : ExprTree) → HasNames m → InScope m scope → is_good_expr widths scope e ≡ true
       → AllReadable (expr_tokens (named_expr m e))
   expr_readable m widths scope (lit v w) names known h =
-      let wide : is_width w ≡ true = left (is_width w) (nat_lt v (2 ^ w)) h in
-      (value_readable v w (width_small w wide) (right (is_width w) (nat_lt v (2 ^ w)) h), (fixed_readable marks.Colon, (width_readable w wide, tt)))
+      let wide : is_width w ≡ true = and_first (is_width w) (nat_lt v (2 ^ w)) h in
+      (value_readable v w (width_small w wide) (and_second (is_width w) (nat_lt v (2 ^ w)) h), (fixed_readable marks.Colon, (width_readable w wide, tt)))
   expr_readable m widths scope (local x) names known h = (name_readable (local_name m x) (local_named m x names (known.within x h)), tt)
   expr_readable m widths scope (field f) names known h = (field_readable f, tt)
   expr_readable m widths scope (byte e) names known h =
-      let good = left (is_good_expr widths scope e) (width_of widths e == 16) h in
+      let good = and_first (is_good_expr widths scope e) (width_of widths e == 16) h in
       (fixed_readable marks.Byte, bracketed (expr_tokens (named_expr m e)) (expr_readable m widths scope e names known good))
   expr_readable m widths scope (shift op by e) names known h =
-      let small : by ≤ 63 = is_at_most by 63 (right (is_shift op) (nat_le by 63) (left (is_shift op && nat_le by 63) (is_good_expr widths scope e) h)) in
-      let good = right (is_shift op && nat_le by 63) (is_good_expr widths scope e) h in
+      let small : by ≤ 63 = leb-true by 63 (and_second (is_shift op) (nat_le by 63) (and_first (is_shift op && nat_le by 63) (is_good_expr widths scope e) h)) in
+      let good = and_second (is_shift op && nat_le by 63) (is_good_expr widths scope e) h in
       let arg = named_expr m e in
       readable_append (in_brackets_if (needs_brackets Operand arg) (expr_tokens arg)) (fixed (mark_of op) ∷ number by ∷ [])
       (bracketed_if (needs_brackets Operand arg) (expr_tokens arg) (expr_readable m widths scope e names known good))
@@ -142,7 +143,7 @@ mutual
   expr_readable m widths scope (apply op w args) names known h =
       let good = are_good_exprs widths scope args in
       let fits = fits_operator op w (widths_of widths args) in
-      applied op w (widths_of widths args) (named_exprs m args) (right good fits h) (all_exprs m widths scope args names known (left good fits h))
+      applied op w (widths_of widths args) (named_exprs m args) (and_second good fits h) (all_exprs m widths scope args names known (and_first good fits h))
 
   pub all_exprs : (m : Tree) (widths scope : List ℕ) (es : Exprs) → HasNames m → InScope m scope → are_good_exprs widths scope es ≡ true
       → AllExprs (named_exprs m es)
@@ -150,4 +151,4 @@ mutual
   all_exprs m widths scope (expr e es) names known h =
       let first = is_good_expr widths scope e in
       let others = are_good_exprs widths scope es in
-      (expr_readable m widths scope e names known (left first others h), all_exprs m widths scope es names known (right first others h))
+      (expr_readable m widths scope e names known (and_first first others h), all_exprs m widths scope es names known (and_second first others h))

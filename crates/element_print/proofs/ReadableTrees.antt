@@ -15,10 +15,12 @@ use Rattle.element_lang.specs.Surface as surface
 use Rattle.element_lang.specs.Widths.{local_widths}
 use Rattle.element_lang.specs.Rules.{is_good_expr, are_good_exprs, is_good_stmt, is_good_body, widths_of, fits_keys, is_count, counted_from, binds, declared_in, declared_by}
 use Rattle.element_print.specs.Printed.{expr_tokens, exprs_tokens, joined, keyed, in_braces, else_tokens, stmt_tokens, body_tokens}
-use Rattle.element_print.proofs.BoolParts.{left, right, is_at_most, is_equal}
+use Rattle.element_print.proofs.BoolParts.{is_equal}
 use Rattle.element_print.proofs.Words.{Readable, fixed_readable, field_readable, name_readable, number_readable}
 use Rattle.element_print.proofs.TextTokens.{AllReadable, readable_append}
 use Rattle.element_print.proofs.ReadableExprs.{AllParts, InScope, closing, joined_readable, exprs_readable, local_named, object_named, expr_readable, all_exprs}
+use Rattle.lemmas.proofs.Tests.{and_first, and_second}
+use Rattle.std.proofs.lemmas.Bool.{leb-true}
 
 -- ## Names of locals that are declared
 
@@ -29,10 +31,10 @@ either false b P h f g = g h
 among : (n : ℕ) (xs : List ℕ) (x : ℕ) → counted_from n xs ≡ true → list_any (λ y. y == x) xs ≡ true → x < n + length xs
 among n [] x h is = cc
 among n (y ∷ ys) x h is =
-    let first : y ≡ n = is_equal y n (left (y == n) (counted_from (n + 1) ys) h) in
+    let first : y ≡ n = is_equal y n (and_first (y == n) (counted_from (n + 1) ys) h) in
     either (y == x) (list_any (λ y. y == x) ys) (x < n + length (y ∷ ys)) is
     (λ same. omega (arith, is_equal y x same))
-    (λ later. omega (arith, among (n + 1) ys x (right (y == n) (counted_from (n + 1) ys) h) later))
+    (λ later. omega (arith, among (n + 1) ys x (and_second (y == n) (counted_from (n + 1) ys) h) later))
 
 pub more_in_scope : (m : Tree) (scope : List ℕ) (n : ℕ) (xs : List ℕ) → InScope m scope → counted_from n xs ≡ true → n + length xs ≤ length m.locals
     → InScope m (xs ++ scope)
@@ -44,7 +46,7 @@ more_in_scope m scope n xs known h room = record {
 
 first_named : (m : Tree) (x n : ℕ) (xs : List ℕ) → HasNames m → counted_from n (x ∷ xs) ≡ true → n + suc (length xs) ≤ length m.locals → IsName (local_name m x)
 first_named m x n xs names h room =
-    let first : x ≡ n = is_equal x n (left (x == n) (counted_from (n + 1) xs) h) in
+    let first : x ≡ n = is_equal x n (and_first (x == n) (counted_from (n + 1) xs) h) in
     local_named m x names (omega arith)
 
 declared_names : (m : Tree) (n : ℕ) (xs : List ℕ) → HasNames m → counted_from n xs ≡ true → n + length xs ≤ length m.locals
@@ -52,7 +54,7 @@ declared_names : (m : Tree) (n : ℕ) (xs : List ℕ) → HasNames m → counted
 declared_names m n [] names h room = tt
 declared_names m n (x ∷ xs) names h room = (
   (name_readable (local_name m x) (first_named m x n xs names h (omega arith)), tt),
-  declared_names m (n + 1) xs names (right (x == n) (counted_from (n + 1) xs) h) (omega arith),
+  declared_names m (n + 1) xs names (and_second (x == n) (counted_from (n + 1) xs) h) (omega arith),
 )
 
 object_there : (declaration : Option ObjectDecl) (ws : List ℕ) → fits_keys declaration ws ≡ true → (o : ObjectDecl) × (declaration ≡ Some o)
@@ -89,53 +91,48 @@ else_readable (surface.stmt at s b) h = (fixed_readable marks.Else, braced (body
 
 after_stmt : (m : Tree) (scope : List ℕ) (next : ℕ) (s : StmtTree) → InScope m scope → is_good_stmt m scope next s ≡ true
     → next + declared_in s ≤ length m.locals → InScope m (binds s ++ scope)
-after_stmt m scope next (let_local x e) known h room = more_in_scope m scope next (x ∷ []) known (right _ _ (left _ _ h)) (omega arith)
-after_stmt m scope next (look found into object keys) known h room = more_in_scope m scope next (found ∷ into) known (right _ _ (left _ _ h)) (omega arith)
-after_stmt m scope next (put ok object keys values) known h room = more_in_scope m scope next (ok ∷ []) known (right _ _ (left _ _ h)) (omega arith)
-after_stmt m scope next (del was object keys) known h room = more_in_scope m scope next (was ∷ []) known (right _ _ (left _ _ h)) (omega arith)
-after_stmt m scope next (assign x e) known h room = known
-after_stmt m scope next (set_field f e) known h room = known
-after_stmt m scope next (choose cond first second) known h room = known
-after_stmt m scope next (repeat index n body) known h room = known
-after_stmt m scope next (send port) known h room = known
-after_stmt m scope next drop known h room = known
+after_stmt m scope next (let_local x e) known h room = more_in_scope m scope next (x ∷ []) known (and_second _ _ (and_first _ _ h)) (omega arith)
+after_stmt m scope next (look found into object keys) known h room = more_in_scope m scope next (found ∷ into) known (and_second _ _ (and_first _ _ h)) (omega arith)
+after_stmt m scope next (put ok object keys values) known h room = more_in_scope m scope next (ok ∷ []) known (and_second _ _ (and_first _ _ h)) (omega arith)
+after_stmt m scope next (del was object keys) known h room = more_in_scope m scope next (was ∷ []) known (and_second _ _ (and_first _ _ h)) (omega arith)
+after_stmt m scope next _ known h room = known
 
 count_readable : (n : ℕ) → is_count n ≡ true → Readable (number n)
-count_readable n h = let small : n ≤ 64 = is_at_most n 64 (right (nat_le 1 n) (nat_le n 64) h) in number_readable n (omega arith)
+count_readable n h = let small : n ≤ 64 = leb-true n 64 (and_second (nat_le 1 n) (nat_le n 64) h) in number_readable n (omega arith)
 
 mutual
   stmt_readable : (m : Tree) (scope : List ℕ) (next : ℕ) (s : StmtTree) → HasNames m → InScope m scope → is_good_stmt m scope next s ≡ true
       → next + declared_in s ≤ length m.locals → AllReadable (stmt_tokens (named_stmt m s))
   stmt_readable m scope next (let_local x e) names known h room =
-      let named = first_named m x next [] names (right _ _ (left _ _ h)) room in (
+      let named = first_named m x next [] names (and_second _ _ (and_first _ _ h)) room in (
         fixed_readable marks.Let,
-        (name_readable (local_name m x) named, (fixed_readable marks.Assign, value_closed m _ scope e names known (left _ _ (left _ _ (left _ _ h))))),
+        (name_readable (local_name m x) named, (fixed_readable marks.Assign, value_closed m _ scope e names known (and_first _ _ (and_first _ _ (and_first _ _ h))))),
       )
   stmt_readable m scope next (assign x e) names known h room =
-      let named = local_named m x names (known.within x (right _ _ (left _ _ h))) in
-      (name_readable (local_name m x) named, (fixed_readable marks.Assign, value_closed m _ scope e names known (left _ _ (left _ _ h))))
+      let named = local_named m x names (known.within x (and_second _ _ (and_first _ _ h))) in
+      (name_readable (local_name m x) named, (fixed_readable marks.Assign, value_closed m _ scope e names known (and_first _ _ (and_first _ _ h))))
   stmt_readable m scope next (set_field f e) names known h room =
-      (field_readable f, (fixed_readable marks.Assign, value_closed m _ scope e names known (left _ _ (left _ _ h))))
+      (field_readable f, (fixed_readable marks.Assign, value_closed m _ scope e names known (and_first _ _ (and_first _ _ h))))
   stmt_readable m scope next (look found into object keys) names known h room =
       let words : List (List Token) = map (λ word. tokens.name word ∷ []) (map (local_name m) (found ∷ into)) in
       let from : List Token = keyed (object_name m object) (named_exprs m keys) in
-      let listed = declared_names m next (found ∷ into) names (right _ _ (left _ _ h)) (omega arith) in
-      let key = keyed_readable m (local_widths m) scope object keys names known (left _ _ (left _ _ (left _ _ (left _ _ (left _ _ h)))))
-      (right _ _ (left _ _ (left _ _ (left _ _ (left _ _ h))))) in (
+      let listed = declared_names m next (found ∷ into) names (and_second _ _ (and_first _ _ h)) (omega arith) in
+      let key = keyed_readable m (local_widths m) scope object keys names known (and_first _ _ (and_first _ _ (and_first _ _ (and_first _ _ (and_first _ _ h)))))
+      (and_second _ _ (and_first _ _ (and_first _ _ (and_first _ _ (and_first _ _ h))))) in (
         fixed_readable marks.Look,
         readable_append (joined marks.Comma words) (fixed marks.Assign ∷ (from ++ fixed marks.Semicolon ∷ []))
             (joined_readable marks.Comma words listed) (fixed_readable marks.Assign, closing from marks.Semicolon key),
       )
   stmt_readable m scope next (put ok object keys values) names known h room =
-      let named = first_named m ok next [] names (right _ _ (left _ _ h)) room in
+      let named = first_named m ok next [] names (and_second _ _ (and_first _ _ h)) room in
       let into : List Token = keyed (object_name m object) (named_exprs m keys) in
       let all : List Token = exprs_tokens (named_exprs m values) in
       let key =
       keyed_readable m (local_widths m) scope object keys names known
-      (left _ _ (left _ _ (left _ _ (left _ _ (left _ _ (left _ _ (left _ _ h)))))))
-      (right _ _ (left _ _ (left _ _ (left _ _ (left _ _ h))))) in
+      (and_first _ _ (and_first _ _ (and_first _ _ (and_first _ _ (and_first _ _ (and_first _ _ (and_first _ _ h)))))))
+      (and_second _ _ (and_first _ _ (and_first _ _ (and_first _ _ (and_first _ _ h))))) in
       let stored = exprs_readable (named_exprs m values)
-      (all_exprs m (local_widths m) scope values names known (right _ _ (left _ _ (left _ _ (left _ _ (left _ _ (left _ _ (left _ _ h)))))))) in (
+      (all_exprs m (local_widths m) scope values names known (and_second _ _ (and_first _ _ (and_first _ _ (and_first _ _ (and_first _ _ (and_first _ _ (and_first _ _ h)))))))) in (
         fixed_readable marks.Put,
         (
           name_readable (local_name m ok) named,
@@ -147,20 +144,20 @@ mutual
         ),
       )
   stmt_readable m scope next (del was object keys) names known h room =
-      let named = first_named m was next [] names (right _ _ (left _ _ h)) room in
+      let named = first_named m was next [] names (and_second _ _ (and_first _ _ h)) room in
       let from : List Token = keyed (object_name m object) (named_exprs m keys) in
-      let key = keyed_readable m (local_widths m) scope object keys names known (left _ _ (left _ _ (left _ _ (left _ _ (left _ _ h)))))
-      (right _ _ (left _ _ (left _ _ (left _ _ h)))) in
+      let key = keyed_readable m (local_widths m) scope object keys names known (and_first _ _ (and_first _ _ (and_first _ _ (and_first _ _ (and_first _ _ h)))))
+      (and_second _ _ (and_first _ _ (and_first _ _ (and_first _ _ h)))) in
       (fixed_readable marks.Del, (name_readable (local_name m was) named, (fixed_readable marks.Assign, closing from marks.Semicolon key)))
   stmt_readable m scope next (choose cond first second) names known h room =
       let one : List Token = body_tokens (named_body m first) in
       let two : List Token = else_tokens (named_body m second) (body_tokens (named_body m second)) in
       let room_one : next + declared_by first ≤ length m.locals = omega arith in
       let room_two : next + declared_by first + declared_by second ≤ length m.locals = omega arith in
-      let test : AllReadable (expr_tokens (named_expr m cond)) = expr_readable m (local_widths m) scope cond names known (left _ _ (left _ _ (left _ _ h))) in
-      let one_readable : AllReadable one = body_readable m scope next first names known (right _ _ (left _ _ h)) room_one in
+      let test : AllReadable (expr_tokens (named_expr m cond)) = expr_readable m (local_widths m) scope cond names known (and_first _ _ (and_first _ _ (and_first _ _ h))) in
+      let one_readable : AllReadable one = body_readable m scope next first names known (and_second _ _ (and_first _ _ h)) room_one in
       let two_readable : AllReadable two = else_readable (named_body m second)
-      (body_readable m scope (next + declared_by first) second names known (right _ _ h) room_two) in (
+      (body_readable m scope (next + declared_by first) second names known (and_second _ _ h) room_two) in (
         fixed_readable marks.If,
         readable_append (expr_tokens (named_expr m cond)) (in_braces one ++ two) test
             (readable_append (in_braces one) two (braced one one_readable) two_readable),
@@ -168,26 +165,26 @@ mutual
   stmt_readable m scope next (repeat index n body) names known h room =
       let room_first : next + 1 ≤ length m.locals = omega arith in
       let room_inside : next + 1 + declared_by body ≤ length m.locals = omega arith in
-      let counted : counted_from next (index ∷ []) ≡ true = right _ _ (left _ _ (left _ _ h)) in
+      let counted : counted_from next (index ∷ []) ≡ true = and_second _ _ (and_first _ _ (and_first _ _ h)) in
       let named = first_named m index next [] names counted room_first in
       let inside = more_in_scope m scope next (index ∷ []) known counted room_first in (
         fixed_readable marks.Repeat,
         (
           name_readable (local_name m index) named,
           (
-            count_readable n (left _ _ (left _ _ (left _ _ (left _ _ (left _ _ (left _ _ h)))))),
-            braced (body_tokens (named_body m body)) (body_readable m (index ∷ scope) (next + 1) body names inside (right _ _ h) room_inside),
+            count_readable n (and_first _ _ (and_first _ _ (and_first _ _ (and_first _ _ (and_first _ _ (and_first _ _ h)))))),
+            braced (body_tokens (named_body m body)) (body_readable m (index ∷ scope) (next + 1) body names inside (and_second _ _ h) room_inside),
           ),
         ),
       )
-  stmt_readable m scope next (send port) names known h room = (fixed_readable marks.Send, value_closed m _ scope port names known (left _ _ h))
+  stmt_readable m scope next (send port) names known h room = (fixed_readable marks.Send, value_closed m _ scope port names known (and_first _ _ h))
   stmt_readable m scope next drop names known h room = (fixed_readable marks.Drop, (fixed_readable marks.Semicolon, tt))
 
   pub body_readable : (m : Tree) (scope : List ℕ) (next : ℕ) (b : BodyTree) → HasNames m → InScope m scope → is_good_body m scope next b ≡ true
       → next + declared_by b ≤ length m.locals → AllReadable (body_tokens (named_body m b))
   body_readable m scope next done names known h room = tt
   body_readable m scope next (stmt s b) names known h room =
-      let good : is_good_stmt m scope next s ≡ true = left _ _ (left _ _ h) in
+      let good : is_good_stmt m scope next s ≡ true = and_first _ _ (and_first _ _ h) in
       readable_append (stmt_tokens (named_stmt m s)) (body_tokens (named_body m b))
       (stmt_readable m scope next s names known good (omega arith))
-      (body_readable m (binds s ++ scope) (next + declared_in s) b names (after_stmt m scope next s known good (omega arith)) (right _ _ h) (omega arith))
+      (body_readable m (binds s ++ scope) (next + declared_in s) b names (after_stmt m scope next s known good (omega arith)) (and_second _ _ h) (omega arith))

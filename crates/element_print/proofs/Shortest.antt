@@ -5,7 +5,7 @@ use Rattle.element_lang.specs.declared.mark.Mark.TheVariants as marks
 use Rattle.element_lang.specs.Token.{Token, fixed, number}
 use Rattle.element_lang.specs.Token as tokens
 use Rattle.element_lang.specs.Tree.{Tree}
-use Rattle.element_lang.specs.Surface.{SurfaceExprs, SurfaceStmt, SurfaceBody, Literal, SurfaceRow, SurfaceDecl, Declared, Surface, let_local, assign, set_field, look, put, del, choose, repeat, send, drop, done, stmt, unplaced_stmt, unplaced_body, unplaced_decl, unplaced, named}
+use Rattle.element_lang.specs.Surface.{SurfaceExprs, SurfaceStmt, SurfaceBody, Literal, SurfaceRow, SurfaceDecl, Declared, Surface, choose, repeat, done, stmt, unplaced_stmt, unplaced_body, unplaced_decl, unplaced, named}
 use Rattle.element_lang.specs.Grammar.{AreNames, are_no_names, are_names, IsStmt, is_let, is_assign, is_set_field, is_look, is_put, is_del, is_if, is_repeat, is_send, is_drop, IsElse, is_absent, is_else, IsBody, is_end, is_more, AreWidths, is_last_width, is_width_and_more, AreLiterals, is_last_literal, is_literal_and_more, AreRows, are_no_rows, are_rows, IsDecl, is_table, is_map, is_vector, is_int, IsMiddlebox, is_process, is_declared}
 use Rattle.element_print.specs.Printed.{expr_tokens, exprs_tokens, keyed, behind_each, in_braces, else_tokens, stmt_tokens, body_tokens, joined, widths_tokens, literal_tokens, literals_tokens, rows_tokens, decl_tokens, decls_tokens, print_tokens}
 use Rattle.element_print.specs.ReadsBack.{IsSpelled}
@@ -175,14 +175,7 @@ mutual
       ap (λ ts. fixed marks.If ∷ (one ++ (in_braces ts ++ two))) (same_body first)
       ∙ ap (λ ts. fixed marks.If ∷ (one ++ (in_braces (body_tokens first) ++ ts))) (same_else second (same_body second))
   same_stmt (repeat index n body) = ap (λ ts. fixed marks.Repeat ∷ tokens.name index ∷ number n ∷ in_braces ts) (same_body body)
-  same_stmt (let_local word e) = refl
-  same_stmt (assign word e) = refl
-  same_stmt (set_field f e) = refl
-  same_stmt (look found into object keys) = refl
-  same_stmt (put ok object keys values) = refl
-  same_stmt (del was object keys) = refl
-  same_stmt (send port) = refl
-  same_stmt drop = refl
+  same_stmt _ = refl
 
   same_body : (b : SurfaceBody) → body_tokens (unplaced_body b) ≡ body_tokens b
   same_body done = refl

@@ -10,10 +10,6 @@ pub spaced_none : spaced [] ≡ []
 unfolding spaced
 spaced_none = refl
 
-pub spaced_one : (t : Token) → spaced (t ∷ []) ≡ token_text t ++ 32 ∷ []
-unfolding spaced
-spaced_one t = refl
-
 pub spaced_append : (ts us : List Token) → spaced (ts ++ us) ≡ spaced ts ++ spaced us
 unfolding spaced
 spaced_append [] us = refl

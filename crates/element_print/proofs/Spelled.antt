@@ -9,8 +9,9 @@ use Rattle.element_lang.specs.Token.{Token, fixed, number}
 use Rattle.element_lang.specs.Surface.{SurfaceExpr, SurfaceExprs, lit, name, field, byte, shift, apply, no_expr, expr}
 use Rattle.element_lang.specs.Grammar.{infix_of, shift_of, one, two, three, IsPrim, is_in_brackets, is_literal, is_name, is_field, is_byte, is_cast, is_select, is_adjust, IsUnary, is_prim, is_not, IsExpr, is_unary, is_infix, is_shift, AreExprs, are_last, are_more, AreKeys, are_no_keys, are_keys}
 use Rattle.element_print.specs.declared.place.Place.TheVariants.{Operand, Turned}
-use Rattle.element_print.specs.Printed.{expr_tokens, exprs_tokens, parts, part, joined, behind_each, in_brackets, in_brackets_if, needs_brackets, has_infix, is_turned, mark_of}
+use Rattle.element_print.specs.Printed.{expr_tokens, exprs_tokens, parts, part, joined, in_brackets, in_brackets_if, has_infix, is_turned, mark_of}
 use Rattle.element_print.specs.Printed as printed
+use Rattle.std.proofs.lemmas.Bool.{or_from, or_left}
 
 -- wherever it stands
 pub record Spelled (e : SurfaceExpr) : Type 0 where
@@ -39,23 +40,15 @@ without_brackets : (R : List Token → List Token → Type 0) (b : Bool) (ts : L
 without_brackets R true ts is h = absurd (true≢false is)
 without_brackets R false ts is h = h
 
-or_left : (a b : Bool) → a ≡ true → (a || b) ≡ true
-or_left true b h = refl
-or_left false b h = absurd (true≢false (sym h))
-
 or_right : (a b : Bool) → a ≡ false → b ≡ true → (a || b) ≡ true
 or_right true b h k = refl
 or_right false b h k = k
-
-neither : (a b : Bool) → a ≡ false → b ≡ false → (a || b) ≡ false
-neither true b h k = h
-neither false b h k = k
 
 prim_spelled : (e : SurfaceExpr) → has_infix e ≡ false → is_turned e ≡ false → ((rest : List Token) → IsPrim e (expr_tokens e ++ rest) rest) → Spelled e
 prim_spelled e plain straight h = record {
   whole = λ rest. is_unary (is_prim (h rest));
   operand = without_brackets (IsUnary e) (has_infix e) (expr_tokens e) plain (λ rest. is_prim (h rest));
-  turned = without_brackets (IsPrim e) (has_infix e || is_turned e) (expr_tokens e) (neither (has_infix e) (is_turned e) plain straight) h;
+  turned = without_brackets (IsPrim e) (has_infix e || is_turned e) (expr_tokens e) (or_from (has_infix e) (is_turned e) plain straight) h;
 }
 
 not_spelled : (e : SurfaceExpr) → has_infix e ≡ false → is_turned e ≡ true → ((rest : List Token) → IsUnary e (expr_tokens e ++ rest) rest) → Spelled e

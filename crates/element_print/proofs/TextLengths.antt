@@ -107,19 +107,11 @@ read_bytes m _ = refl
 -- names don't matter to brackets
 same_infix : (m : Tree) (e : ExprTree) → has_infix (nameless e) ≡ has_infix (named_expr m e)
 same_infix m (lit value width) = refl
-same_infix m (local x) = refl
-same_infix m (field f) = refl
-same_infix m (byte index) = refl
-same_infix m (shift op by arg) = refl
-same_infix m (apply op width args) = refl
+same_infix m _ = refl
 
 same_turned : (m : Tree) (e : ExprTree) → is_turned (nameless e) ≡ is_turned (named_expr m e)
 same_turned m (lit value width) = refl
-same_turned m (local x) = refl
-same_turned m (field f) = refl
-same_turned m (byte index) = refl
-same_turned m (shift op by arg) = refl
-same_turned m (apply op width args) = refl
+same_turned m _ = refl
 
 pub same_brackets : (m : Tree) (place : Place) (e : ExprTree) → needs_brackets place (nameless e) ≡ needs_brackets place (named_expr m e)
 same_brackets m Whole e = refl

@@ -9,9 +9,10 @@ use Rattle.element_lang.specs.Token.{Token, Placed, Lexeme, gap, lexeme, HasToke
 use Rattle.element_lang.specs.Accepted.{plain}
 use Rattle.element_print.specs.Printed.{token_text, text_of}
 use Rattle.element_print.specs.ReadsBack.{HasExactly}
-use Rattle.element_print.proofs.BoolParts.{left, right, both, is_below}
 use Rattle.element_print.proofs.Marks.{space, feed}
 use Rattle.element_print.proofs.Words.{Readable}
+use Rattle.lemmas.proofs.Tests.{and_first, and_second}
+use Rattle.std.proofs.lemmas.Bool.{and_from, ltb-true}
 
 abbrev pub AllReadable : List Token → Type 0
 AllReadable [] = Unit {0}
@@ -96,16 +97,16 @@ text_tokens (t ∷ ts) h = some_tokens t ts h
 
 small_at : (bs : List ℕ) → list_all (λ b. nat_lt b 128) bs ≡ true → IsAscii bs
 small_at [] h i = lit< tt
-small_at (b ∷ bs) h zero = is_below b 128 (left (nat_lt b 128) (list_all (λ b. nat_lt b 128) bs) h)
-small_at (b ∷ bs) h (suc i) = small_at bs (right (nat_lt b 128) (list_all (λ b. nat_lt b 128) bs) h) i
+small_at (b ∷ bs) h zero = ltb-true b 128 (and_first (nat_lt b 128) (list_all (λ b. nat_lt b 128) bs) h)
+small_at (b ∷ bs) h (suc i) = small_at bs (and_second (nat_lt b 128) (list_all (λ b. nat_lt b 128) bs) h) i
 
 small_tail : (ts : List Token) → AllReadable ts → list_all (λ b. nat_lt b 128) (tail_of ts) ≡ true
 small_tail [] h = refl
-small_tail (t ∷ ts) (h, hs) = list_all-append (λ b. nat_lt b 128) (token_text t) (tail_of ts) ∙ both _ _ h.ascii (small_tail ts hs)
+small_tail (t ∷ ts) (h, hs) = list_all-append (λ b. nat_lt b 128) (token_text t) (tail_of ts) ∙ and_from _ _ h.ascii (small_tail ts hs)
 
 pub text_utf8 : (ts : List Token) → AllReadable ts → IsUtf8 (text_of ts)
 text_utf8 [] h = IsUtf8-from_ascii (10 ∷ []) (small_at (10 ∷ []) refl)
 text_utf8 (t ∷ ts) (h, hs) =
     let small : list_all (λ b. nat_lt b 128) (token_text t ++ tail_of ts) ≡ true = list_all-append (λ b. nat_lt b 128) (token_text t) (tail_of ts)
-    ∙ both _ _ h.ascii (small_tail ts hs) in
+    ∙ and_from _ _ h.ascii (small_tail ts hs) in
     subst IsUtf8 (sym (text_tail t ts)) (IsUtf8-from_ascii (token_text t ++ tail_of ts) (small_at (token_text t ++ tail_of ts) small))

@@ -11,8 +11,10 @@ use Rattle.element_lang.specs.declared.mark.Mark.{Mark}
 use Rattle.element_lang.specs.Mark.{symbol_in_front}
 use Rattle.element_lang.specs.Token.{Token, fixed, number, name, field, IsName, Lexeme, gap, lexeme, sized_lexeme, word_lexeme, word_token, number_lexeme, number_token, number_value, decimal_value, decimal_digit, with_digit, symbol_of, is_blank, is_letter, is_digit, is_word_byte, is_number_byte}
 use Rattle.element_print.specs.Printed.{token_text}
-use Rattle.element_print.proofs.BoolParts.{left, right, both}
 use Rattle.element_print.proofs.Marks.{Stop, space, feed, mark_read, mark_front, mark_ascii, field_read, field_front, field_ascii}
+use Rattle.lemmas.proofs.Lists.{first_taken}
+use Rattle.lemmas.proofs.Tests.{and_false, and_first, and_second}
+use Rattle.std.proofs.lemmas.Bool.{and_from, lt-ltb}
 
 -- ## What is taken from the front
 
@@ -26,21 +28,14 @@ ends_number feed = refl
 
 take_all : (p : ℕ → Bool) (bs : List ℕ) → list_all p bs ≡ true → take_while p bs ≡ bs
 take_all p [] h = refl
-take_all p (b ∷ bs) h = take_while-cons p b bs ∙ ap (λ t. cond t (b ∷ take_while p bs) []) (left (p b) (list_all p bs) h)
-    ∙ ap (λ cs. b ∷ cs) (take_all p bs (right (p b) (list_all p bs) h))
+take_all p (b ∷ bs) h = take_while-cons p b bs ∙ ap (λ t. cond t (b ∷ take_while p bs) []) (and_first (p b) (list_all p bs) h)
+    ∙ ap (λ cs. b ∷ cs) (take_all p bs (and_second (p b) (list_all p bs) h))
 
 take_until : (p : ℕ → Bool) (bs : List ℕ) (b : ℕ) (cs : List ℕ) → list_all p bs ≡ true → p b ≡ false → take_while p (bs ++ b ∷ cs) ≡ bs
 take_until p [] b cs h stop = take_while-cons p b cs ∙ ap (λ t. cond t (b ∷ take_while p cs) []) stop
 take_until p (a ∷ bs) b cs h stop =
-    take_while-cons p a (bs ++ b ∷ cs) ∙ ap (λ t. cond t (a ∷ take_while p (bs ++ b ∷ cs)) []) (left (p a) (list_all p bs) h)
-    ∙ ap (λ cs. a ∷ cs) (take_until p bs b cs (right (p a) (list_all p bs) h) stop)
-
-length_cons : (b : ℕ) (bs cs : List ℕ) → length (b ∷ bs) ≡ length (b ∷ cs) → length bs ≡ length cs
-length_cons b bs cs h = omega arith
-
-first_taken : (t : Bool) (b : ℕ) (bs cs : List ℕ) → length (cond t (b ∷ cs) []) ≡ length (b ∷ bs) → (t ≡ true) × (length cs ≡ length bs)
-first_taken true b bs cs h = (refl, length_cons b cs bs h)
-first_taken false b bs cs h = absurd (omega arith)
+    take_while-cons p a (bs ++ b ∷ cs) ∙ ap (λ t. cond t (a ∷ take_while p (bs ++ b ∷ cs)) []) (and_first (p a) (list_all p bs) h)
+    ∙ ap (λ cs. a ∷ cs) (take_until p bs b cs (and_second (p a) (list_all p bs) h) stop)
 
 all_taken : (p : ℕ → Bool) (bs : List ℕ) → length (take_while p bs) ≡ length bs → list_all p bs ≡ true
 all_taken p [] h = refl
@@ -50,7 +45,7 @@ all_taken p (b ∷ bs) h =
 
 -- ## Names
 
-same_lexeme : (x y : Lexeme) → Some x ≡ Some y → (x.token ≡ y.token) × (x.len ≡ y.len)
+pub same_lexeme : (x y : Lexeme) → Some x ≡ Some y → (x.token ≡ y.token) × (x.len ≡ y.len)
 same_lexeme x y h =
     let same : x ≡ y = cc in
     (ap (λ (x : Lexeme). x.token) same, ap (λ (x : Lexeme). x.len) same)
@@ -132,7 +127,7 @@ small_word_byte b h = grind (arith, nat_tests)
 
 pub all_of : (p q : ℕ → Bool) → ((b : ℕ) → p b ≡ true → q b ≡ true) → (bs : List ℕ) → list_all p bs ≡ true → list_all q bs ≡ true
 all_of p q step [] h = refl
-all_of p q step (b ∷ bs) h = both (q b) (list_all q bs) (step b (left (p b) (list_all p bs) h)) (all_of p q step bs (right (p b) (list_all p bs) h))
+all_of p q step (b ∷ bs) h = and_from (q b) (list_all q bs) (step b (and_first (p b) (list_all p bs) h)) (all_of p q step bs (and_second (p b) (list_all p bs) h))
 
 -- ## Numbers
 
@@ -148,34 +143,27 @@ at_least : (n : ℕ) (bs : List ℕ) → n ≤ value_behind n bs
 at_least n [] = omega arith
 at_least n (b ∷ bs) = omega (arith, at_least (n * 10 + (b - 48)) bs)
 
-below_true : (a b : ℕ) → a < b → nat_lt a b ≡ true
-below_true a b h = grind (arith, nat_tests)
-
 with_next : (n b : ℕ) → is_digit b ≡ true → n * 10 + (b - 48) < 2 ^ 64 → with_digit 10 n (decimal_digit b) ≡ Some (n * 10 + (b - 48))
 with_next n b digit fits =
     let n' = n * 10 + (b - 48) in
-    ap (λ t. with_digit 10 n (if t then Some (b - 48) else None)) digit ∙ ap (λ t. if t then Some n' else None) (below_true n' (2 ^ 64) fits)
+    ap (λ t. with_digit 10 n (if t then Some (b - 48) else None)) digit ∙ ap (λ t. if t then Some n' else None) (lt-ltb n' (2 ^ 64) fits)
 
 value_read : (n : ℕ) (bs : List ℕ) → all_ascii_digits bs ≡ true → value_behind n bs < 2 ^ 64 → decimal_value (Some n) bs ≡ Some (value_behind n bs)
 value_read n [] h fits = refl
 value_read n (b ∷ bs) h fits =
-    let digit = left (is_digit b) (all_ascii_digits bs) h in
+    let digit = and_first (is_digit b) (all_ascii_digits bs) h in
     let next = with_next n b digit (omega (arith, at_least (n * 10 + (b - 48)) bs)) in
-    ap (λ v. decimal_value v bs) next ∙ value_read (n * 10 + (b - 48)) bs (right (is_digit b) (all_ascii_digits bs) h) fits
-
-never : (t : Bool) → (t && false) ≡ false
-never true = refl
-never false = refl
+    ap (λ v. decimal_value v bs) next ∙ value_read (n * 10 + (b - 48)) bs (and_second (is_digit b) (all_ascii_digits bs) h) fits
 
 digit_no_x : (b : ℕ) → is_digit b ≡ true → nat_eq 120 b ≡ false
 digit_no_x b h = grind (arith, nat_tests)
 
 not_hex : (bs : List ℕ) → all_ascii_digits bs ≡ true → starts_with nat_eq bs (codes "0x") ≡ false
 not_hex [] h = refl
-not_hex (a ∷ []) h = never (nat_eq 48 a)
+not_hex (a ∷ []) h = and_false (nat_eq 48 a)
 not_hex (a ∷ b ∷ bs) h =
-    let digit : is_digit b ≡ true = left (is_digit b) (all_ascii_digits bs) (right (is_digit a) (all_ascii_digits (b ∷ bs)) h) in
-    ap (λ t. nat_eq 48 a && (t && true)) (digit_no_x b digit) ∙ never (nat_eq 48 a)
+    let digit : is_digit b ≡ true = and_first (is_digit b) (all_ascii_digits bs) (and_second (is_digit a) (all_ascii_digits (b ∷ bs)) h) in
+    ap (λ t. nat_eq 48 a && (t && true)) (digit_no_x b digit) ∙ and_false (nat_eq 48 a)
 
 digit_first : (a : ℕ) → is_digit a ≡ true → is_letter a ≡ false
 digit_first a h = grind (arith, nat_tests)
@@ -200,14 +188,14 @@ choose_number true d w digits m e f = cc
 
 digits_all : (ds : List ℕ) → all_ascii_digits ds ≡ true → list_all is_digit ds ≡ true
 digits_all [] h = refl
-digits_all (d ∷ ds) h = both (is_digit d) (list_all is_digit ds) (left (is_digit d) (all_ascii_digits ds) h)
-    (digits_all ds (right (is_digit d) (all_ascii_digits ds) h))
+digits_all (d ∷ ds) h = and_from (is_digit d) (list_all is_digit ds) (and_first (is_digit d) (all_ascii_digits ds) h)
+    (digits_all ds (and_second (is_digit d) (all_ascii_digits ds) h))
 
 digits_read : (ds : List ℕ) (n : ℕ) (b : ℕ) (bs : List ℕ) → 0 < length ds → all_ascii_digits ds ≡ true → number_value ds ≡ Some n → Stop b
     → lexeme (ds ++ b ∷ bs) ≡ Some (record { token = number n; len = length ds })
 digits_read [] n b bs some digits value stop = absurd (omega arith)
 digits_read (a ∷ rest) n b bs some digits value stop =
-    let digit : is_digit a ≡ true = left (is_digit a) (all_ascii_digits rest) digits in
+    let digit : is_digit a ≡ true = and_first (is_digit a) (all_ascii_digits rest) digits in
     let numbers : list_all is_number_byte (a ∷ rest) ≡ true = all_of is_digit is_number_byte number_digit (a ∷ rest) (digits_all (a ∷ rest) digits) in
     let taken = take_until is_number_byte (a ∷ rest) b bs numbers (ends_number stop) in
     let all : List ℕ = a ∷ (rest ++ b ∷ bs) in
@@ -218,7 +206,7 @@ digits_read (a ∷ rest) n b bs some digits value stop =
 digits_front : (ds bs : List ℕ) → 0 < length ds → all_ascii_digits ds ≡ true → gap false (ds ++ bs) ≡ 0
 digits_front [] bs some digits = absurd (omega arith)
 digits_front (a ∷ rest) bs some digits =
-    let digit : is_digit a ≡ true = left (is_digit a) (all_ascii_digits rest) digits in
+    let digit : is_digit a ≡ true = and_first (is_digit a) (all_ascii_digits rest) digits in
     no_gap (is_blank a) (nat_eq 47 a) _ _ _ (digit_solid a digit) (digit_no_slash a digit)
 
 not_taken : (t : Bool) (x y : Option ℕ) → t ≡ false → (if t then x else y) ≡ y

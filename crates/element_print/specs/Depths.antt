@@ -2,7 +2,7 @@
 use Rattle.std.specs.Prelude.{ℕ, suc, max, Bool, true, false, List, [], ◌∷◌}
 use Rattle.gal_bits.specs.declared.op.Op.TheVariants as ops
 use Rattle.state_store.specs.declared.object.Kind.{Kind}
-use Rattle.state_store.specs.declared.object.Kind.TheVariants.{Table, Map, Vector, Int}
+use Rattle.state_store.specs.declared.object.Kind.TheVariants.{Table, Int, Map, Vector}
 use Rattle.state_store.specs.declared.object.Row.{Row}
 use Rattle.state_store.specs.declared.object.ObjectDecl.{ObjectDecl}
 use Rattle.element_lang.specs.Tree.{ExprTree, Exprs, StmtTree, BodyTree, Tree}

@@ -6,7 +6,6 @@ mod decl_lengths;
 mod depths;
 mod expr;
 mod expr_lengths;
-mod laws;
 mod lengths;
 mod middlebox;
 mod place;
@@ -16,7 +15,6 @@ mod tokens;
 
 pub use decl_lengths::decls_length;
 pub use depths::{decls_depth, expr_depth, head_depth};
-pub use laws::text_is_told;
 pub use lengths::{NameLengths, head_length, text_length};
 pub use middlebox::print;
 pub use place::Place;

@@ -25,7 +25,7 @@ pub(crate) fn mark_length(mark: Mark) -> u64
 }
 
 // How many digits a number has.
-#[tactic(auto, using(crate::proofs::Digits::one_digit, crate::proofs::Digits::more_digits, crate::proofs::Digits::few_digits))]
+#[tactic(auto, using(lemmas::proofs::Numbers::one_digit, lemmas::proofs::Numbers::more_digits, lemmas::proofs::Numbers::few_digits))]
 fn digits(n: u64) -> u64
     ensures { result ≡ length (decimal n) }
 {
@@ -33,7 +33,7 @@ fn digits(n: u64) -> u64
 }
 
 /// The bytes of a number.
-#[tactic(auto, using(crate::proofs::Digits::few_digits))]
+#[tactic(auto, using(lemmas::proofs::Numbers::few_digits))]
 pub fn number_length(n: u64) -> u64
     ensures value { result ≡ lengths.number_length n }
     ensures few { result ≤ 21 }

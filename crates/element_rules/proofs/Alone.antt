@@ -1,5 +1,5 @@
 -- What is wrong in one expression alone, and in those of a key and of a value.
-use Rattle.std.proofs.Common.{Vec, Global, ◌≡◌, ℕ, Bool, true, false, ◌||◌, List, map, refl, sym, ap, ◌∙◌}
+use Rattle.std.proofs.Common.{Vec, Global, ◌≡◌, ℕ, Bool, List, map, refl, sym, ap, ◌∙◌}
 use Rattle.element_lang.specs.declared.tree.Local.{Local}
 use Rattle.element_lang.specs.Surface.{SurfaceExpr, SurfaceExprs, no_expr, expr}
 use Rattle.element_lang.specs.Broken.{appended}
@@ -10,10 +10,7 @@ use Rattle.element_rules.specs.Seen.{local_of}
 use Rattle.element_rules.specs.Tested.{both_faults, no_faults, Several, faults_of, list_faults, tested, tested_list, list_of}
 use Rattle.element_rules.specs.Faulty.{alone}
 use Rattle.element_rules.proofs.Testing.{both_assoc}
-
-or_false : (a : Bool) → (a || false) ≡ a
-or_false true = refl
-or_false false = refl
+use Rattle.lemmas.proofs.Tests.{or_false}
 
 both_none : (a : Faults) → both_faults a no_faults ≡ a
 both_none a =

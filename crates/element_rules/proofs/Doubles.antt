@@ -13,7 +13,7 @@ use Rattle.element_lang.specs.Broken.{has_bad_rows}
 use Rattle.element_grammar.specs.declared.surface.SurfaceRow.{SurfaceRow}
 use Rattle.element_grammar.specs.Surface.{surface_row}
 use Rattle.element_rules.proofs.Bits.{compared}
-use Rattle.element_rules.proofs.Testing.{at_item}
+use Rattle.lemmas.proofs.Lists.{folded_item}
 
 -- lists of different lengths are different
 pub other_widths : (xs ys : List ℕ) → length xs ≢ length ys → same_widths xs ys ≡ false
@@ -67,7 +67,7 @@ collecting_more {keys = keys} {values = values} {seen = seen} {all = all} more a
     ap (λ k. list_any (same_widths k) h.past) (sym read) ∙ sym (h.same key) ∙ not_in (contains key_order seen key) added was new in
     record {
       past = key_of row ∷ h.past;
-      told = sym (sym h.told ∙ at_item (λ l. has_bad_rows keys values h.past (map surface_row l)) all at row within is
+      told = sym (sym h.told ∙ folded_item (λ l. has_bad_rows keys values h.past (map surface_row l)) all at row within is
           ∙ all_new _ _ _ (has_bad_rows keys values (key_of row ∷ h.past) rest) fits unseen);
       same = λ q. updated q ∙ added_key (is_eq (key_order key q)) (contains key_order seen q) (same_widths q.items (key_of row))
           (same_key key.items q.items ∙ ap (same_widths q.items) read)

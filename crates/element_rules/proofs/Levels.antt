@@ -2,7 +2,7 @@
 use Rattle.std.proofs.Common.{Vec, Global, ◌≡◌, ℕ, List, map, sym, ap, ◌∙◌}
 use Rattle.gal_bits.specs.declared.op.Op.{Op}
 use Rattle.packet_fields.specs.declared.field.Field as fields
-use Rattle.element_tokens.specs.declared.token.Span.{Span}
+use Rattle.lexer.specs.declared.token.Span.{Span}
 use Rattle.element_tokens.specs.Tokens.{span_text}
 use Rattle.element_lang.specs.Surface as surface
 use Rattle.element_grammar.specs.declared.surface.SurfaceExpr.{SurfaceExpr, fold-roll-SurfaceExpr}
@@ -38,7 +38,7 @@ repeat_level text index count body =
     (SurfaceStmt-F.Repeat index count body)
 
 -- a lookup, a store and a removal, where names and expressions were read from the statement
-look_level : (text : List ℕ) (found : Span) (into : Vec Span Global) (object : Span) (keys : Vec SurfaceExpr Global)
+pub look_level : (text : List ℕ) (found : Span) (into : Vec Span Global) (object : Span) (keys : Vec SurfaceExpr Global)
     → surface_stmt text (Look found into object keys) ≡ surface.look (span_text text found) (map (span_text text) into.items) (span_text text object)
     (surface_exprs text keys.items)
 look_level text found into object keys =
@@ -78,3 +78,10 @@ pub del_read : (text : List ℕ) (was object : Span) (keys : Vec SurfaceExpr Glo
 del_read text was object keys is exprs_are =
     ap (λ l. surface.del (span_text text was) (span_text text object) (surface_exprs text l)) exprs_are ∙ sym (ap (surface_stmt text) is
     ∙ del_level text was object keys)
+
+pub repeat_read : (text : List ℕ) (index : Span) (count : ℕ) (body : Vec (At SurfaceStmt) Global) {source : SurfaceStmt} {items : List (At SurfaceStmt)}
+    → source ≡ Repeat index count body → items ≡ body.items → surface.repeat (span_text text index) count (surface_body text items)
+    ≡ surface_stmt text source
+repeat_read text index count body is items_are =
+    ap (λ l. surface.repeat (span_text text index) count (surface_body text l)) items_are ∙ sym (ap (surface_stmt text) is
+    ∙ repeat_level text index count body)

@@ -1,6 +1,5 @@
 -- How a list of expressions is tested from front to back.
-use Rattle.std.proofs.Common.{◌≡◌, ℕ, ◌+◌, ◌<◌, Bool, true, false, ◌||◌, List, [], ◌∷◌, ◌++◌, length, drop, get_or, refl, sym, ap, ◌∙◌, append_assoc}
-use Rattle.std.proofs.lemmas.List.{at_drop_more}
+use Rattle.std.proofs.Common.{◌≡◌, ℕ, ◌+◌, ◌<◌, Bool, List, [], ◌∷◌, ◌++◌, length, drop, get_or, sym, ap, ◌∙◌, append_assoc}
 use Rattle.element_lang.specs.declared.tree.Local.{Local}
 use Rattle.element_lang.specs.Broken.{widths_in}
 use Rattle.element_grammar.specs.declared.surface.SurfaceExpr.{SurfaceExpr}
@@ -8,15 +7,8 @@ use Rattle.element_grammar.specs.Surface.{surface_expr, surface_exprs}
 use Rattle.element_rules.specs.declared.expressions.Faults.{Faults}
 use Rattle.element_rules.specs.declared.expressions.Tested.{Tested}
 use Rattle.element_rules.specs.Tested.{both_faults, list_faults, tested}
-
--- a list's next item in front of the rest
-pub at_item : {A B : Type 0} (P : List A → B) (all : List A) (at : ℕ) (x : A) → at < length all → x ≡ get_or all at x
-    → P (drop at all) ≡ P (x ∷ drop (at + 1) all)
-at_item P all at x within is = at_drop_more P all at x within ∙ ap (λ y. P (y ∷ drop (at + 1) all)) (sym is)
-
-or_assoc : (a b c : Bool) → ((a || b) || c) ≡ (a || (b || c))
-or_assoc true b c = refl
-or_assoc false b c = refl
+use Rattle.lemmas.proofs.Lists.{folded_item}
+use Rattle.lemmas.proofs.Tests.{or_assoc}
 
 pub both_assoc : (a b c : Faults) → both_faults (both_faults a b) c ≡ both_faults a (both_faults b c)
 both_assoc a b c =
@@ -45,8 +37,8 @@ testing_more {text = text} {locals = locals} {widths = widths} {more = more} {fa
     record {
       widths_so_far = ap (λ l. l ++ widths_in locals rest) pushed ∙ append_assoc widths (t.width ∷ []) (widths_in locals rest)
           ∙ ap (λ (x : Tested). widths ++ x.width ∷ widths_in locals rest) made
-          ∙ sym (at_item (λ l. widths ++ widths_in locals (surface_exprs text l)) all at e within is) ∙ h.widths_so_far;
+          ∙ sym (folded_item (λ l. widths ++ widths_in locals (surface_exprs text l)) all at e within is) ∙ h.widths_so_far;
       faults_so_far = ap (λ x. both_faults x (list_faults locals rest)) added ∙ both_assoc faults t.faults (list_faults locals rest)
           ∙ ap (λ (x : Tested). both_faults faults (both_faults x.faults (list_faults locals rest))) made
-          ∙ sym (at_item (λ l. both_faults faults (list_faults locals (surface_exprs text l))) all at e within is) ∙ h.faults_so_far;
+          ∙ sym (folded_item (λ l. both_faults faults (list_faults locals (surface_exprs text l))) all at e within is) ∙ h.faults_so_far;
     }

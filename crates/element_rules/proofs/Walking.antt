@@ -1,16 +1,16 @@
 -- How the statements of a block are gone through from front to back.
-use Rattle.std.proofs.Common.{Vec, Global, ◌≡◌, ℕ, ◌+◌, ◌<◌, ◌≤◌, Bool, true, false, not, ◌&&◌, ◌||◌, List, [], ◌∷◌, ◌++◌, length, take, drop, get_or, map, Option, Some, None, is_none, refl, sym, ap, ◌∙◌, append_assoc}
+use Rattle.std.proofs.Common.{Vec, Global, ◌≡◌, ℕ, ◌+◌, ◌<◌, Bool, true, false, ◌||◌, List, [], ◌∷◌, ◌++◌, length, take, drop, get_or, map, Option, Some, None, is_none, refl, sym, ap, ◌∙◌, append_assoc}
 use Rattle.std.specs.Option.{is_some}
-use Rattle.std.proofs.lemmas.List.{at_drop_all, append-nil, map-append, take-map, take_at, length-map}
+use Rattle.std.proofs.lemmas.List.{append-nil, take-map, take_at, length-map}
 use Rattle.std.specs.Str.{bytes_eq}
 use Rattle.indexmap.specs.IndexMap.{insert_entry}
 use Rattle.element_lang.specs.declared.tree.Local.{Local}
 use Rattle.element_lang.specs.declared.broken.Broken.{Broken}
 use Rattle.element_lang.specs.Surface as surface
-use Rattle.element_lang.specs.Surface.{let_local, assign, set_field, look, put, del, choose, repeat, send}
+use Rattle.element_lang.specs.Surface.{let_local, choose, repeat}
 use Rattle.element_lang.specs.Broken as broken
-use Rattle.element_lang.specs.Broken.{Sight, ◌or_else◌, are_free, lowest_broken, stmt_tests, behind, always_ends}
-use Rattle.element_tokens.specs.declared.token.Span.{Span}
+use Rattle.element_lang.specs.Broken.{Sight, ◌or_else◌, lowest_broken, stmt_tests, behind, always_ends}
+use Rattle.lexer.specs.declared.token.Span.{Span}
 use Rattle.element_tokens.specs.Tokens.{span_text}
 use Rattle.element_grammar.specs.declared.surface.At.{At}
 use Rattle.element_grammar.specs.declared.surface.SurfaceExpr.{SurfaceExpr}
@@ -21,10 +21,10 @@ use Rattle.element_grammar.specs.Surface.{surface_stmt, surface_body}
 use Rattle.element_rules.specs.declared.names.Sight as rules
 use Rattle.element_rules.specs.declared.statements.StmtFaults.{StmtFaults}
 use Rattle.element_rules.specs.Seen.{local_of, sight_of}
-use Rattle.element_rules.specs.Faulty.{stmt_faults, tests_of, sight_behind, counts_apart, within_repeat, ended_sight}
+use Rattle.element_rules.specs.Faulty.{stmt_faults, tests_of, sight_behind, within_repeat, ended_sight}
 use Rattle.element_rules.proofs.Scope.{Entries, local_last}
-use Rattle.element_rules.proofs.Testing.{at_item}
 use Rattle.element_rules.proofs.Levels.{if_level, repeat_level}
+use Rattle.lemmas.proofs.Lists.{folded_item}
 
 -- ## The first that is found
 
@@ -51,36 +51,14 @@ cut outer inner n more is longer =
 
 same_faults : (ended : Bool) (sight : Sight) (s : surface.SurfaceStmt) → stmt_faults (ended_sight ended sight) s ≡ stmt_faults sight s
 same_faults ended sight (let_local word value) = refl
-same_faults ended sight (assign word value) = refl
-same_faults ended sight (set_field f value) = refl
-same_faults ended sight (look found into object keys) = refl
-same_faults ended sight (put ok object keys values) = refl
-same_faults ended sight (del was object keys) = refl
-same_faults ended sight (choose cond first second) = refl
-same_faults ended sight (repeat index count body) = refl
-same_faults ended sight (send port) = refl
-same_faults ended sight surface.drop = refl
+same_faults ended sight _ = refl
 
 same_bound : (ended : Bool) (sight : Sight) (s : surface.SurfaceStmt) → behind (ended_sight ended sight) s ≡ ended_sight (ended || always_ends s) (sight_behind sight s)
 same_bound ended sight (let_local word value) = refl
-same_bound ended sight (assign word value) = refl
-same_bound ended sight (set_field f value) = refl
-same_bound ended sight (look found into object keys) = refl
-same_bound ended sight (put ok object keys values) = refl
-same_bound ended sight (del was object keys) = refl
-same_bound ended sight (choose cond first second) = refl
-same_bound ended sight (repeat index count body) = refl
-same_bound ended sight (send port) = refl
-same_bound ended sight surface.drop = refl
+same_bound ended sight _ = refl
 
 same_within : (ended : Bool) (sight : Sight) (s : surface.SurfaceStmt) → broken.broken_within (ended_sight ended sight) s ≡ broken.broken_within
     (sight_behind sight s) s
-same_within ended sight (let_local word value) = refl
-same_within ended sight (assign word value) = refl
-same_within ended sight (set_field f value) = refl
-same_within ended sight (look found into object keys) = refl
-same_within ended sight (put ok object keys values) = refl
-same_within ended sight (del was object keys) = refl
 same_within ended sight (choose cond first second) =
     let seen : List Local → Sight = λ ls. record { objects = sight.objects; locals = ls; repeated = sight.repeated; ended = false } in
     ap (λ ls. broken.broken_in (seen ls) first or_else broken.broken_in (seen ls) second) (sym (append-nil sight.locals))
@@ -91,8 +69,7 @@ same_within ended sight (repeat index count body) =
       repeated = true;
       ended = false;
     }) body) (sym (append-nil sight.locals))
-same_within ended sight (send port) = refl
-same_within ended sight surface.drop = refl
+same_within ended sight _ = refl
 
 -- ## Names of their own
 
@@ -103,29 +80,6 @@ untaken false true t more at e = cc
 untaken false false true more at e = cc
 untaken false false false more at e = refl
 
-not_not : (b : Bool) → not b ≡ false → b ≡ true
-not_not true e = refl
-not_not false e = cc
-
-second_part : (a b c : Bool) → (a && b && c) ≡ true → b ≡ true
-second_part true true c e = refl
-second_part true false c e = cc
-second_part false b c e = cc
-
-counted : (sight : Sight) (s : surface.SurfaceStmt) → are_free sight.objects sight.locals (broken.declares sight s) ≡ true → counts_apart (sight_behind sight s) s ≡ true
-counted sight (let_local word value) e = refl
-counted sight (assign word value) e = refl
-counted sight (set_field f value) e = refl
-counted sight (look found into object keys) e = refl
-counted sight (put ok object keys values) e = refl
-counted sight (del was object keys) e = refl
-counted sight (choose cond first second) e = refl
-counted sight (repeat index count body) e =
-    ap (λ ls. is_none (broken.local_named ls index)) (append-nil sight.locals)
-    ∙ second_part (is_none (broken.object_named sight.objects index)) (is_none (broken.local_named sight.locals index)) true e
-counted sight (send port) e = refl
-counted sight surface.drop e = refl
-
 -- ## A block
 
 -- The locals of the block stand behind those from outside, and what is left has the first broken statement of all.
@@ -135,10 +89,6 @@ pub record Walking (text : List ℕ) (objects : List (At SurfaceDecl)) (before n
   pub repeated : now.repeated ≡ before.repeated
   pub told : broken.broken_in (ended_sight ended (sight_of text objects now)) (surface_body text left) ≡ broken.broken_in
       (sight_of text objects before) (surface_body text all)
-
-pub walking_none : (text : List ℕ) (objects : List (At SurfaceDecl)) (before : rules.Sight) (all : List (At SurfaceStmt))
-    → Walking text objects before before false all all
-walking_none text objects before all = record { more = []; scope = sym (append-nil (map local_of before.locals.entries)); repeated = refl; told = refl }
 
 module _ {text : List ℕ} {objects : List (At SurfaceDecl)} {before now : rules.Sight} {ended : Bool} {all : List (At SurfaceStmt)}
     (at : ℕ) (s : At SurfaceStmt) {faults : StmtFaults} (within : at < length all) (is : s ≡ get_or all at s)
@@ -168,7 +118,7 @@ module _ {text : List ℕ} {objects : List (At SurfaceDecl)} {before now : rules
       let inner : broken.broken_within (ended_sight ended seen) tree ≡ parts_within = same_within ended seen tree in
       let next : broken.broken_in (behind (ended_sight ended seen) tree) rest ≡ behind_it =
       ap (λ x. broken.broken_in x rest) (same_bound ended seen tree) in
-      sym (sym h.told ∙ at_item (λ l. broken.broken_in (ended_sight ended seen) (surface_body text l)) all at s within is
+      sym (sym h.told ∙ folded_item (λ l. broken.broken_in (ended_sight ended seen) (surface_body text l)) all at s within is
       ∙ ap (λ x. lowest_broken s.at x or_else (broken.broken_within (ended_sight ended seen) tree or_else broken.broken_in
       (behind (ended_sight ended seen) tree) rest)) tests
       ∙ ap (λ x. own_parts or_else (x or_else broken.broken_in (behind (ended_sight ended seen) tree) rest)) inner
@@ -183,17 +133,9 @@ module _ {text : List ℕ} {objects : List (At SurfaceDecl)} {before now : rules
     pub none_taken : faults.taken ≡ false
     none_taken = untaken faults.exprs.bad_width faults.exprs.too_large faults.taken _ s.at (ap is_some (sym is_own) ∙ keeps)
 
-    pub counts : counts_apart then_seen (surface_stmt text s.item) ≡ true
-    counts = counted (sight_of text objects now) (surface_stmt text s.item)
-        (not_not (are_free (sight_of text objects now).objects (sight_of text objects now).locals (broken.declares (sight_of text objects now) (surface_stmt text s.item)))
-        (ap (λ (f : StmtFaults). f.taken) (sym faulty) ∙ none_taken))
-
     module _ (mid : rules.Sight) (declared : faults.taken ≡ false → sight_of text objects mid ≡ then_seen) where
       same_mid : sight_of text objects mid ≡ then_seen
       same_mid = declared none_taken
-
-      pub counts_mid : counts_apart (sight_of text objects mid) (surface_stmt text s.item) ≡ true
-      counts_mid = ap (λ x. counts_apart x (surface_stmt text s.item)) same_mid ∙ counts
 
       module _ (inner : Option Broken) (is_inner : inner ≡ broken.broken_within (sight_of text objects mid) (surface_stmt text s.item)) where
         inner_parts : inner ≡ parts_within
@@ -222,13 +164,6 @@ module _ {text : List ℕ} {objects : List (At SurfaceDecl)} {before now : rules
                   ∙ ap (λ x. broken.broken_in (ended_sight (ended || always_ends (surface_stmt text s.item)) x) rest) same
                   ∙ sym (sym later ∙ next_found parts_within behind_it (ap is_some (sym inner_parts) ∙ none));
             }
-
--- nothing is left
-pub walking_end : {text : List ℕ} {objects : List (At SurfaceDecl)} {before now : rules.Sight} {ended : Bool} {all : List (At SurfaceStmt)} (at : ℕ)
-    → length all ≤ at → Walking text objects before now ended (drop at all) all → None ≡ broken.broken_in (sight_of text objects before)
-    (surface_body text all)
-walking_end {text = text} {objects = objects} {now = now} {ended = ended} {all = all} at past h =
-    sym (sym h.told ∙ at_drop_all (λ l. broken.broken_in (ended_sight ended (sight_of text objects now)) (surface_body text l)) all at past)
 
 -- and the locals of the block go out of scope
 pub walked_out : {text : List ℕ} {objects : List (At SurfaceDecl)} {before now : rules.Sight} {ended : Bool} {left all : List (At SurfaceStmt)}

@@ -11,13 +11,14 @@ use Rattle.element_lang.specs.Surface.{Declared, Surface, object_of}
 use Rattle.element_lang.specs.Grammar.{Spells}
 use Rattle.element_lang.specs.Broken.{broken_in, broken_decl, first_broken}
 use Rattle.element_text.specs.Resolve.{Env, MadeBody, made_body, is_written, are_good_decls, decls_of, resolved}
-use Rattle.element_text.proofs.Agreeing.{and_true, agrees_some, agrees_bound, agrees_when}
+use Rattle.element_text.proofs.Agreeing.{agrees_some, agrees_bound, agrees_when}
 use Rattle.element_text.proofs.AgreeingScopes.{Seen}
 use Rattle.element_text.proofs.AgreeingStmts.{sight_of}
 use Rattle.element_text.proofs.AgreeingSights.{none_or}
 use Rattle.element_text.proofs.AgreeingBodies.{odd_body, BodyFollows, body_agrees}
 use Rattle.element_text.proofs.AgreeingDecls.{decls_agree, good_have_values}
 use Rattle.element_text.proofs.AgreeingSpells.{spelled_plain}
+use Rattle.lemmas.proofs.Tests.{and_true}
 
 objects_same : (ds : List Declared) → map object_of (decls_of ds) ≡ map (λ d. object_of d.decl) ds
 objects_same [] = refl
@@ -78,11 +79,3 @@ unbroken ts s spells e = there (resolved s) (spelled_same ts s spells ∙ ap is_
 -- and one that breaks a rule has none
 pub broken : (s : Surface) (b : Broken) → first_broken s ≡ Some b → resolved s ≡ None
 broken s b e = absent (resolved s) (resolved_same s ∙ ap (λ o. is_none o && not (odd_body s.body)) e)
-
--- so a source with no middlebox breaks one
-pub refused : (ts : List Token) (s : Surface) → Spells ts s → resolved s ≡ None → (b : Broken) × (first_broken s ≡ Some b)
-refused ts s spells e = some_of (first_broken s) (sym (spelled_same ts s spells) ∙ ap is_some e)
-  where
-    some_of : (o : Option Broken) → is_none o ≡ false → (b : Broken) × (o ≡ Some b)
-    some_of None e = absurd (false≢true (sym e))
-    some_of (Some b) e = (b, refl)

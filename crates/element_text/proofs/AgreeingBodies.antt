@@ -10,26 +10,20 @@ use Rattle.element_lang.specs.Rules as rules
 use Rattle.element_lang.specs.Surface.{SurfaceExpr, SurfaceStmt, SurfaceBody, let_local, assign, set_field, look, put, del, choose, repeat, send, drop, done, stmt}
 use Rattle.element_lang.specs.Broken.{width_in, in_expr, in_exprs, always_ends, ends_always, own_exprs, are_free, stmt_tests, binds, broken_within, broken_in}
 use Rattle.element_text.specs.Resolve.{when, Env, Made, MadeBody, typed_expr, declared, with_locals, is_done, made_condition, made_stmt, made_body}
-use Rattle.element_text.proofs.Agreeing.{and_true, and_false, Agrees, agrees_some, agrees_to, agrees_bound, agrees_when}
+use Rattle.element_text.proofs.Agreeing.{Agrees, agrees_some, agrees_to, agrees_bound, agrees_when}
 use Rattle.element_text.proofs.AgreeingExprs.{is_odd, is_wrong, HasWidth, expr_agrees}
 use Rattle.element_text.proofs.AgreeingScopes.{Seen, sole_agrees}
 use Rattle.element_text.proofs.AgreeingTests.{none_of, tests_apart}
-use Rattle.element_text.proofs.AgreeingStmts.{sight_of, have_repeats, Follows, StmtAgrees, let_agrees, assign_agrees, field_agrees, look_agrees, put_agrees, del_agrees, send_agrees, drop_agrees}
+use Rattle.element_text.proofs.AgreeingStmts.{sight_of, have_repeats, Follows, StmtAgrees, let_agrees, assign_agrees, field_agrees, look_agrees, put_agrees, del_agrees, send_agrees, drop_agrees, send_tests}
 use Rattle.element_text.proofs.AgreeingSights.{none_or, first_kept, ended_body, kept, repeated_body}
+use Rattle.lemmas.proofs.Tests.{and_false, and_true}
 
 -- an expression in it is odd, at any depth
 abbrev mutual
   pub odd_within : SurfaceStmt → Bool
   odd_within (choose cond first second) = odd_body first || odd_body second
   odd_within (repeat index count body) = odd_body body
-  odd_within (let_local word value) = false
-  odd_within (assign word value) = false
-  odd_within (set_field f value) = false
-  odd_within (look found into object keys) = false
-  odd_within (put ok object keys values) = false
-  odd_within (del was object keys) = false
-  odd_within (send port) = false
-  odd_within drop = false
+  odd_within _ = false
 
   pub odd_body : SurfaceBody → Bool
   odd_body done = false
@@ -65,11 +59,6 @@ follows_stmt objects locals at s b first rest f g = record {
 }
 
 -- ## What the tests come to
-
-condition_tests : (e q : Bool) → (not e && (q && true)) ≡ (not (e || false) && (not (not q) && true))
-condition_tests true q = refl
-condition_tests false true = refl
-condition_tests false false = refl
 
 choose_tests : (t o a x b y : Bool) → ((t && not o) && ((a && not x) && ((b && not y) && true))) ≡ ((t && (a && b)) && not (o || (x || y)))
 choose_tests false o a x b y = refl
@@ -156,7 +145,7 @@ module _ (objects : List ObjectDecl) (locals : List Local) (env : Env) (h : Seen
       let Q = Follows objects locals s in
       let made : ExprTree → MadeBody → MadeBody → Made = λ c i j. record { tree = trees.choose c i.tree j.tree; env = with_locals env j.locals } in
       let last : ExprTree → MadeBody → Option Made = λ c i. option_and_then (λ j. Some (made c i j)) (made_body (with_locals env i.locals) second) in
-      let own = condition_tests e q ∙ sym (tests_apart sight s) in
+      let own = send_tests e q ∙ sym (tests_apart sight s) in
       agrees_to (ap (λ i. i && ((a && not x) && ((b && not y) && true))) own ∙ choose_tests t o a x b y
       ∙ ap (λ i. (t && i) && not (o || (x || y))) (sym (none_or (broken_in sight first) (broken_in sight second))))
       (agrees_bound (made_condition env cond) (λ c. option_and_then (λ i. last c i) (made_body env first)) (not e && (q && true))

@@ -12,12 +12,12 @@ use Rattle.element_lang.specs.Rules.{is_width, same_widths, are_widths, is_size,
 use Rattle.element_lang.specs.Surface.{Literal, SurfaceRow, SurfaceDecl, Declared, table_decl, map_decl, vector_decl, int_decl, value_row, object_of}
 use Rattle.element_lang.specs.Broken.{object_named, literal_widths, is_too_large_literal, is_too_large_row, is_list_of_numbers, has_bad_rows, decl_tests, lowest_broken, broken_decl}
 use Rattle.element_text.specs.Resolve.{decls_of, are_written, is_written, are_good_decls}
-use Rattle.element_text.proofs.Operators.{same_lists}
 use Rattle.element_text.proofs.CompleteStmts.{good_values}
-use Rattle.element_text.proofs.Agreeing.{and_true, and_false}
 use Rattle.element_text.proofs.AgreeingScopes.{has_values}
 use Rattle.element_text.proofs.AgreeingTests.{none_of, none_lowest}
 use Rattle.element_text.proofs.AgreeingSights.{none_or}
+use Rattle.gal_bits.specs.Fits.{same_list}
+use Rattle.lemmas.proofs.Tests.{and_false, and_true}
 
 -- ## Rows of a table
 
@@ -29,7 +29,7 @@ abbrev numbers_in : List Literal → List ℕ
 numbers_in = map (λ l. l.value)
 
 wide_literals : (ws : List ℕ) (ls : List Literal) → list_all is_width ws ≡ true → same_widths (widths_in ls) ws ≡ true → list_all is_width (widths_in ls) ≡ true
-wide_literals ws ls wide e = ap (list_all is_width) (same_lists (widths_in ls) ws e) ∙ wide
+wide_literals ws ls wide e = ap (list_all is_width) (same_list (widths_in ls) ws e) ∙ wide
 
 both_small : (x y h : Bool) → not y ≡ h → not (not x || y) ≡ (x && h)
 both_small true y h e = e

@@ -4,7 +4,7 @@ use Rattle.std.specs.List.{list_all}
 use Rattle.std.specs.Str.{bytes_eq}
 use Rattle.std.proofs.lemmas.Bool.{eqb-true, eq-eqb, and_parts, and_from, false≢true}
 use Rattle.gal_bits.specs.declared.op.Op.{Op}
-use Rattle.gal_bits.specs.declared.op.Op.TheVariants.{Add, Sub, Mul, Div, Rem, And, Or, Xor, Not, Shl, Shr, Eq, Ne, Lt, Le, Cast, Select, Adjust}
+use Rattle.gal_bits.specs.declared.op.Op.TheVariants.{Add, Sub, Mul, Div, Rem, And, Or, Xor, Not, Shl, Shr, Cast, Select, Adjust}
 use Rattle.packet_fields.specs.Table.{row}
 use Rattle.element_lang.specs.declared.tree.Local.{Local}
 use Rattle.element_lang.specs.Tree as trees
@@ -14,9 +14,10 @@ use Rattle.element_lang.specs.Broken.{local_named, width_of_local, width_in, wid
 use Rattle.element_lang.specs.Broken as broken
 use Rattle.element_text.specs.Resolve.{Known, local_in, Typed, TypedList, accepted_width, typed_apply, typed_local, typed_byte, typed_shift, typed_expr, typed_exprs}
 use Rattle.element_text.proofs.Optional.{if_so}
-use Rattle.element_text.proofs.Operators.{same_lists, Fitting, result_fits, fitting_result, result_wide}
+use Rattle.element_text.proofs.Operators.{Fitting, result_fits, fitting_result, result_wide}
 use Rattle.element_text.proofs.CompleteExprs.{field_wide}
 use Rattle.element_text.proofs.Agreeing.{Agrees, agrees_some, agrees_none, agrees_to, agrees_bound, agrees_when, agrees_map, agrees_from}
+use Rattle.gal_bits.specs.Fits.{same_list}
 
 -- ## What may be wrong in an expression
 
@@ -97,24 +98,21 @@ number_is v n b e = eqb-true v n (and_parts (v == n) b e).0
 
 -- the width of a result that fits
 result_is : (op : Op) (v written : ℕ) (ws : List ℕ) → fits_operator op v ws ≡ true → written_width op v ≡ written → v ≡ broken.result_width op written ws
-result_is Add v written ws e back = sym (ap (broken.result_width Add written) (same_lists ws (v ∷ v ∷ []) e))
-result_is Sub v written ws e back = sym (ap (broken.result_width Sub written) (same_lists ws (v ∷ v ∷ []) e))
-result_is Mul v written ws e back = sym (ap (broken.result_width Mul written) (same_lists ws (v ∷ v ∷ []) e))
-result_is Div v written ws e back = sym (ap (broken.result_width Div written) (same_lists ws (v ∷ v ∷ []) e))
-result_is Rem v written ws e back = sym (ap (broken.result_width Rem written) (same_lists ws (v ∷ v ∷ []) e))
-result_is And v written ws e back = sym (ap (broken.result_width And written) (same_lists ws (v ∷ v ∷ []) e))
-result_is Or v written ws e back = sym (ap (broken.result_width Or written) (same_lists ws (v ∷ v ∷ []) e))
-result_is Xor v written ws e back = sym (ap (broken.result_width Xor written) (same_lists ws (v ∷ v ∷ []) e))
-result_is Not v written ws e back = sym (ap (broken.result_width Not written) (same_lists ws (v ∷ []) e))
+result_is Add v written ws e back = sym (ap (broken.result_width Add written) (same_list ws (v ∷ v ∷ []) e))
+result_is Sub v written ws e back = sym (ap (broken.result_width Sub written) (same_list ws (v ∷ v ∷ []) e))
+result_is Mul v written ws e back = sym (ap (broken.result_width Mul written) (same_list ws (v ∷ v ∷ []) e))
+result_is Div v written ws e back = sym (ap (broken.result_width Div written) (same_list ws (v ∷ v ∷ []) e))
+result_is Rem v written ws e back = sym (ap (broken.result_width Rem written) (same_list ws (v ∷ v ∷ []) e))
+result_is And v written ws e back = sym (ap (broken.result_width And written) (same_list ws (v ∷ v ∷ []) e))
+result_is Or v written ws e back = sym (ap (broken.result_width Or written) (same_list ws (v ∷ v ∷ []) e))
+result_is Xor v written ws e back = sym (ap (broken.result_width Xor written) (same_list ws (v ∷ v ∷ []) e))
+result_is Not v written ws e back = sym (ap (broken.result_width Not written) (same_list ws (v ∷ []) e))
 result_is Shl v written ws e back = absurd (false≢true e)
 result_is Shr v written ws e back = absurd (false≢true e)
-result_is Eq v written ws e back = number_is v 1 (same_widths ws (slice_index ws 0 ∷ slice_index ws 0 ∷ [])) e
-result_is Ne v written ws e back = number_is v 1 (same_widths ws (slice_index ws 0 ∷ slice_index ws 0 ∷ [])) e
-result_is Lt v written ws e back = number_is v 1 (same_widths ws (slice_index ws 0 ∷ slice_index ws 0 ∷ [])) e
-result_is Le v written ws e back = number_is v 1 (same_widths ws (slice_index ws 0 ∷ slice_index ws 0 ∷ [])) e
 result_is Cast v written ws e back = back
-result_is Select v written ws e back = sym (ap (broken.result_width Select written) (same_lists ws (1 ∷ v ∷ v ∷ []) e))
+result_is Select v written ws e back = sym (ap (broken.result_width Select written) (same_list ws (1 ∷ v ∷ v ∷ []) e))
 result_is Adjust v written ws e back = number_is v 16 (same_widths ws (16 ∷ 16 ∷ 16 ∷ [])) e
+result_is _ v written ws e back = number_is v 1 (same_widths ws (slice_index ws 0 ∷ slice_index ws 0 ∷ [])) e
 
 -- the tests of an operator
 operator_parts : (f b o : Bool) → not (not f || (b || not o)) ≡ true → (f ≡ true) × (o ≡ true)

@@ -8,9 +8,9 @@ use Rattle.element_lang.specs.Rules.{is_count}
 use Rattle.element_lang.specs.Surface.{SurfaceStmt, SurfaceBody, let_local, choose, repeat, done, stmt}
 use Rattle.element_lang.specs.Broken.{Sight, always_ends, stmt_tests, lowest_broken, ◌or_else◌, binds, behind, broken_within, broken_in}
 use Rattle.element_text.specs.Resolve.{is_done}
-use Rattle.element_text.proofs.Agreeing.{and_true, and_false}
 use Rattle.element_text.proofs.AgreeingTests.{none_of, none_lowest, ended_fails, repeat_fails}
 use Rattle.element_text.proofs.AgreeingStmts.{sight_of, has_repeat, have_repeats}
+use Rattle.lemmas.proofs.Tests.{and_false, and_true}
 
 -- ## What is seen within a repeat, and behind a statement that always ends
 

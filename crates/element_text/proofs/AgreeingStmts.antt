@@ -14,10 +14,11 @@ use Rattle.element_lang.specs.Rules as rules
 use Rattle.element_lang.specs.Surface.{SurfaceExpr, SurfaceExprs, SurfaceStmt, SurfaceBody, let_local, assign, set_field, look, put, del, choose, repeat, send, drop, done, stmt}
 use Rattle.element_lang.specs.Broken.{Sight, local_named, object_named, width_of_local, width_in, widths_in, in_expr, in_exprs, always_ends, own_exprs, value_widths, locals_of, are_free, binds, stmt_tests}
 use Rattle.element_text.specs.Resolve.{when, Known, local_in, Env, Typed, TypedList, typed_expr, typed_exprs, typed_local, object_from, declared, all_declared, numbers_from, values_of, Made, made_stmt}
-use Rattle.element_text.proofs.Agreeing.{Agrees, agrees_some, agrees_to, agrees_bound, agrees_when, same_tests, all_of}
+use Rattle.element_text.proofs.Agreeing.{Agrees, agrees_some, agrees_to, agrees_bound, agrees_when, all_of}
 use Rattle.element_text.proofs.AgreeingExprs.{is_odd, is_wrong, HasWidth, HaveWidths, local_agrees, expr_agrees, exprs_agree}
 use Rattle.element_text.proofs.AgreeingScopes.{has_values, Seen, object_agrees, sole_agrees, is_even, even_lengths, all_agree}
 use Rattle.element_text.proofs.AgreeingTests.{none_of, in_joined, own_tests, tests_apart}
+use Rattle.lemmas.proofs.Tests.{same_tests}
 
 -- a statement outside any repeat, behind none that always ends
 abbrev pub sight_of : List ObjectDecl → List Local → Sight
@@ -28,14 +29,7 @@ abbrev mutual
   pub has_repeat : SurfaceStmt → Bool
   has_repeat (repeat index count body) = true
   has_repeat (choose cond first second) = have_repeats first || have_repeats second
-  has_repeat (let_local word value) = false
-  has_repeat (assign word value) = false
-  has_repeat (set_field f value) = false
-  has_repeat (look found into object keys) = false
-  has_repeat (put ok object keys values) = false
-  has_repeat (del was object keys) = false
-  has_repeat (send port) = false
-  has_repeat drop = false
+  has_repeat _ = false
 
   pub have_repeats : SurfaceBody → Bool
   have_repeats done = false
@@ -104,7 +98,7 @@ del_tests false false true false d = refl
 del_tests false false false true d = refl
 del_tests false false false false d = refl
 
-send_tests : (e q : Bool) → (not e && (q && true)) ≡ (not (e || false) && (not (not q) && true))
+pub send_tests : (e q : Bool) → (not e && (q && true)) ≡ (not (e || false) && (not (not q) && true))
 send_tests true q = refl
 send_tests false true = refl
 send_tests false false = refl

@@ -1,10 +1,11 @@
 -- The tests of a statement, those of its expressions first.
 use Rattle.std.proofs.Common.{◌≡◌, ℕ, Bool, true, false, not, ◌&&◌, ◌||◌, List, [], ◌∷◌, ◌++◌, is_none, refl, sym, ap, ap₂, ◌∙◌}
 use Rattle.element_lang.specs.declared.tree.Local.{Local}
-use Rattle.element_lang.specs.Surface.{SurfaceExpr, SurfaceExprs, SurfaceStmt, lit, name, field, byte, shift, apply, no_expr, expr}
+use Rattle.element_lang.specs.Surface.{SurfaceExpr, SurfaceExprs, SurfaceStmt, byte, shift, apply, no_expr, expr}
 use Rattle.element_lang.specs.Broken.{Sight, in_expr, in_exprs, is_bad_width, is_too_large, is_unknown, is_misfit, is_far_shift, appended, own_exprs, declares, are_free, uses_unknown, takes_misfit, writes_fixed, misfits_object, changes_fixed, repeats_badly, repeats_an_end, stmt_tests, lowest_broken}
-use Rattle.element_text.proofs.Agreeing.{and_true, and_false, all_of, pulled, one_fails}
+use Rattle.element_text.proofs.Agreeing.{all_of, pulled, one_fails}
 use Rattle.element_text.proofs.AgreeingExprs.{is_odd, is_wrong}
+use Rattle.lemmas.proofs.Tests.{and_false, and_true}
 
 -- no rule is broken
 abbrev pub none_of : List (ℕ × Bool) → Bool
@@ -26,9 +27,6 @@ either false false c d = refl
 
 mutual
   in_either : (p q : SurfaceExpr → Bool) (e : SurfaceExpr) → in_expr (λ x. p x || q x) e ≡ (in_expr p e || in_expr q e)
-  in_either p q (lit value width) = refl
-  in_either p q (name word) = refl
-  in_either p q (field f) = refl
   in_either p q (byte index) = ap (λ b. (p (byte index) || q (byte index)) || b) (in_either p q index)
       ∙ either (p (byte index)) (q (byte index)) (in_expr p index) (in_expr q index)
   in_either p q (shift op by arg) =
@@ -37,6 +35,7 @@ mutual
   in_either p q (apply op written args) =
       ap (λ b. (p (apply op written args) || q (apply op written args)) || b) (in_eithers p q args)
       ∙ either (p (apply op written args)) (q (apply op written args)) (in_exprs p args) (in_exprs q args)
+  in_either p q _ = refl
 
   in_eithers : (p q : SurfaceExpr → Bool) (es : SurfaceExprs) → in_exprs (λ x. p x || q x) es ≡ (in_exprs p es || in_exprs q es)
   in_eithers p q no_expr = refl

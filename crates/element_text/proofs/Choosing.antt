@@ -1,8 +1,8 @@
 -- What a choice between two bodies that has numbers is made of.
-use Rattle.std.proofs.Common.{Vec, Global, ◌≡◌, ℕ, List, Option, Some, is_some, sym, ap, ◌∙◌}
+use Rattle.std.proofs.Common.{Vec, Global, ◌≡◌, ℕ, List, Option, Some, sym, ap, ◌∙◌}
 use Rattle.std.specs.Prelude.{IsSome}
 use Rattle.element_lang.specs.Tree as trees
-use Rattle.element_lang.specs.Tree.{ExprTree, BodyTree, StmtTree}
+use Rattle.element_lang.specs.Tree.{ExprTree, StmtTree}
 use Rattle.element_lang.specs.Surface as surface
 use Rattle.element_grammar.specs.declared.surface.At.{At}
 use Rattle.element_grammar.specs.declared.surface.SurfaceExpr.{SurfaceExpr}
@@ -12,7 +12,6 @@ use Rattle.element_grammar.specs.declared.surface.SurfaceStmt.TheOpen.{SurfaceSt
 use Rattle.element_grammar.specs.Surface.{surface_expr, surface_body, stmt_step, surface_stmt}
 use Rattle.element_text.specs.Resolve.{Env, Made, MadeBody, with_locals, made_condition, made_stmt, made_body}
 use Rattle.element_text.proofs.Optional.{bound_is}
-use Rattle.element_text.proofs.Links.{first_link, next_link}
 
 -- the choice that a source spells, of the bodies that were read
 pub choice_read : (text : List ℕ) (cond : SurfaceExpr) (left right : Vec (At SurfaceStmt) Global) {first second : List (At SurfaceStmt)}
@@ -22,19 +21,6 @@ choice_read text cond left right {first = first} {second = second} first_is seco
     ap (surface_stmt text) (sym (rolls-If cond left right)) ∙ fold-roll-SurfaceStmt surface.SurfaceStmt (stmt_step text) (SurfaceStmt-F.If cond left right)
     ∙ ap (λ l. surface.choose (surface_expr text cond) (surface_body text l) (surface_body text right.items)) (sym first_is)
     ∙ ap (λ l. surface.choose (surface_expr text cond) (surface_body text first) (surface_body text l)) (sym second_is)
-
-module _ (env : Env) (cond : surface.SurfaceExpr) (first second : surface.SurfaceBody) (there : IsSome (made_stmt env (surface.choose cond first second))) where
-  pub choice_cond : IsSome (made_condition env cond)
-  choice_cond = first_link (made_condition env cond) _ there
-
-  module _ (c : ExprTree) (tested : made_condition env cond ≡ Some c) where
-    pub choice_first : IsSome (made_body env first)
-    choice_first = first_link (made_body env first) _ (next_link (made_condition env cond) _ c tested there)
-
-    pub choice_second : (next : Env) (a : MadeBody) → made_body env first ≡ Some a → next ≡ with_locals env a.locals → IsSome (made_body next second)
-    choice_second next a made is =
-        ap (λ n. is_some (made_body n second)) is ∙ first_link (made_body (with_locals env a.locals) second) _
-        (next_link (made_body env first) _ a made (next_link (made_condition env cond) _ c tested there))
 
 module _ (env : Env) (cond : surface.SurfaceExpr) (first second : surface.SurfaceBody) (c : ExprTree) (tested : made_condition env cond ≡ Some c) where
   pub choice_made : (next last : Env) (a b : MadeBody) (s : StmtTree) → made_body env first ≡ Some a → next ≡ with_locals env a.locals

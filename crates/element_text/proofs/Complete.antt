@@ -13,9 +13,9 @@ use Rattle.element_lang.specs.Rules.{is_width, same_widths, are_widths, is_size,
 use Rattle.element_lang.specs.Surface.{literals, named_row, named_as, Declared, named_decl, named, named_body, value_row, object_of}
 use Rattle.element_text.specs.Resolve.{when, MadeBody, made_body, decls_of, is_written_row, are_written, is_written, resolved}
 use Rattle.element_text.proofs.Optional.{bound_is, when_is}
-use Rattle.element_text.proofs.Operators.{same_lists}
 use Rattle.element_text.proofs.CompleteExprs.{reads_none}
 use Rattle.element_text.proofs.CompleteStmts.{env_at, taken_all, body_read}
+use Rattle.gal_bits.specs.Fits.{same_list}
 
 -- ## Rows of a table, with the widths put back
 
@@ -99,7 +99,7 @@ object_kept Vector d kind e =
     let q = and_parts (one_key && are_widths d.values && is_size d.size) no_start p.0 in
     let r = and_parts (one_key && are_widths d.values) (is_size d.size) q.0 in
     let s = and_parts one_key (are_widths d.values) r.0 in
-    rebuilt d Vector (32 ∷ []) d.values d.size 0 [] kind (sym (same_lists d.keys (32 ∷ []) s.0)) refl refl (sym (eqb-true d.start 0 q.1)) (no_elements d.rows p.1)
+    rebuilt d Vector (32 ∷ []) d.values d.size 0 [] kind (sym (same_list d.keys (32 ∷ []) s.0)) refl refl (sym (eqb-true d.start 0 q.1)) (no_elements d.rows p.1)
 object_kept Int d kind e =
     let w = slice_index d.values 0 in
     let no_key = length d.keys == 0 in
@@ -111,16 +111,14 @@ object_kept Int d kind e =
     let r = and_parts (no_key && one_value && is_width w) one_row q.0 in
     let s = and_parts (no_key && one_value) (is_width w) r.0 in
     let t = and_parts no_key one_value s.0 in
-    rebuilt d Int [] (w ∷ []) 1 d.start [] kind (no_elements d.keys t.0) (sym (same_lists d.values (w ∷ []) t.1)) (sym (eqb-true d.size 1 r.1)) refl (no_elements d.rows p.1)
+    rebuilt d Int [] (w ∷ []) 1 d.start [] kind (no_elements d.keys t.0) (sym (same_list d.values (w ∷ []) t.1)) (sym (eqb-true d.size 1 r.1)) refl (no_elements d.rows p.1)
 
 -- and its declaration is written with the declared widths
 decl_written : (k : Kind) (d : ObjectDecl) → is_good_object k d ≡ true → is_written (named_as k d) ≡ true
 decl_written Table d e =
     let front = are_widths d.keys && are_widths d.values && d.size == length d.rows && d.start == 0 in
     rows_written d.keys d.values [] d.rows (and_parts front (are_good_rows d.keys d.values [] d.rows) e).1
-decl_written Map d e = refl
-decl_written Vector d e = refl
-decl_written Int d e = refl
+decl_written _ d e = refl
 
 -- what is known of a good object
 pub decl_kept : (d : ObjectDecl) → is_good_object d.kind d ≡ true → (object_of (named_decl d) ≡ d) × (is_written (named_decl d) ≡ true)

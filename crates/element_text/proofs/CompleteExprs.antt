@@ -16,8 +16,9 @@ use Rattle.element_lang.specs.Rules.{is_width, is_shift, widths_of, fits_operato
 use Rattle.element_lang.specs.Surface.{name_of_local, local_name, written_width, named_expr, named_exprs}
 use Rattle.element_text.specs.Resolve.{when, Known, local_in, Typed, TypedList, typed_apply, typed_local, typed_byte, typed_shift, typed_expr, typed_exprs}
 use Rattle.element_text.proofs.Optional.{bound_is}
-use Rattle.element_text.proofs.Scoping.{local_in_pushed, found_alone, none_alone, own_word, width_at}
+use Rattle.element_text.proofs.Scoping.{local_in_pushed, found_alone, none_alone, width_at}
 use Rattle.element_text.proofs.Operators.{fitting_result, result_wide}
+use Rattle.lemmas.proofs.Lists.{bytes_eq_same}
 
 -- A number in scope is that of a local of the middlebox, which has 1 to 64 bits and is found by its name.
 pub record IsKnown (m : Tree) (scope : List Known) (x : ℕ) : Type 0 where
@@ -53,7 +54,7 @@ reads_pushed m numbers scope x l stands wide fresh h =
               decl = l;
               stands = ap (slice_get m.locals) (sym same) ∙ stands;
               wide = wide;
-              finds = local_in_pushed scope k l.name ∙ ap₂ option_or (h.free l.name fresh) (found_alone k l.name (own_word l.name)) ∙ ap (λ i. Some (record { number = i; decl = l })) same;
+              finds = local_in_pushed scope k l.name ∙ ap₂ option_or (h.free l.name fresh) (found_alone k l.name (bytes_eq_same l.name)) ∙ ap (λ i. Some (record { number = i; decl = l })) same;
             }
         | inr q ↦
             let j = h.known z q in

@@ -19,8 +19,8 @@ use Rattle.element_lang.specs.Surface.{name_of_local, name_of_object, local_name
 use Rattle.element_text.specs.Resolve.{when, Known, local_in, Env, Typed, TypedList, typed_expr, typed_exprs, object_from, is_free, with_local, declared, all_declared, numbers_from, values_of, Made, MadeBody, with_locals, is_done, made_condition, made_stmt, made_body}
 use Rattle.element_text.proofs.Optional.{bound_is, when_is}
 use Rattle.element_text.proofs.Scoping.{word_same, width_at, any_moved, empty_same}
-use Rattle.element_text.proofs.Operators.{same_lists}
 use Rattle.element_text.proofs.CompleteExprs.{Reads, reads_moved, reads_pushed, typed_in, all_typed_in, expr_read, exprs_read, expr_wide}
+use Rattle.gal_bits.specs.Fits.{same_list}
 
 -- ## Objects
 
@@ -94,7 +94,7 @@ good_values Int d e =
     let q = and_parts (no_key && one_value && is_width w && one_row) within p.0 in
     let r = and_parts (no_key && one_value && is_width w) one_row q.0 in
     let s = and_parts (no_key && one_value) (is_width w) r.0 in
-    let values_are : d.values ≡ w ∷ [] = same_lists d.values (w ∷ []) (and_parts no_key one_value s.0).1 in
+    let values_are : d.values ≡ w ∷ [] = same_list d.values (w ∷ []) (and_parts no_key one_value s.0).1 in
     ap (list_all is_width) values_are ∙ and_from (is_width w) true s.1 refl
 
 -- keys that fit an object fit one that is there
@@ -104,7 +104,7 @@ object_with (Some d) ws e = (d, refl)
 
 values_with : (o : Option ObjectDecl) (vs : List ℕ) → fits_values o vs ≡ true → vs ≡ values_of o
 values_with None vs e = absurd (false≢true e)
-values_with (Some d) vs e = same_lists vs d.values e
+values_with (Some d) vs e = same_list vs d.values e
 
 -- the object of a statement
 record IsUsed (m : Tree) (o : ℕ) : Type 0 where

@@ -1,26 +1,16 @@
 -- What a declaration that keeps its rules says of its parts.
-use Rattle.std.proofs.Common.{◌≡◌, ℕ, ◌≤◌, ◌<◌, ◌+◌, Bool, true, false, ◌&&◌, not, nat_le, List, [], ◌∷◌, ◌++◌, length, map, drop, get_or, refl, sym, ap, ◌∙◌, arith}
+use Rattle.std.proofs.Common.{◌≡◌, ℕ, ◌<◌, ◌+◌, true, ◌&&◌, not, List, [], ◌∷◌, length, map, drop, get_or, refl, sym, ap, ◌∙◌}
 use Rattle.std.specs.List.{list_all, list_any}
 use Rattle.std.specs.Str.{bytes_eq}
-use Rattle.std.proofs.lemmas.Bool.{and_parts, and_from, false≢true, leb-true}
+use Rattle.std.proofs.lemmas.Bool.{and_parts, and_from}
 use Rattle.std.proofs.lemmas.List.{length-map}
-use Rattle.state_store.specs.declared.object.ObjectDecl.{ObjectDecl}
-use Rattle.gal_bits.specs.Fitting.{sum_of}
-use Rattle.element_lang.specs.Rules.{is_width, same_widths, are_widths, is_good_object, are_good_objects}
-use Rattle.element_lang.specs.Surface.{SurfaceDecl, SurfaceRow, Literal, object_of, table_decl, map_decl, vector_decl, value_row}
-use Rattle.element_text.specs.Resolve.{is_written, is_good_decl, are_good_decls, is_written_row, are_written}
+use Rattle.element_lang.specs.Rules.{same_widths, is_good_object, are_good_objects}
+use Rattle.element_lang.specs.Surface.{SurfaceDecl, SurfaceRow, Literal, object_of}
+use Rattle.element_text.specs.Resolve.{is_written, is_good_decl, is_written_row, are_written}
 use Rattle.element_grammar.specs.declared.surface.SurfaceRow as rows
 use Rattle.element_grammar.specs.Surface.{surface_literal, surface_row}
-use Rattle.element_text.proofs.Operators.{same_lists}
-use Rattle.element_text.proofs.Chains.{at_item}
-
--- a key or a value has at most 8 numbers
-pub few_widths : (ws : List ℕ) → are_widths ws ≡ true → length ws ≤ 8
-few_widths ws e =
-    let all = and_parts (nat_le 1 (length ws) && nat_le (length ws) 8 && list_all is_width ws) (nat_le (sum_of ws) 128) e in
-    let three = and_parts (nat_le 1 (length ws) && nat_le (length ws) 8) (list_all is_width ws) all.0 in
-    let two = and_parts (nat_le 1 (length ws)) (nat_le (length ws) 8) three.0 in
-    leb-true (length ws) 8 two.1
+use Rattle.gal_bits.specs.Fits.{same_list}
+use Rattle.lemmas.proofs.Lists.{folded_item}
 
 -- declarations that keep their rules together keep them one by one
 pub one_by_one : (names : List (List ℕ)) (ds : List SurfaceDecl) → (list_all is_written ds && are_good_objects names (map object_of ds)) ≡ true → list_all is_good_decl ds ≡ true
@@ -36,14 +26,14 @@ one_by_one names (d ∷ ds) e =
 
 -- a row has as many numbers as are declared
 as_many : (ls : List Literal) (widths : List ℕ) → same_widths (map (λ l. l.width) ls) widths ≡ true → length ls ≡ length widths
-as_many ls widths e = sym (length-map ls (λ (l : Literal). l.width)) ∙ ap length (same_lists (map (λ l. l.width) ls) widths e)
+as_many ls widths e = sym (length-map ls (λ (l : Literal). l.width)) ∙ ap length (same_list (map (λ l. l.width) ls) widths e)
 
 pub next_short : (keys values : List ℕ) (all : List rows.SurfaceRow) (at : ℕ) (next : rows.SurfaceRow) → at < length all → next ≡ get_or all at next → are_written keys values (map surface_row (drop at all)) ≡ true
     → (length next.keys.items ≡ length keys) × (length next.values.items ≡ length values)
 next_short keys values all at next within item e =
     let row = surface_row next in
     let rest = map surface_row (drop (at + 1) all) in
-    let here : are_written keys values (row ∷ rest) ≡ true = sym (at_item (λ l. are_written keys values (map surface_row l)) all at next within item) ∙ e in
+    let here : are_written keys values (row ∷ rest) ≡ true = sym (folded_item (λ l. are_written keys values (map surface_row l)) all at next within item) ∙ e in
     let parts = and_parts (is_written_row keys values row) (are_written keys values rest) here in
     let both = and_parts (same_widths (map (λ l. l.width) row.keys) keys) (same_widths (map (λ l. l.width) row.values) values) parts.0 in
     (sym (length-map next.keys.items surface_literal) ∙ as_many row.keys keys both.0, sym (length-map next.values.items surface_literal) ∙ as_many row.values values both.1)

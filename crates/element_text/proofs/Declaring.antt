@@ -1,13 +1,14 @@
 -- How locals are declared from front to back.
-use Rattle.std.proofs.Common.{◌≡◌, ℕ, suc, ◌+◌, ◌<◌, ◌&&◌, List, [], ◌∷◌, ◌++◌, length, drop, get_or, map, is_some, true, refl, sym, ap, ◌∙◌, arith}
+use Rattle.std.proofs.Common.{◌≡◌, ℕ, suc, ◌+◌, ◌<◌, List, [], ◌∷◌, ◌++◌, length, drop, get_or, map, is_some, true, refl, sym, ap, ◌∙◌, arith}
 use Rattle.std.specs.Prelude.{IsSome}
 use Rattle.std.proofs.lemmas.List.{at_drop_more, length-map}
 use Rattle.std.proofs.lemmas.Bool.{and_parts, false≢true}
 use Rattle.element_lang.specs.Rules.{is_width}
-use Rattle.element_tokens.specs.declared.token.Span.{Span}
+use Rattle.lexer.specs.declared.token.Span.{Span}
 use Rattle.element_tokens.specs.Tokens.{span_text}
 use Rattle.element_text.specs.Resolve.{◌>>=◌, Env, is_free, declared, all_declared, numbers_from}
-use Rattle.element_text.proofs.Links.{the_value, first_link, next_link, test_holds}
+use Rattle.element_text.proofs.Links.{first_link, next_link, test_holds}
+use Rattle.lemmas.proofs.Tests.{value_of_some}
 
 -- as many names as widths
 declared_even : (ws : List (List ℕ)) (vs : List ℕ) (env : Env) → IsSome (all_declared env ws vs) → length ws ≡ length vs
@@ -15,7 +16,7 @@ declared_even [] [] env e = refl
 declared_even [] (v ∷ vs) env e = absurd (false≢true e)
 declared_even (w ∷ ws) [] env e = absurd (false≢true e)
 declared_even (w ∷ ws) (v ∷ vs) env e =
-    let next = the_value (declared env w v) (first_link (declared env w v) _ e) in
+    let next = value_of_some (declared env w v) (first_link (declared env w v) _ e) in
     ap suc (declared_even ws vs next.0 (next_link (declared env w v) _ next.0 next.1 e))
 
 -- The locals that were declared and those that are left are all.

@@ -5,10 +5,9 @@ use Rattle.element_lang.specs.declared.broken.Broken.{Broken}
 use Rattle.element_lang.specs.Tree.{Tree}
 use Rattle.element_lang.specs.Surface.{Surface}
 use Rattle.element_lang.specs.Broken.{first_broken}
-use Rattle.element_text.specs.Reads.{Keeps, IsUnbroken}
-use Rattle.element_text.proofs.Sound.{resolved_named, resolved_good}
+use Rattle.element_text.specs.Reads.{Keeps}
 use Rattle.element_text.proofs.Unplaced.{resolved_whole}
-use Rattle.element_text.proofs.Agree.{unbroken, broken}
+use Rattle.element_text.proofs.Agree.{broken}
 
 pub one_kept : (surface : Surface) (m n : Tree) → Keeps surface m → Keeps surface n → m ≡ n
 one_kept surface m n k l = same_Some _ _ (sym (resolved_whole surface m k.good k.named) ∙ resolved_whole surface n l.good l.named)
@@ -19,9 +18,3 @@ unbroken_kept surface m k = go (first_broken surface) refl
     go : (o : Option Broken) → first_broken surface ≡ o → o ≡ None
     go None is = refl
     go (Some b) is = let none = broken surface b is in let some = resolved_whole surface m k.good k.named in absurd cc
-
--- and there is one where none is broken
-pub kept_unbroken : (surface : Surface) → IsUnbroken surface → (m : Tree) × Keeps surface m
-kept_unbroken surface k =
-    let h = unbroken k.tokens surface k.spells k.none in
-    (h.0, record { named = resolved_named surface h.0 h.1; good = resolved_good surface h.0 h.1 })

@@ -1,5 +1,5 @@
 -- The map of the locals in scope, as the list of them.
-use Rattle.std.proofs.Common.{Vec, Global, ◌≡◌, ℕ, Bool, true, false, List, [], ◌∷◌, ◌++◌, map, Option, Some, None, is_none, option_map, if◌then◌else◌, cond, refl, sym, ap, ap₂, ◌∙◌}
+use Rattle.std.proofs.Common.{Vec, Global, ◌≡◌, ℕ, Bool, true, false, List, [], ◌∷◌, ◌++◌, map, Option, Some, is_none, option_map, if◌then◌else◌, cond, refl, ap, ◌∙◌}
 use Rattle.std.specs.Str.{bytes_eq}
 use Rattle.std.proofs.lemmas.Bool.{false≢true}
 use Rattle.std.proofs.lemmas.List.{map-append}
@@ -8,7 +8,7 @@ use Rattle.indexmap.specs.IndexMap.{insert_entry}
 use Rattle.element_text.specs.declared.scope.KnownLocal.{KnownLocal}
 use Rattle.element_text.specs.Resolve.{Known, local_in}
 use Rattle.element_text.specs.Scopes.{known_as, known_of}
-use Rattle.element_text.proofs.Scoping.{same_word}
+use Rattle.lemmas.proofs.Lists.{bytes_eq_true}
 
 abbrev pub Entries : Type 0
 Entries = List (Vec ℕ Global × KnownLocal)
@@ -20,7 +20,7 @@ kept_local (e ∷ es) word = by_test (bytes_eq word e.0.items) refl _ (local_in 
   where
     by_test : (b : Bool) → bytes_eq word e.0.items ≡ b → (o : Option KnownLocal) (l : Option Known) → option_map (known_as word) o ≡ l
         → option_map (known_as word) (cond b (Some e.1) o) ≡ (if b then Some (known_of e) else l)
-    by_test true same o l h = ap (λ w. Some (known_as w e.1)) (same_word word e.0.items same)
+    by_test true same o l h = ap (λ w. Some (known_as w e.1)) (bytes_eq_true word e.0.items same)
     by_test false same o l h = h
 
 -- a name that is none of theirs goes last

@@ -5,13 +5,6 @@ use Rattle.std.proofs.lemmas.Bool.{false≢true}
 use Rattle.element_text.specs.Resolve.{when}
 use Rattle.element_text.proofs.Optional.{bound_is}
 
-pub is_there : {A : Type 0} (o : Option A) (x : A) → o ≡ Some x → IsSome o
-is_there o x e = ap is_some e
-
-pub the_value : {A : Type 0} (o : Option A) → IsSome o → (x : A) × (o ≡ Some x)
-the_value None e = absurd (false≢true e)
-the_value (Some x) e = (x, refl)
-
 -- the first link of a chain, and the next, where the first is known
 pub first_link : {A B : Type 0} (o : Option A) (f : A → Option B) → IsSome (option_and_then f o) → IsSome o
 first_link None f e = e

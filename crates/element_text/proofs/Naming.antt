@@ -4,7 +4,7 @@ use Rattle.std.specs.List.{AllByRecursion}
 use Rattle.element_lang.specs.declared.mark.Mark.{Mark}
 use Rattle.element_lang.specs.Token.{Token, IsName}
 use Rattle.element_lang.specs.Surface.{SurfaceExpr, SurfaceExprs, SurfaceStmt, SurfaceBody, Literal, SurfaceRow, SurfaceDecl, Declared, Surface}
-use Rattle.element_lang.specs.Grammar.{IsPrim, is_literal, is_name, is_field, is_in_brackets, is_byte, is_cast, is_select, is_adjust, IsUnary, is_prim, is_not, IsExpr, is_unary, is_infix, is_shift, AreExprs, are_last, are_more, AreKeys, are_no_keys, are_keys, AreNames, are_no_names, are_names, IsStmt, is_let, is_assign, is_set_field, is_look, is_put, is_del, is_if, is_repeat, is_send, is_drop, IsElse, is_absent, is_else, IsBody, is_end, is_more, AreWidths, is_last_width, is_width_and_more, AreLiterals, is_last_literal, is_literal_and_more, AreRows, are_no_rows, are_rows, IsDecl, is_table, is_map, is_vector, is_int, IsMiddlebox, is_process, is_declared, Spells}
+use Rattle.element_lang.specs.Grammar.{IsPrim, is_name, is_in_brackets, is_byte, is_cast, is_select, is_adjust, IsUnary, is_prim, is_not, IsExpr, is_unary, is_infix, is_shift, AreExprs, are_last, are_more, AreKeys, are_no_keys, are_keys, AreNames, are_no_names, are_names, IsStmt, is_let, is_assign, is_set_field, is_look, is_put, is_del, is_if, is_repeat, is_send, is_drop, IsElse, is_absent, is_else, IsBody, is_end, is_more, AreWidths, is_last_width, is_width_and_more, AreLiterals, is_last_literal, is_literal_and_more, AreRows, are_no_rows, are_rows, IsDecl, is_table, is_map, is_vector, is_int, IsMiddlebox, is_process, is_declared, Spells}
 use Rattle.element_text.specs.Names.{HasStmtNames, HasBodyNames, declared_name, HasSurfaceNames}
 use Rattle.element_text.proofs.TokenNames.{AreNamed}
 
@@ -12,14 +12,13 @@ use Rattle.element_text.proofs.TokenNames.{AreNamed}
 
 mutual
   prim_rest : {e : SurfaceExpr} {ts rest : List Token} → IsPrim e ts rest → AreNamed ts → AreNamed rest
-  prim_rest is_literal h = h
   prim_rest is_name h = h.1
-  prim_rest is_field h = h
   prim_rest (is_in_brackets e) h = expr_rest e h
   prim_rest (is_byte e) h = expr_rest e h
   prim_rest (is_cast e) h = expr_rest e h
   prim_rest (is_select a b c) h = expr_rest c (expr_rest b (expr_rest a h))
   prim_rest (is_adjust a b c) h = expr_rest c (expr_rest b (expr_rest a h))
+  prim_rest _ h = h
 
   unary_rest : {e : SurfaceExpr} {ts rest : List Token} → IsUnary e ts rest → AreNamed ts → AreNamed rest
   unary_rest (is_prim e) h = prim_rest e h

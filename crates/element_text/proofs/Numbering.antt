@@ -7,15 +7,16 @@ use Rattle.element_lang.specs.declared.tree.Local.{Local}
 use Rattle.element_lang.specs.declared.tree.Stmt.{Stmt}
 use Rattle.element_lang.specs.Tree.{StmtTree, BodyTree}
 use Rattle.element_lang.specs.Tree.BodyTree.{done, stmt}
-use Rattle.element_lang.specs.Rules.{is_width, is_count, fits_keys, fits_values, can_put, can_del, always_ends, ends_always, repeats, any_repeats}
+use Rattle.element_lang.specs.Rules.{is_width, is_count, fits_keys, fits_values, can_put, can_del, always_ends, ends_always, any_repeats}
 use Rattle.element_lang.specs.View.{body_of, stmt_tree, body_tree}
 use Rattle.element_lang.specs.Surface as surface
 use Rattle.element_grammar.specs.declared.surface.At.{At}
 use Rattle.element_grammar.specs.declared.surface.SurfaceStmt.{SurfaceStmt}
 use Rattle.element_grammar.specs.Surface.{surface_stmt, surface_body}
 use Rattle.element_text.specs.Resolve.{◌>>=◌, when, Known, Env, Made, MadeBody, typed_expr, typed_exprs, local_in, object_from, is_free, with_local, declared, all_declared, values_of, with_locals, is_done, made_condition, made_stmt, made_body}
-use Rattle.element_text.proofs.Chains.{chain_parts, when_parts, at_item}
-use Rattle.element_text.proofs.Links.{first_link, test_holds, test_there}
+use Rattle.element_text.proofs.Chains.{chain_parts, when_parts}
+use Rattle.element_text.proofs.Links.{test_holds}
+use Rattle.lemmas.proofs.Lists.{folded_item}
 
 -- ## What a statement leaves of what was declared
 
@@ -190,17 +191,13 @@ module _ {text : List ℕ} {start env : Env} {made : List Stmt} {all : List (At 
   rest = surface_body text (drop (at + 1) all)
 
   split : in_front (map stmt_tree made) (left_body env ended (surface_body text (drop at all))) ≡ in_front (map stmt_tree made) (left_body env ended (surface.stmt u.at (surface_stmt text u.item) rest))
-  split = at_item (λ l. in_front (map stmt_tree made) (left_body env ended (surface_body text l))) all at u within item
+  split = folded_item (λ l. in_front (map stmt_tree made) (left_body env ended (surface_body text l))) all at u within item
 
   left_there : IsSome (left_body env ended (surface.stmt u.at (surface_stmt text u.item) rest))
   left_there = front_there (map stmt_tree made) _ (ap is_some (sym split ∙ h.told) ∙ there)
 
   goes : ended ≡ false
   goes = not_ended ended (test_holds (not ended || false) _ left_there)
-
-  -- the next statement has numbers
-  pub numbering_there : IsSome (made_stmt env (surface_stmt text u.item))
-  numbering_there = first_link (made_stmt env (surface_stmt text u.item)) _ (test_there (not ended || false) _ left_there)
 
   -- one more statement
   pub numbering_more : {new : List Stmt} (s : Stmt) (next : Env) → made_stmt env (surface_stmt text u.item) ≡ Some (record { tree = stmt_tree s; env = next }) → new ≡ made ++ s ∷ [] → Numbering text start next new (drop (at + 1) all) all

@@ -3,23 +3,14 @@ use Rattle.std.proofs.Common.{◌≡◌, ℕ, Bool, true, false, ◌&&◌, List,
 use Rattle.std.specs.List.{list_all}
 use Rattle.std.proofs.lemmas.Bool.{eqb-true, eq-eqb, and_parts, and_from, false≢true}
 use Rattle.gal_bits.specs.declared.op.Op.{Op}
-use Rattle.gal_bits.specs.declared.op.Op.TheVariants.{Add, Sub, Mul, Div, Rem, And, Or, Xor, Not, Shl, Shr, Eq, Ne, Lt, Le, Cast, Select, Adjust}
+use Rattle.gal_bits.specs.declared.op.Op.TheVariants.{Not, Shl, Shr, Eq, Ne, Lt, Le, Cast, Select, Adjust}
 use Rattle.element_lang.specs.Rules.{is_width, same_widths, fits_operator}
 use Rattle.element_lang.specs.Surface.{written_width}
 use Rattle.element_text.specs.Resolve.{when, width_of_one, width_of_two, width_of_choice, accepted_width}
 use Rattle.element_text.proofs.Optional.{if_bound, if_when, if_map, if_so}
+use Rattle.gal_bits.specs.Fits.{same_list}
 
 -- ## Lists of widths
-
-pub same_lists : (xs ys : List ℕ) → same_widths xs ys ≡ true → xs ≡ ys
-same_lists [] [] e = refl
-same_lists [] (y ∷ ys) e = absurd (false≢true e)
-same_lists (x ∷ xs) [] e = absurd (false≢true e)
-same_lists (x ∷ xs) (y ∷ ys) e =
-    let parts = and_parts (x == y) (same_widths xs ys) e in
-    let first : x ≡ y = eqb-true x y parts.0 in
-    let rest : xs ≡ ys = same_lists xs ys parts.1 in
-    cc
 
 pub own_widths : (xs : List ℕ) → same_widths xs xs ≡ true
 own_widths [] = refl
@@ -87,14 +78,6 @@ unwritten : (written : ℕ) (o : Option ℕ) (P : ℕ → Type 0) → IfSome o P
 unwritten written o P h = if_when (written == 0) o (λ w. P w × (0 ≡ written)) (λ e. if_so o P (λ w. P w × (0 ≡ written)) h (λ w p. (p, sym (eqb-true written 0 e))))
 
 pub result_fits : (op : Op) (written : ℕ) (ws : List ℕ) → IfSome (accepted_width op written ws) (Fitting op written ws)
-result_fits Add written ws = unwritten written (width_of_two ws) (Pair ws) (pair_fits ws)
-result_fits Sub written ws = unwritten written (width_of_two ws) (Pair ws) (pair_fits ws)
-result_fits Mul written ws = unwritten written (width_of_two ws) (Pair ws) (pair_fits ws)
-result_fits Div written ws = unwritten written (width_of_two ws) (Pair ws) (pair_fits ws)
-result_fits Rem written ws = unwritten written (width_of_two ws) (Pair ws) (pair_fits ws)
-result_fits And written ws = unwritten written (width_of_two ws) (Pair ws) (pair_fits ws)
-result_fits Or written ws = unwritten written (width_of_two ws) (Pair ws) (pair_fits ws)
-result_fits Xor written ws = unwritten written (width_of_two ws) (Pair ws) (pair_fits ws)
 result_fits Not written ws = unwritten written (width_of_one ws) (λ w. same_widths ws (w ∷ []) ≡ true) (one_fits ws)
 result_fits Shl written ws = unwritten written None (λ w. false ≡ true) tt
 result_fits Shr written ws = unwritten written None (λ w. false ≡ true) tt
@@ -111,11 +94,12 @@ result_fits Select written ws = unwritten written (width_of_choice ws) (λ w. sa
 result_fits Adjust written ws =
     unwritten written (when (same_widths ws (16 ∷ 16 ∷ 16 ∷ [])) (Some 16)) (λ w. (w == 16 && same_widths ws (16 ∷ 16 ∷ 16 ∷ [])) ≡ true)
     (if_when (same_widths ws (16 ∷ 16 ∷ 16 ∷ [])) (Some 16) (λ w. (w == 16 && same_widths ws (16 ∷ 16 ∷ 16 ∷ [])) ≡ true) (λ e. e))
+result_fits _ written ws = unwritten written (width_of_two ws) (Pair ws) (pair_fits ws)
 
 -- ## The width of a result, where the arguments fit
 
 two_of : (ws : List ℕ) (w : ℕ) → same_widths ws (w ∷ w ∷ []) ≡ true → width_of_two ws ≡ Some w
-two_of ws w e = ap width_of_two (same_lists ws (w ∷ w ∷ []) e) ∙ ap (λ b. when b (Some w)) (eq-eqb w w refl)
+two_of ws w e = ap width_of_two (same_list ws (w ∷ w ∷ []) e) ∙ ap (λ b. when b (Some w)) (eq-eqb w w refl)
 
 compared : (ws : List ℕ) (w : ℕ) → (w == 1 && same_widths ws (slice_index ws 0 ∷ slice_index ws 0 ∷ [])) ≡ true → option_map (λ v. 1) (width_of_two ws) ≡ Some w
 compared ws w e =
@@ -124,10 +108,10 @@ compared ws w e =
     ap (option_map (λ v. 1)) (two_of ws a parts.1) ∙ ap Some (sym (eqb-true w 1 parts.0))
 
 one_of : (ws : List ℕ) (w : ℕ) → same_widths ws (w ∷ []) ≡ true → width_of_one ws ≡ Some w
-one_of ws w e = ap width_of_one (same_lists ws (w ∷ []) e)
+one_of ws w e = ap width_of_one (same_list ws (w ∷ []) e)
 
 choice_of : (ws : List ℕ) (w : ℕ) → same_widths ws (1 ∷ w ∷ w ∷ []) ≡ true → width_of_choice ws ≡ Some w
-choice_of ws w e = ap width_of_choice (same_lists ws (1 ∷ w ∷ w ∷ []) e) ∙ ap (λ b. when b (Some w)) (eq-eqb w w refl)
+choice_of ws w e = ap width_of_choice (same_list ws (1 ∷ w ∷ w ∷ []) e) ∙ ap (λ b. when b (Some w)) (eq-eqb w w refl)
 
 cast_of : (ws : List ℕ) (w : ℕ) → (is_width w && length ws == 1) ≡ true → option_and_then (λ v. when (is_width w) (Some w)) (width_of_one ws) ≡ Some w
 cast_of [] w e = absurd (false≢true (and_parts (is_width w) false e).1)
@@ -135,14 +119,6 @@ cast_of (a ∷ []) w e = ap (λ b. when b (Some w)) (and_parts (is_width w) true
 cast_of (a ∷ b ∷ ws) w e = absurd (omega (arith, eqb-true (length (a ∷ b ∷ ws)) 1 (and_parts (is_width w) (length (a ∷ b ∷ ws) == 1) e).1))
 
 pub fitting_result : (op : Op) (w : ℕ) (ws : List ℕ) → fits_operator op w ws ≡ true → accepted_width op (written_width op w) ws ≡ Some w
-fitting_result Add w ws e = two_of ws w e
-fitting_result Sub w ws e = two_of ws w e
-fitting_result Mul w ws e = two_of ws w e
-fitting_result Div w ws e = two_of ws w e
-fitting_result Rem w ws e = two_of ws w e
-fitting_result And w ws e = two_of ws w e
-fitting_result Or w ws e = two_of ws w e
-fitting_result Xor w ws e = two_of ws w e
 fitting_result Not w ws e = one_of ws w e
 fitting_result Shl w ws e = absurd (false≢true e)
 fitting_result Shr w ws e = absurd (false≢true e)
@@ -155,17 +131,18 @@ fitting_result Select w ws e = choice_of ws w e
 fitting_result Adjust w ws e =
     let parts = and_parts (w == 16) (same_widths ws (16 ∷ 16 ∷ 16 ∷ [])) e in
     ap (λ b. when b (Some 16)) parts.1 ∙ ap Some (sym (eqb-true w 16 parts.0))
+fitting_result _ w ws e = two_of ws w e
 
 -- ## A result is 1 to 64 bits wide where its arguments are
 
 -- the first of the arguments is
 first_wide : (ws : List ℕ) (w : ℕ) (rest : List ℕ) → same_widths ws (w ∷ rest) ≡ true → list_all is_width ws ≡ true → is_width w ≡ true
-first_wide ws w rest e wide = (and_parts (is_width w) (list_all is_width rest) (ap (list_all is_width) (sym (same_lists ws (w ∷ rest) e)) ∙ wide)).0
+first_wide ws w rest e wide = (and_parts (is_width w) (list_all is_width rest) (ap (list_all is_width) (sym (same_list ws (w ∷ rest) e)) ∙ wide)).0
 
 -- the second of them is
 second_wide : (ws : List ℕ) (v w : ℕ) (rest : List ℕ) → same_widths ws (v ∷ w ∷ rest) ≡ true → list_all is_width ws ≡ true → is_width w ≡ true
 second_wide ws v w rest e wide =
-    let all : list_all is_width (v ∷ w ∷ rest) ≡ true = ap (list_all is_width) (sym (same_lists ws (v ∷ w ∷ rest) e)) ∙ wide in
+    let all : list_all is_width (v ∷ w ∷ rest) ≡ true = ap (list_all is_width) (sym (same_list ws (v ∷ w ∷ rest) e)) ∙ wide in
     let behind = and_parts (is_width v) (list_all is_width (w ∷ rest)) all in
     (and_parts (is_width w) (list_all is_width rest) behind.1).0
 
@@ -174,14 +151,6 @@ number_wide : (w n : ℕ) (b : Bool) → (w == n && b) ≡ true → is_width n �
 number_wide w n b e wide = ap is_width (eqb-true w n (and_parts (w == n) b e).0) ∙ wide
 
 pub result_wide : (op : Op) (w : ℕ) (ws : List ℕ) → fits_operator op w ws ≡ true → list_all is_width ws ≡ true → is_width w ≡ true
-result_wide Add w ws e wide = first_wide ws w (w ∷ []) e wide
-result_wide Sub w ws e wide = first_wide ws w (w ∷ []) e wide
-result_wide Mul w ws e wide = first_wide ws w (w ∷ []) e wide
-result_wide Div w ws e wide = first_wide ws w (w ∷ []) e wide
-result_wide Rem w ws e wide = first_wide ws w (w ∷ []) e wide
-result_wide And w ws e wide = first_wide ws w (w ∷ []) e wide
-result_wide Or w ws e wide = first_wide ws w (w ∷ []) e wide
-result_wide Xor w ws e wide = first_wide ws w (w ∷ []) e wide
 result_wide Not w ws e wide = first_wide ws w [] e wide
 result_wide Shl w ws e wide = absurd (false≢true e)
 result_wide Shr w ws e wide = absurd (false≢true e)
@@ -192,3 +161,4 @@ result_wide Le w ws e wide = number_wide w 1 (same_widths ws (slice_index ws 0 �
 result_wide Cast w ws e wide = (and_parts (is_width w) (length ws == 1) e).0
 result_wide Select w ws e wide = second_wide ws 1 w (w ∷ []) e wide
 result_wide Adjust w ws e wide = number_wide w 16 (same_widths ws (16 ∷ 16 ∷ 16 ∷ [])) e refl
+result_wide _ w ws e wide = first_wide ws w (w ∷ []) e wide

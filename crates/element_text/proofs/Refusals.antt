@@ -8,16 +8,15 @@ use Rattle.element_lang.specs.declared.sizes.TheConstants.{MAX_DEPTH}
 use Rattle.element_lang.specs.declared.sizes.What.TheVariants.{Depth, Objects, Entries, Writes}
 use Rattle.element_lang.specs.declared.tree.Middlebox.{Middlebox}
 use Rattle.element_lang.specs.View.{tree}
-use Rattle.element_lang.specs.Token.{Token, Placed, AreTokens}
+use Rattle.element_lang.specs.Token.{Token, Placed, AreTokens, lexeme}
 use Rattle.element_lang.specs.Tree.{Tree}
 use Rattle.element_lang.specs.Surface.{Surface}
 use Rattle.element_lang.specs.Grammar.{Spells, Begins, IsFirstWrong}
 use Rattle.element_lang.specs.Accepted.{deepest, plain, offset_at, IsSource, IsNotUtf8}
-use Rattle.element_tokens.specs.declared.token.Placed.{Placed as Found}
-use Rattle.element_tokens.specs.declared.tokenizer.TokenError.{TokenError}
-use Rattle.element_tokens.specs.declared.tokenizer.TokenError.TheVariants.{NoToken, NoMemory as NoTokenMemory}
-use Rattle.element_tokens.specs.Tokens.{token_of, placed_of, tokens_of}
-use Rattle.element_tokens.specs.TokenError.{IsOnlyPlace, IsTokenError}
+use Rattle.lexer.specs.declared.tokenizer.TokenError.{TokenError}
+use Rattle.lexer.specs.declared.tokenizer.TokenError.TheVariants.{NoToken, NoMemory as NoTokenMemory}
+use Rattle.element_tokens.specs.Tokens.{PlacedToken as Found, token_of, placed_of, tokens_of}
+use Rattle.lexer.specs.TokenError.{IsOnlyPlace, IsTokenError}
 use Rattle.element_text.specs.Errors.{token_error}
 use Rattle.element_text.specs.declared.error.TextError.{TextError}
 use Rattle.element_text.specs.declared.error.TextError.TheVariants as errors
@@ -63,7 +62,7 @@ not_utf8 text n none valid =
 
 -- ## Tokens
 
-pub no_token : (text : List ℕ) (n : ℕ) → IsUtf8 text → IsOnlyPlace text n → IsOnlyRefused text (errors.Token n)
+pub no_token : (text : List ℕ) (n : ℕ) → IsUtf8 text → IsOnlyPlace lexeme text n → IsOnlyRefused text (errors.Token n)
 no_token text n utf8 place = record { refused = record { utf8 = utf8; none = place.here }; only = only; none = λ m source. place.none source.spelling.placed source.spelling.tokens }
   where
     only : (other : TextError) → other ≢ errors.NoMemory → IsRefused text other → other ≡ errors.Token n
@@ -169,7 +168,7 @@ module _ (text : List ℕ) (placed : List Placed) (read : HasOnlyTokens text pla
 
 -- ## What the readers answer
 
-pub token_answer : (text : List ℕ) → IsUtf8 text → (e : TokenError) → IsTokenError text e → (token_error e ≡ errors.NoMemory) ⊎ IsOnlyRefused text (token_error e)
+pub token_answer : (text : List ℕ) → IsUtf8 text → (e : TokenError) → IsTokenError lexeme text e → (token_error e ≡ errors.NoMemory) ⊎ IsOnlyRefused text (token_error e)
 token_answer text utf8 (NoToken n) h = inr (no_token text n utf8 h)
 token_answer text utf8 NoTokenMemory h = inl refl
 

@@ -9,7 +9,7 @@ use Rattle.element_lang.specs.Surface as surface
 use Rattle.element_text.specs.Scopes.{known_of}
 use Rattle.element_text.specs.Resolve.{Known, Env, Made, MadeBody, declared, with_locals, made_stmt, made_body}
 use Rattle.element_text.proofs.Optional.{when_is}
-use Rattle.element_text.proofs.Links.{first_link, next_link, test_holds, test_there, chain_is, tested_is}
+use Rattle.element_text.proofs.Links.{test_holds, test_there, chain_is, tested_is}
 use Rattle.element_text.proofs.Kept.{Entries}
 use Rattle.element_text.proofs.Numbering.{Within}
 use Rattle.element_text.proofs.Looking.{cut_scope}
@@ -19,13 +19,7 @@ module _ (env : Env) (index : List ℕ) (count : ℕ) (body : surface.SurfaceBod
   pub repeat_counted : is_count count ≡ true
   repeat_counted = test_holds (is_count count) _ there
 
-  pub repeat_index : IsSome (declared env index 32)
-  repeat_index = first_link (declared env index 32) _ (test_there (is_count count) _ there)
-
   module _ (inside : Env) (known : declared env index 32 ≡ Some inside) where
-    pub repeat_body : IsSome (made_body inside body)
-    repeat_body = first_link (made_body inside body) _ (next_link (declared env index 32) _ inside known (test_there (is_count count) _ there))
-
     pub repeat_made : (b : MadeBody) → made_body inside body ≡ Some b → made_stmt env (surface.repeat index count body) ≡ Some (record { tree = trees.repeat (length env.locals) count b.tree; env = with_locals env b.locals })
     repeat_made b made =
         let some : Option Made = Some (record { tree = trees.repeat (length env.locals) count b.tree; env = with_locals env b.locals }) in

@@ -14,17 +14,12 @@ use Rattle.element_lang.specs.Rules.{is_empty}
 use Rattle.element_lang.specs.Surface.{name_of_object, named_body}
 use Rattle.element_text.specs.Resolve.{Known, local_in, object_from, is_done}
 use Rattle.element_text.proofs.Optional.{if_so}
+use Rattle.lemmas.proofs.Lists.{bytes_eq_true}
 
 -- ## Words
 
-pub same_word : (a b : List ℕ) → bytes_eq a b ≡ true → a ≡ b
-same_word a b e = (bytes_eq-Decides a b).0 e
-
 pub word_same : (a b : List ℕ) → a ≡ b → bytes_eq a b ≡ true
 word_same a b e = (bytes_eq-Decides a b).1 e
-
-pub own_word : (a : List ℕ) → bytes_eq a a ≡ true
-own_word a = word_same a a refl
 
 -- ## Tests over lists of numbers
 
@@ -85,7 +80,7 @@ pub alone : (k : Known) (word : List ℕ) → IfSome (local_in (k ∷ []) word) 
 alone k word = by_test (bytes_eq word k.decl.name) refl
   where
     by_test : (b : Bool) → bytes_eq word k.decl.name ≡ b → IfSome (if b then Some k else None) (λ j. (j ≡ k) × (k.decl.name ≡ word))
-    by_test true e = (refl, sym (same_word word k.decl.name e))
+    by_test true e = (refl, sym (bytes_eq_true word k.decl.name e))
     by_test false e = tt
 
 pub found_alone : (k : Known) (word : List ℕ) → bytes_eq word k.decl.name ≡ true → local_in (k ∷ []) word ≡ Some k
@@ -125,7 +120,7 @@ object_at n (d ∷ os) word = by_test (bytes_eq word d.name) refl (object_from (
     by_test : (b : Bool) → bytes_eq word d.name ≡ b → (more : Option ℕ) → IfSome more (λ o. (n + 1 ≤ o) × (name_of_object (slice_get os (o - (n + 1))) ≡ word)) → IfSome (if b then Some n else more) (λ o. (n ≤ o) × (name_of_object (slice_get (d ∷ os) (o - n)) ≡ word))
     by_test true e more h =
         let same : n - n ≡ zero = omega arith in
-        (omega arith, ap (λ i. name_of_object (slice_get (d ∷ os) i)) same ∙ sym (same_word word d.name e))
+        (omega arith, ap (λ i. name_of_object (slice_get (d ∷ os) i)) same ∙ sym (bytes_eq_true word d.name e))
     by_test false e None h = tt
     by_test false e (Some o) h = later o h.0 h.1
 

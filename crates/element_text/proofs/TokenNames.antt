@@ -20,15 +20,15 @@ AreNamed (number n ∷ ts) = AreNamed ts
 AreNamed (field f ∷ ts) = AreNamed ts
 
 -- a name is a word
-some_token : (len : ℕ) (o : Option Token) (x : Lexeme) → sized_lexeme len o ≡ Some x → o ≡ Some x.token
+pub some_token : (len : ℕ) (o : Option Token) (x : Lexeme) → sized_lexeme len o ≡ Some x → o ≡ Some x.token
 some_token len None x e = cc
 some_token len (Some t) x e = let same : ◌≡◌ {A = Lexeme} (record { token = t; len = len }) x = cc in ap (λ (y : Lexeme). Some y.token) same
 
-no_number : (len : ℕ) (o : Option ℕ) (x : Lexeme) (word : List ℕ) → sized_lexeme len (number_token o) ≡ Some x → x.token ≡ name word → ⊥
+pub no_number : (len : ℕ) (o : Option ℕ) (x : Lexeme) (word : List ℕ) → sized_lexeme len (number_token o) ≡ Some x → x.token ≡ name word → ⊥
 no_number len None x word e n = cc
 no_number len (Some v) x word e n = let same : Some (number v) ≡ Some x.token = some_token len (Some (number v)) x e in cc
 
-no_symbol : (o : Option Mark) (x : Lexeme) (word : List ℕ) → symbol_of o ≡ Some x → x.token ≡ name word → ⊥
+pub no_symbol : (o : Option Mark) (x : Lexeme) (word : List ℕ) → symbol_of o ≡ Some x → x.token ≡ name word → ⊥
 no_symbol None x word e n = cc
 no_symbol (Some m) x word e n = let same : Some (fixed m) ≡ Some x.token = some_token _ (Some (fixed m)) x e in cc
 
@@ -40,7 +40,7 @@ name_is_word false true word digits m x w e n = absurd (no_number (length digits
 name_is_word false false word digits m x w e n = absurd (no_symbol m x w e n)
 
 -- the word that a name is
-word_is : (dots : Bool) (f : Option Field) (word : List ℕ) (m : Option Mark) (w : List ℕ)
+pub word_is : (dots : Bool) (f : Option Field) (word : List ℕ) (m : Option Mark) (w : List ℕ)
     → (if dots then field_token f else Some (plain_word word m)) ≡ Some (name w) → word ≡ w
 word_is true None word m w e = cc
 word_is true (Some f) word m w e = cc
@@ -89,9 +89,7 @@ name_alone (b ∷ bs) x w e n =
 
 named_more : (t : Token) (ts : List Token) → ((w : List ℕ) → t ≡ name w → IsName w) → AreNamed ts → AreNamed (t ∷ ts)
 named_more (name w) ts h k = (h w refl, k)
-named_more (fixed m) ts h k = k
-named_more (number n) ts h k = k
-named_more (field f) ts h k = k
+named_more _ ts h k = k
 
 all_named : (ts : List Placed) (offset : ℕ) (bs : List ℕ) (stop : ℕ) (rest : List ℕ) → HasTokens offset bs ts stop rest → AreNamed (plain ts)
 all_named [] offset bs stop rest h = tt

@@ -11,7 +11,7 @@ use Rattle.element_text.specs.declared.expressions.TypedExpr.{TypedExpr}
 use Rattle.element_grammar.specs.Surface.{surface_expr, surface_exprs}
 use Rattle.element_text.specs.Resolve.{◌>>=◌, Known, Typed, TypedList, typed_expr, typed_exprs}
 use Rattle.element_text.specs.Typed.{typed_of}
-use Rattle.element_text.proofs.Chains.{at_item}
+use Rattle.lemmas.proofs.Lists.{folded_item}
 
 -- expressions in front of others
 abbrev pub exprs_onto : List ExprTree → Exprs → Exprs
@@ -56,7 +56,7 @@ pub typing_more : {text : List ℕ} {scope : List Known} {made new : List Expr} 
 typing_more {text = text} {scope = scope} {made = made} {new = new} {widths = widths} {more = more} {all = all} at e t within is h typed pushed widened =
     let rest = typed_exprs scope (surface_exprs text (drop (at + 1) all)) in
     let trees : map expr_tree new ≡ map expr_tree made ++ expr_tree t.expr ∷ [] = ap (map expr_tree) pushed ∙ map-append expr_tree made (t.expr ∷ []) in
-    let split = at_item (λ l. in_front (map expr_tree made) widths (typed_exprs scope (surface_exprs text l))) all at e within is in
+    let split = folded_item (λ l. in_front (map expr_tree made) widths (typed_exprs scope (surface_exprs text l))) all at e within is in
     let first = first_typed scope (surface_expr text e) (surface_exprs text (drop (at + 1) all)) (typed_of t) typed in
     record {
       told = ap (λ l. in_front l more rest) trees ∙ ap (λ l. in_front (map expr_tree made ++ expr_tree t.expr ∷ []) l rest) widened

@@ -3,7 +3,7 @@ use Rattle.std.proofs.Common.{◌≡◌, not, ◌&&◌, ◌||◌, List, [], ◌�
 use Rattle.element_lang.specs.Tree as trees
 use Rattle.element_lang.specs.Tree.{ExprTree, Tree}
 use Rattle.element_lang.specs.Rules.{always_ends, ends_always, any_repeats, is_count, is_good}
-use Rattle.element_lang.specs.Surface.{SurfaceStmt, SurfaceBody, SurfaceDecl, Declared, Surface, let_local, assign, set_field, look, put, del, choose, repeat, send, drop, done, stmt, unplaced_stmt, unplaced_body, unplaced_decl, unplaced, named, object_of}
+use Rattle.element_lang.specs.Surface.{SurfaceStmt, SurfaceBody, SurfaceDecl, Declared, Surface, choose, repeat, done, stmt, unplaced_stmt, unplaced_body, unplaced_decl, unplaced, named, object_of}
 use Rattle.element_text.specs.Resolve.{when, Env, Made, MadeBody, declared, with_locals, is_done, made_condition, made_stmt, made_body, are_good_decls, decls_of, resolved}
 use Rattle.element_text.proofs.SoundStmts.{unplaced_done}
 use Rattle.element_text.proofs.Complete.{resolved_complete}
@@ -15,12 +15,6 @@ same_behind (Some x) f g h = h x
 
 mutual
   stmt_unplaced : (env : Env) (s : SurfaceStmt) → made_stmt env (unplaced_stmt s) ≡ made_stmt env s
-  stmt_unplaced env (let_local word value) = refl
-  stmt_unplaced env (assign word value) = refl
-  stmt_unplaced env (set_field f value) = refl
-  stmt_unplaced env (look found into object keys) = refl
-  stmt_unplaced env (put ok object keys values) = refl
-  stmt_unplaced env (del was object keys) = refl
   stmt_unplaced env (choose cond first second) =
       let end = λ (c : ExprTree) (a b : MadeBody). Some (record { tree = trees.choose c a.tree b.tree; env = with_locals env b.locals }) in
       let rest = λ (c : ExprTree) (b : SurfaceBody) (a : MadeBody). option_and_then (end c a) (made_body (with_locals env a.locals) b) in
@@ -35,8 +29,7 @@ mutual
       let rest = λ (b : SurfaceBody) (inside : Env). option_and_then end (made_body inside b) in
       ap (when (is_count count))
       (same_behind (declared env index 32) (rest (unplaced_body body)) (rest body) (λ inside. ap (option_and_then end) (body_unplaced inside body)))
-  stmt_unplaced env (send port) = refl
-  stmt_unplaced env drop = refl
+  stmt_unplaced env _ = refl
 
   body_unplaced : (env : Env) (b : SurfaceBody) → made_body env (unplaced_body b) ≡ made_body env b
   body_unplaced env done = refl

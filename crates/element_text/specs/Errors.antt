@@ -1,6 +1,6 @@
 -- The errors of tokens as those of a text.
-use Rattle.element_tokens.specs.declared.tokenizer.TokenError.{TokenError}
-use Rattle.element_tokens.specs.declared.tokenizer.TokenError.TheVariants.{NoToken, NoMemory as NoTokenMemory}
+use Rattle.lexer.specs.declared.tokenizer.TokenError.{TokenError}
+use Rattle.lexer.specs.declared.tokenizer.TokenError.TheVariants.{NoToken, NoMemory as NoTokenMemory}
 use Rattle.element_text.specs.declared.error.TextError.{TextError}
 use Rattle.element_text.specs.declared.error.TextError.TheVariants.{Token, NoMemory}
 

@@ -2,8 +2,8 @@
 use Rattle.std.specs.Prelude.{ℕ, List}
 use Rattle.std.specs.List.{AllByRecursion}
 use Rattle.element_lang.specs.Token.{IsName}
-use Rattle.element_lang.specs.Surface.{SurfaceStmt, SurfaceBody, SurfaceDecl, Declared, Surface, let_local, assign}
-use Rattle.element_lang.specs.Surface.{set_field, look, put, del, choose, repeat, send, drop, done, stmt, table_decl}
+use Rattle.element_lang.specs.Surface.{SurfaceStmt, SurfaceBody, SurfaceDecl, Declared, Surface, let_local, assign, set_field, send, drop}
+use Rattle.element_lang.specs.Surface.{look, put, del, choose, repeat, done, stmt, table_decl}
 use Rattle.element_lang.specs.Surface.{map_decl, vector_decl, int_decl}
 
 -- every name that is declared in it, at any depth, can be written

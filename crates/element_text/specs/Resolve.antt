@@ -5,21 +5,20 @@ use Rattle.std.specs.Option.{option_map}
 use Rattle.std.specs.List.{list_any, list_all}
 use Rattle.std.specs.Str.{bytes_eq}
 use Rattle.gal_bits.specs.declared.op.Op.{Op}
-use Rattle.gal_bits.specs.declared.op.Op.TheVariants.{Add, Sub, Mul, Div, Rem, And, Or, Xor, Not, Shl, Shr, Eq, Ne, Lt}
+use Rattle.gal_bits.specs.declared.op.Op.TheVariants.{Not, Shl, Shr, Eq, Ne, Lt, Add, Sub, Mul, Div, Rem, And, Or, Xor}
 use Rattle.gal_bits.specs.declared.op.Op.TheVariants.{Le, Cast, Select, Adjust}
 use Rattle.packet_fields.specs.Table.{row}
 use Rattle.state_store.specs.declared.object.ObjectDecl.{ObjectDecl}
-use Rattle.state_store.specs.Kept.{have_widths}
 use Rattle.element_lang.specs.declared.tree.Local.{Local}
 use Rattle.element_lang.specs.Tree as trees
 use Rattle.element_lang.specs.Tree.{ExprTree, Exprs, StmtTree, BodyTree, Tree}
 use Rattle.element_lang.specs.Rules.{is_width, is_shift, same_widths, is_count, fits_keys, fits_values, can_put}
-use Rattle.element_lang.specs.Rules.{can_del, always_ends, ends_always, any_repeats, are_good_rows, is_good_object}
+use Rattle.element_lang.specs.Rules.{can_del, always_ends, ends_always, any_repeats, is_good_object}
 use Rattle.element_lang.specs.Rules.{are_good_objects}
-use Rattle.element_lang.specs.Surface.{SurfaceExpr, SurfaceExprs, SurfaceStmt, SurfaceBody, Literal, SurfaceRow}
+use Rattle.element_lang.specs.Surface.{SurfaceExpr, SurfaceExprs, SurfaceStmt, SurfaceBody, SurfaceRow, map_decl, vector_decl, int_decl}
 use Rattle.element_lang.specs.Surface.{SurfaceDecl, Declared, Surface, lit, name, field, byte, shift, apply, no_expr}
 use Rattle.element_lang.specs.Surface.{expr, let_local, assign, set_field, look, put, del, choose, repeat, send, drop}
-use Rattle.element_lang.specs.Surface.{done, stmt, table_decl, map_decl, vector_decl, int_decl, value_row, object_of}
+use Rattle.element_lang.specs.Surface.{done, stmt, table_decl, object_of}
 
 infixl 10 ◌>>=◌
 abbrev pub ◌>>=◌ : {A B : Type 0} → Option A → (A → Option B) → Option B
@@ -257,23 +256,6 @@ is_written_row keys values row =
 
 abbrev pub are_written : List ℕ → List ℕ → List SurfaceRow → Bool
 are_written keys values rows = list_all (is_written_row keys values) rows
-
--- literals that are written with the declared widths, and whose numbers have these
-abbrev pub are_good_literals : List ℕ → List Literal → Bool
-are_good_literals widths ls = same_widths (map (λ l. l.width) ls) widths && have_widths widths (map (λ l. l.value) ls)
-
--- their numbers
-abbrev pub good_numbers : List ℕ → List Literal → Option (List ℕ)
-good_numbers widths ls = when (are_good_literals widths ls) (Some (map (λ l. l.value) ls))
-
--- a row of such literals
-abbrev pub is_good_row : List ℕ → List ℕ → SurfaceRow → Bool
-is_good_row keys values row = are_good_literals keys row.keys && are_good_literals values row.values
-
--- rows whose literals are so, and of which no two have the same key
-abbrev pub are_good_written_rows : List ℕ → List ℕ → List SurfaceRow → Bool
-are_good_written_rows keys values rows =
-    are_written keys values rows && are_good_rows keys values [] (map value_row rows)
 
 abbrev pub is_written : SurfaceDecl → Bool
 is_written (table_decl word keys values rows) = are_written keys values rows

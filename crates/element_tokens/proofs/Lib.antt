@@ -1,5 +1,1 @@
-pub mod Spellings
-pub mod WordSpans
-pub mod OneTokenList
-pub mod FoundTokens
 pub mod Depths

@@ -1,3 +1,1 @@
 pub mod Tokens
-pub mod Lexemes
-pub mod TokenError

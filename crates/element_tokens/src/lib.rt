@@ -9,5 +9,6 @@ mod token;
 mod tokenizer;
 
 pub use brackets::depth;
-pub use token::{Placed, Span, Token};
-pub use tokenizer::{TokenError, tokens};
+pub use lexer::{Span, TokenError};
+pub use token::{Placed, Token};
+pub use tokenizer::tokens;

@@ -2,7 +2,7 @@
 ghost use Rattle.std.specs.Prelude.{◌≡◌, Some};
 ghost use Rattle.element_lang.specs.Token as lang;
 
-use crate::scan::is_digit;
+use lexer::is_digit;
 
 fn decimal_digit(byte: u8) -> Option<u64>
     ensures { result ≡ lang.decimal_digit byte }

@@ -1,14 +1,8 @@
 //! The tokens of a source, without the text that they lie in.
 
 use element_lang::Mark;
+use lexer::Span;
 use packet_fields::Field;
-
-/// Where some bytes lie in the text.
-#[derive(Clone, Copy, Debug)]
-pub struct Span {
-    pub offset: usize,
-    pub len: usize,
-}
 
 /// A token.
 #[derive(Clone, Copy, Debug)]
@@ -21,8 +15,4 @@ pub enum Token {
 }
 
 /// A token and the offset of its first byte in the text.
-#[derive(Clone, Copy, Debug)]
-pub struct Placed {
-    pub token: Token,
-    pub offset: usize,
-}
+pub type Placed = lexer::Placed<Token>;

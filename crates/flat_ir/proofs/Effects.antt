@@ -4,7 +4,7 @@ use Rattle.packet_fields.specs.declared.packet.Packet.{Packet}
 use Rattle.state_store.specs.Store.{Store}
 use Rattle.flat_ir.specs.Blocks.{Reading}
 use Rattle.flat_ir.specs.Program.{Work}
-use Rattle.flat_ir.specs.Program.Work.{const, field, apply, shift, select, byte, look, put, del}
+use Rattle.flat_ir.specs.Program.Work.{put, del}
 use Rattle.flat_ir.specs.Run.{change_of, made, results}
 
 -- an instruction that changes nothing gives what it gives in a block that isn't live
@@ -12,10 +12,4 @@ pub no_effect : (reads : Reading) (live : Bool) (st : Store) (packet : Packet) (
     → results reads live st packet work ≡ results reads false st packet work
 no_effect reads live st packet (put object keys values) e = ap (λ n. n ∷ []) (sym e)
 no_effect reads live st packet (del object keys) e = ap (λ n. n ∷ []) (sym e)
-no_effect reads live st packet (const width number) e = refl
-no_effect reads live st packet (field name) e = refl
-no_effect reads live st packet (apply op width args) e = refl
-no_effect reads live st packet (shift op width arg by) e = refl
-no_effect reads live st packet (select width cond first second) e = refl
-no_effect reads live st packet (byte index) e = refl
-no_effect reads live st packet (look object keys) e = refl
+no_effect reads live st packet _ e = refl

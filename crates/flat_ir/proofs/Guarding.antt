@@ -16,7 +16,7 @@ use Rattle.flat_ir.specs.Guards.{is_condition, decides_on, guards_write}
 use Rattle.flat_ir.specs.Guarding.{is_written_in, AreWriteBlocks, AreGuardsFrom}
 use Rattle.flat_ir.proofs.Passing.{any_passes, passes_any}
 use Rattle.flat_ir.proofs.Exact.{value_same, same_itself}
-use Rattle.flat_ir.proofs.Parts.{left}
+use Rattle.lemmas.proofs.Tests.{and_first, same_tests}
 
 -- ## The line of blocks above a block
 
@@ -119,7 +119,7 @@ among_push vs c v = list_any-append (is_value v) vs (c ∷ []) ∙ ap (λ b. is_
 named_inside : (f : Program) (k : ℕ) → k < length f.blocks → IsWellFormed f → (block_at f.blocks k).cond.instruction < length f.code
 named_inside f k inside formed =
     let v = (block_at f.blocks k).cond in
-    ltb-true v.instruction (length f.code) (left (nat_lt v.instruction (length f.code)) (nat_lt v.result (result_count f.objects (step_at f v.instruction).work)) (formed.names_conditions k inside))
+    ltb-true v.instruction (length f.code) (and_first (nat_lt v.instruction (length f.code)) (nat_lt v.result (result_count f.objects (step_at f v.instruction).work)) (formed.names_conditions k inside))
 
 lift_block : (f : Program) (k : ℕ) (block : Block) (covering : List Bool) (found : List ValueId) → HasLowParents f.blocks
     → (block_at f.blocks k).cond.instruction < length f.code → block ≡ block_at f.blocks k
@@ -224,11 +224,6 @@ guard_found f covering found low from v h =
     let parts = and_parts (is_write (step_at f i).work) (decides_on f v (step_at f i).block) some.2 in
     line_found f covering found low from v (step_at f i).block (step_at f i).block (omega arith) parts.1 (from.writes i some.1 parts.0)
 
-both_say : (a b : Bool) → (a ≡ true → b ≡ true) → (b ≡ true → a ≡ true) → a ≡ b
-both_say true b p q = sym (p refl)
-both_say false true p q = q refl
-both_say false false p q = refl
-
 pub all_found : (f : Program) (covering : List Bool) (found : List ValueId) → HasLowParents f.blocks → AreGuardsFrom f 0 covering found → (v : ValueId)
     → is_among v found ≡ guards_write f v
-all_found f covering found low from v = both_say (is_among v found) (guards_write f v) (from.sound v) (guard_found f covering found low from v)
+all_found f covering found low from v = same_tests (is_among v found) (guards_write f v) (from.sound v) (guard_found f covering found low from v)

@@ -1,6 +1,6 @@
 -- A run keeps to the declared widths.
 use Rattle.std.proofs.Common.{◌≡◌, ◌≤◌, ◌<◌, ◌^◌, ℕ, zero, suc, Bool, true, false, ◌&&◌, List, [], ◌∷◌, map, length, replicate, Option, Some, None, is_some, unwrap_or, slice_get, slice_index, refl, sym, subst, arith, lit<, true≢false, ⊎_elim, if◌then◌else◌}
-use Rattle.std.proofs.lemmas.Bool.{cases_eq, ltb-true}
+use Rattle.std.proofs.lemmas.Bool.{cases_eq, ltb-true, not-true}
 use Rattle.std.proofs.lemmas.Nat.{pow_pos}
 use Rattle.std.specs.List.{AllByRecursion as Each}
 use Rattle.std.specs.Option.{option_map}
@@ -23,16 +23,16 @@ use Rattle.flat_ir.specs.Fits.{fits_keys, fits_values, can_put, can_del, widths_
 use Rattle.flat_ir.specs.WellFormed.{IsWellFormed, IsWritten}
 use Rattle.flat_ir.specs.Writable.{IsWritable}
 use Rattle.flat_ir.specs.Laws.{AllFit, KeepsWidths}
-use Rattle.flat_ir.proofs.Parts.{left, right, not_true}
 use Rattle.gal_bits.specs.Operators.{bit}
 use Rattle.gal_bits.specs.Fits.{operator_fits, same_list}
-use Rattle.flat_ir.proofs.Readings.{each_weaker}
 use Rattle.flat_ir.proofs.Runs.{set_own, set_other}
 use Rattle.packet_fields.specs.Fitting.{field_fits}
 use Rattle.state_store.specs.Widths.{at_widths, one_width, zeros_have_widths}
 use Rattle.state_store.specs.Keeping.{put_is_kept, del_is_kept}
+use Rattle.lemmas.proofs.Lists.{each_weaker}
+use Rattle.lemmas.proofs.Tests.{and_first, and_second}
 
-mapped : (f : Program) (reads : Reading) → AllFit f reads → (vs : List ValueId) → have_widths (widths_of f vs) (map reads vs) ≡ true
+pub mapped : (f : Program) (reads : Reading) → AllFit f reads → (vs : List ValueId) → have_widths (widths_of f vs) (map reads vs) ≡ true
 mapped f reads fit [] = refl
 mapped f reads fit (v ∷ vs) = one_width (width_of_value f v) (reads v) (widths_of f vs) (map reads vs) (fit v) (mapped f reads fit vs)
 
@@ -53,7 +53,7 @@ made_fits false change = lit< tt
 
 found_fits : (d : ObjectDecl) (o : Object) (key : List ℕ) (found : Option (List ℕ)) → IsKeptObject d o → store.look o key ≡ found → have_widths d.values (unwrap_or found (replicate o.count 0)) ≡ true
 found_fits d o key None kept e = subst (λ n. have_widths d.values (replicate n 0) ≡ true) (sym kept.count) (zeros_have_widths d.values)
-found_fits d o key (Some values) kept e = right (have_widths d.keys key) (have_widths d.values values) (kept.rows key values e)
+found_fits d o key (Some values) kept e = and_second (have_widths d.keys key) (have_widths d.values values) (kept.rows key values e)
 
 looked_fit : (objects : List ObjectDecl) (st : Store) (o : ℕ) (key ws : List ℕ) (found : Option ObjectDecl) → IsKept objects st → slice_get objects o ≡ found → fits_keys found ws ≡ true → have_widths (unwrap_or (option_map (λ (d : ObjectDecl). d.values) found) []) (looked_up (object_at st o) key) ≡ true
 looked_fit objects st o key ws None kept e h = absurd (true≢false (sym h))
@@ -80,10 +80,10 @@ put_kept : (f : Program) (reads : Reading) (st : Store) (o : ℕ) (keys values :
     → IsKept f.objects (with_changes st (made live (if stored then Some (record { object = o; key = map reads keys; values = Some (map reads values) }) else None)))
 put_kept f reads st o keys values None live stored kept fit e h = absurd (true≢false (sym h))
 put_kept f reads st o keys values (Some d) true true kept fit e h =
-    let two = left (can_put (Some d) && fits_keys (Some d) (widths_of f keys)) (fits_values (Some d) (widths_of f values)) h in
-    let free = not_true (is_table d.kind) (left (can_put (Some d)) (fits_keys (Some d) (widths_of f keys)) two) in
-    let key = same_list (widths_of f keys) d.keys (right (can_put (Some d)) (fits_keys (Some d) (widths_of f keys)) two) in
-    let value = same_list (widths_of f values) d.values (right (can_put (Some d) && fits_keys (Some d) (widths_of f keys)) (fits_values (Some d) (widths_of f values)) h) in
+    let two = and_first (can_put (Some d) && fits_keys (Some d) (widths_of f keys)) (fits_values (Some d) (widths_of f values)) h in
+    let free = not-true (is_table d.kind) (and_first (can_put (Some d)) (fits_keys (Some d) (widths_of f keys)) two) in
+    let key = same_list (widths_of f keys) d.keys (and_second (can_put (Some d)) (fits_keys (Some d) (widths_of f keys)) two) in
+    let value = same_list (widths_of f values) d.values (and_second (can_put (Some d) && fits_keys (Some d) (widths_of f keys)) (fits_values (Some d) (widths_of f values)) h) in
     put_is_kept f.objects st o d (map reads keys) (map reads values) e free (as_declared f reads fit keys d.keys key) (as_declared f reads fit values d.values value) kept
 put_kept f reads st o keys values (Some d) true false kept fit e h = kept
 put_kept f reads st o keys values (Some d) false stored kept fit e h = kept
@@ -92,7 +92,7 @@ del_kept : (f : Program) (reads : Reading) (st : Store) (o : ℕ) (keys : List V
     → IsKept f.objects (with_changes st (made live (if there then Some (record { object = o; key = map reads keys; values = None }) else None)))
 del_kept f reads st o keys None live there kept e h = absurd (true≢false (sym h))
 del_kept f reads st o keys (Some d) true true kept e h =
-    del_is_kept f.objects st o d (map reads keys) e (left (is_map d.kind) (fits_keys (Some d) (widths_of f keys)) h) kept
+    del_is_kept f.objects st o d (map reads keys) e (and_first (is_map d.kind) (fits_keys (Some d) (widths_of f keys)) h) kept
 del_kept f reads st o keys (Some d) true false kept e h = kept
 del_kept f reads st o keys (Some d) false there kept e h = kept
 
@@ -105,13 +105,7 @@ step_kept f reads live st (put object keys values) kept fit h =
     put_kept f reads st object keys values (slice_get f.objects object) live (is_stored (put_answer (object_at st object) (map reads keys))) kept fit refl h
 step_kept f reads live st (del object keys) kept fit h =
     del_kept f reads st object keys (slice_get f.objects object) live (is_some (store.look (object_at st object) (map reads keys))) kept refl h
-step_kept f reads live st (const width number) kept fit h = none_kept f.objects live st kept
-step_kept f reads live st (field name) kept fit h = none_kept f.objects live st kept
-step_kept f reads live st (apply op width args) kept fit h = none_kept f.objects live st kept
-step_kept f reads live st (shift op width arg by) kept fit h = none_kept f.objects live st kept
-step_kept f reads live st (select width cond first second) kept fit h = none_kept f.objects live st kept
-step_kept f reads live st (byte index) kept fit h = none_kept f.objects live st kept
-step_kept f reads live st (look object keys) kept fit h = none_kept f.objects live st kept
+step_kept f reads live st _ kept fit h = none_kept f.objects live st kept
 
 -- ## A whole run
 

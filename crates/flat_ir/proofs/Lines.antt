@@ -1,5 +1,5 @@
 -- Blocks and those above them.
-use Rattle.std.proofs.Common.{◌≡◌, ℕ, zero, suc, ◌==◌, ◌-◌, ◌<◌, ◌≤◌, Bool, true, false, ◌&&◌, ◌||◌, List, [], ◌∷◌, length, refl, sym, ap, ◌∙◌, arith, get_or, ⊎_elim}
+use Rattle.std.proofs.Common.{◌≡◌, ℕ, zero, suc, ◌==◌, ◌-◌, ◌<◌, ◌≤◌, Bool, true, false, ◌&&◌, ◌||◌, List, ◌∷◌, length, refl, sym, ap, ◌∙◌, arith, get_or, ⊎_elim}
 use Rattle.std.proofs.lemmas.Bool.{cases_lt, or_cases, and_parts, eqb-true, false≢true}
 use Rattle.std.specs.List.{list_all, list_any}
 use mathlib.Core.Bool.{beq}
@@ -8,17 +8,7 @@ use Rattle.flat_ir.specs.declared.program.Block.{Block}
 use Rattle.flat_ir.specs.Program.{Program, step_at}
 use Rattle.flat_ir.specs.Blocks.{Reading, is_on, same, block_at, line, line_up, holds, is_live, is_above, HasLowParents}
 use Rattle.flat_ir.specs.WellFormed.{IsWellFormed, IsSeenFrom, IsInArm}
-
-pub beyond : {X : Type 0} (xs : List X) (k : ℕ) (d : X) → length xs ≤ k → get_or xs k d ≡ d
-beyond [] k d le = refl
-beyond (x ∷ xs) zero d le = absurd (omega (arith, le))
-beyond (x ∷ xs) (suc k) d le = beyond xs k d (omega (arith, le))
-
--- within the list it doesn't matter what stands past its end
-pub whatever : {X : Type 0} (xs : List X) (k : ℕ) (d e : X) → k < length xs → get_or xs k d ≡ get_or xs k e
-whatever [] k d e lt = absurd (omega (arith, lt))
-whatever (x ∷ xs) zero d e lt = refl
-whatever (x ∷ xs) (suc k) d e lt = whatever xs k d e (omega (arith, lt))
+use Rattle.std.proofs.lemmas.List.{get_or_default, get_or_past}
 
 pub beq_same : (a b : Bool) → beq a b ≡ same b a
 beq_same true true = refl
@@ -32,7 +22,7 @@ blank = record { parent = 0; cond = record { instruction = 0; result = 0 }; pola
 module _ (blocks : List Block) (low : HasLowParents blocks) where
   pub parent_le : (k : ℕ) → (block_at blocks k).parent ≤ k
   parent_le k =
-      ⊎_elim (λ lt. low k lt) (λ le. let e = ap (λ (b : Block). b.parent) (beyond blocks k blank le) in omega (arith, e)) (cases_lt k (length blocks))
+      ⊎_elim (λ lt. low k lt) (λ le. let e = ap (λ (b : Block). b.parent) (get_or_past blocks k blank le) in omega (arith, e)) (cases_lt k (length blocks))
 
   pub fuel : (n n' k : ℕ) → k ≤ n → k ≤ n' → line_up n blocks k ≡ line_up n' blocks k
   fuel n n' zero le le' = refl
@@ -50,13 +40,13 @@ module _ (blocks : List Block) (low : HasLowParents blocks) where
   line_at zero d pos le = absurd (omega (arith, pos))
   line_at (suc k) d pos le =
       let last : suc k - 1 ≡ k = omega arith in
-      line_suc k ∙ ap (λ (b : Block). suc k ∷ line blocks b.parent) (whatever blocks k blank d le ∙ ap (λ i. get_or blocks i d) (sym last))
+      line_suc k ∙ ap (λ (b : Block). suc k ∷ line blocks b.parent) (get_or_default blocks k blank d le ∙ ap (λ i. get_or blocks i d) (sym last))
 
   pub parent_below : (n : ℕ) (d : Block) → 0 < n → n ≤ length blocks → (get_or blocks (n - 1) d).parent < n
   parent_below zero d pos le = absurd (omega (arith, pos))
   parent_below (suc k) d pos le =
       let last : suc k - 1 ≡ k = omega arith in
-      let here = ap (λ (b : Block). b.parent) (whatever blocks k blank d le ∙ ap (λ i. get_or blocks i d) (sym last)) in
+      let here = ap (λ (b : Block). b.parent) (get_or_default blocks k blank d le ∙ ap (λ i. get_or blocks i d) (sym last)) in
       omega (arith, here, parent_le k)
 
   -- a block is live where its condition holds and its parent is live
@@ -67,7 +57,7 @@ module _ (blocks : List Block) (low : HasLowParents blocks) where
   live_at r zero d pos le = absurd (omega (arith, pos))
   live_at r (suc k) d pos le =
       let last : suc k - 1 ≡ k = omega arith in
-      live_suc r k ∙ ap (λ (b : Block). same b.polarity (is_on (r b.cond)) && is_live blocks r b.parent) (whatever blocks k blank d le ∙ ap (λ i. get_or blocks i d) (sym last))
+      live_suc r k ∙ ap (λ (b : Block). same b.polarity (is_on (r b.cond)) && is_live blocks r b.parent) (get_or_default blocks k blank d le ∙ ap (λ i. get_or blocks i d) (sym last))
 
   pub above_at : (a n : ℕ) (d : Block) → 0 < n → n ≤ length blocks → is_above blocks a n ≡ (n == a || is_above blocks a (get_or blocks (n - 1) d).parent)
   above_at a n d pos le = ap (list_any (λ b. b == a)) (line_at n d pos le)

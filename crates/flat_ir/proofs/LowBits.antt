@@ -1,8 +1,6 @@
 -- A field that is set takes the lowest bits of a number.
-use Rattle.std.proofs.Common.{◌≡◌, ℕ, ◌+◌, ◌-◌, ◌/◌, ◌%◌, ◌^◌, ◌<◌, ◌≤◌, ◌&&◌, Bool, true, false, List, length, nat_le, nat_lt, refl, sym, ap, ◌∙◌, arith, unwrap_or, if◌then◌else◌}
+use Rattle.std.proofs.Common.{◌≡◌, ℕ, ◌+◌, ◌-◌, ◌%◌, ◌^◌, ◌<◌, ◌≤◌, ◌&&◌, Bool, true, false, List, length, nat_le, nat_lt, refl, ap, arith, unwrap_or, if◌then◌else◌}
 use Rattle.std.proofs.lemmas.Bool.{and_parts, leb-true, ltb-true}
-use Rattle.std.proofs.lemmas.Nat.{shr_split}
-use Rattle.std.proofs.lemmas.Nat.Bits.{bit_at_cat_low}
 use Rattle.std.specs.Int.{bit_at}
 use Rattle.std.specs.Option.{option_map}
 use Rattle.packet_fields.specs.declared.field.Field.{Field}
@@ -10,11 +8,7 @@ use Rattle.packet_fields.specs.Bits.{bit_of, bytes_of, replaced}
 use Rattle.packet_fields.specs.Fields.{place, with_field}
 use Rattle.packet_fields.specs.Shape.{shape_of}
 use Rattle.packet_fields.specs.Table.{row}
-
-bit_at-low : (number width i : ℕ) → i < width → bit_at (number % 2 ^ width) i ≡ bit_at number i
-bit_at-low number width i below =
-    sym (bit_at_cat_low (number / 2 ^ width) width (number % 2 ^ width) i below)
-    ∙ ap (λ x. bit_at x i) (shr_split number width)
+use Rattle.lemmas.proofs.Numbers.{bit_at-low}
 
 -- a choice between numbers of which the first is the same where it is taken
 first_same : (b : Bool) (x x' y : ℕ) → (b ≡ true → x ≡ x') → (if b then x else y) ≡ (if b then x' else y)

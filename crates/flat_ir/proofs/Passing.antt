@@ -1,16 +1,12 @@
 -- Tests that some number below a bound passes.
-use Rattle.std.proofs.Common.{◌≡◌, ℕ, zero, suc, ◌<◌, Bool, true, ◌⊎◌, inl, inr, refl, ap, sym, ◌∙◌, arith}
+use Rattle.std.proofs.Common.{◌≡◌, ℕ, zero, suc, ◌<◌, Bool, true, inl, inr, ap, sym, ◌∙◌, arith}
 use Rattle.std.proofs.lemmas.Bool.{or_left, or_right, or_cases}
 use Rattle.flat_ir.specs.Program.{any_below}
-
-under_suc : (i n : ℕ) → i < suc n → (i < n) ⊎ (i ≡ n)
-under_suc i zero h = inr (omega arith)
-under_suc zero (suc n) h = inl (omega arith)
-under_suc (suc i) (suc n) h = elim (under_suc i n (omega arith)) [ inl p ↦ inl (omega arith) | inr q ↦ inr (ap suc q) ]
+use Rattle.lemmas.proofs.Numbers.{below_suc}
 
 pub any_passes : (n : ℕ) (test : ℕ → Bool) (i : ℕ) → i < n → test i ≡ true → any_below n test ≡ true
 any_passes zero test i h t = absurd (omega arith)
-any_passes (suc n) test i h t = elim (under_suc i n h) [
+any_passes (suc n) test i h t = elim (below_suc i n h) [
   | inl lt ↦ or_left _ _ (any_passes n test i lt t)
   | inr e ↦ or_right (any_below n test) (test n) (ap test (sym e) ∙ t)
 ]

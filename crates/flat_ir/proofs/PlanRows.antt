@@ -2,23 +2,17 @@
 use Rattle.std.proofs.Common.{◌≡◌, ◌≢◌, ℕ, ◌+◌, ◌≤◌, true, [], ◌∷◌, Some, refl, ap, inl, inr, arith}
 use Rattle.std.specs.Cmp.{tied_itself}
 use Rattle.std.specs.Ordering.{eq_by_cmp, is_eq}
-use Rattle.std.specs.declared.cmp.Ordering.{Ordering}
-use Rattle.std.specs.declared.cmp.Ordering.TheVariants.{Less, Equal, Greater}
 use Rattle.std.specs.FinMap.{insert, contains_key, len, get-insert, len-insert}
 use Rattle.std.proofs.lemmas.Bool.{cases_Bool}
 use Rattle.std.proofs.lemmas.Cmp.{nat_list_cmp_total}
 use Rattle.std.proofs.lemmas.Map.Lookups.{exact_bytes}
 use Rattle.slot_table.specs.Table.{key_cmp, Contents}
 use Rattle.flat_ir.specs.Plan.{register_in}
-
-is_equal : (o : Ordering) → is_eq o ≡ true → o ≡ Equal
-is_equal Less e = absurd (cc)
-is_equal Equal e = refl
-is_equal Greater e = absurd (cc)
+use Rattle.lemmas.proofs.Tests.{eq_equal}
 
 same_value : (q v : ℕ) → eq_by_cmp key_cmp (q ∷ []) (v ∷ []) ≡ true → q ≡ v
 same_value q v e =
-    let keys = exact_bytes (q ∷ []) (v ∷ []) (is_equal (key_cmp (q ∷ []) (v ∷ [])) e) in cc
+    let keys = exact_bytes (q ∷ []) (v ∷ []) (eq_equal (key_cmp (q ∷ []) (v ∷ [])) e) in cc
 
 itself : (v : ℕ) → eq_by_cmp key_cmp (v ∷ []) (v ∷ []) ≡ true
 itself v = ap is_eq (tied_itself nat_list_cmp_total (v ∷ []))

@@ -4,7 +4,7 @@ use Rattle.std.specs.Prelude.{◌==◌, nat_le, All, Contains, slice_index_or}
 use Rattle.std.specs.BinaryHeap.{IsHeap}
 use Rattle.std.specs.List.Sorted.{IsPermutation}
 use Rattle.std.proofs.lemmas.Bool.{cases_eq, cases_lt, eq-eqb, ne_eqb, eqb-false, le-leb, lt-leb, leb-true, and_parts}
-use Rattle.std.proofs.lemmas.List.Elements.{All-nil, All-cons, All-head, All-tail, All-push, All-weaker, All-contains, Contains-push_cases}
+use Rattle.std.proofs.lemmas.List.Elements.{All-cons, All-head, All-tail, All-push, All-weaker, All-contains, Contains-push_cases}
 use Rattle.std.proofs.lemmas.List.Sorted.{All-permutation, length_permutation, sum_by_pushed, sum_by_popped}
 use Rattle.std.proofs.lemmas.List.Sums.{sum_by_push, count_by-le-length}
 use Rattle.slot_table.specs.Table.{Contents}
@@ -16,6 +16,7 @@ use Rattle.flat_ir.specs.Taking.{taken_cmp, IsTaken}
 use Rattle.flat_ir.specs.Planning.{taken_at, times_taken, AreOutlasted, AreTaken, AreEnough, AreGiven, IsPlanned}
 use Rattle.flat_ir.proofs.SpanCounts.{one_if, count_all, count_none, none_counted}
 use Rattle.flat_ir.proofs.PlanRows.{with_register, with_register_itself, with_register_other, with_register_len}
+use Rattle.lemmas.proofs.Lists.{all_front}
 
 abbrev entry_of : ℕ → ℕ → Taken
 entry_of last register = record { last = record { 0 = last }; register = register }
@@ -34,7 +35,7 @@ covers_from step span le = ap (λ b. b && nat_le step (last_step span)) (le-leb 
 covers_before : (step : ℕ) (span : Span) → step < span.from → covers step span ≡ false
 covers_before step span lt = ap (λ b. b && nat_le step (last_step span)) (lt-leb span.from step lt)
 
-covered : (step : ℕ) (span : Span) → covers step span ≡ true → (span.from ≤ step) × (step ≤ last_step span)
+pub covered : (step : ℕ) (span : Span) → covers step span ≡ true → (span.from ≤ step) × (step ≤ last_step span)
 covered step span e =
     let parts = and_parts (nat_le span.from step) (nat_le step (last_step span)) e in
     (leb-true span.from step parts.0, leb-true step (last_step span) parts.1)
@@ -64,10 +65,6 @@ at_most_all taken step = count_by-le-length (λ x. nat_le step x.last.0) taken
 -- ---- what later steps need
 abbrev pub Begun : ℕ → Span → Type 0
 Begun step span = span.from ≤ step
-
-all_front : {X : Type 0} (P : X → Type 0) (xs ys : List X) → All P (xs ++ ys) → All P xs
-all_front P [] ys all = All-nil P
-all_front P (x ∷ xs) ys all = All-cons P x xs (All-head P x (xs ++ ys) all) (all_front P xs ys (All-tail P x (xs ++ ys) all))
 
 all_last : {X : Type 0} (P : X → Type 0) (xs : List X) (y : X) → All P (xs ++ y ∷ []) → P y
 all_last P [] y all = All-head P y [] all

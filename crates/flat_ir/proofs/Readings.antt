@@ -14,18 +14,6 @@ use Rattle.flat_ir.specs.Run.{change_of, made, results}
 use Rattle.flat_ir.specs.WellFormed.{EachCondition}
 use Rattle.flat_ir.specs.Laws.{Same, SameFor}
 
-pub each_weaker : {X : Type 0} (P Q : X → Type 0) → ((x : X) → P x → Q x) → (xs : List X) → Each P xs → Each Q xs
-each_weaker P Q go [] h = tt
-each_weaker P Q go (x ∷ xs) h = (go x h.0, each_weaker P Q go xs h.1)
-
-pub each_both : {X : Type 0} (P Q : X → Type 0) → (xs : List X) → Each P xs → Each Q xs → Each (λ x. P x × Q x) xs
-each_both P Q [] h k = tt
-each_both P Q (x ∷ xs) h k = ((h.0, k.0), each_both P Q xs h.1 k.1)
-
-pub each_append : {X : Type 0} (P : X → Type 0) → (xs ys : List X) → Each P xs → Each P ys → Each P (xs ++ ys)
-each_append P [] ys h k = k
-each_append P (x ∷ xs) ys h k = (h.0, each_append P xs ys h.1 k)
-
 pub each_first : {X : Type 0} (P : X → Type 0) → (xs ys : List X) → Each P (xs ++ ys) → Each P xs
 each_first P [] ys h = tt
 each_first P (x ∷ xs) ys h = (h.0, each_first P xs ys h.1)
@@ -33,10 +21,6 @@ each_first P (x ∷ xs) ys h = (h.0, each_first P xs ys h.1)
 pub each_second : {X : Type 0} (P : X → Type 0) → (xs ys : List X) → Each P (xs ++ ys) → Each P ys
 each_second P [] ys h = h
 each_second P (x ∷ xs) ys h = each_second P xs ys h.1
-
-pub each_all : {X : Type 0} (P : X → Type 0) → ((x : X) → P x) → (xs : List X) → Each P xs
-each_all P go [] = tt
-each_all P go (x ∷ xs) = (go x, each_all P go xs)
 
 pub map_same : (r r' : Reading) (vs : List ValueId) → Each (Same r r') vs → map r vs ≡ map r' vs
 map_same r r' [] h = refl
@@ -57,29 +41,19 @@ select_same w c c' a a' b b' same first second =
 pub same_for_operands : (r r' : Reading) (work : Work) → Each (Same r r') (operands work) → SameFor r r' work
 same_for_operands r r' (const width number) h = tt
 same_for_operands r r' (field name) h = tt
-same_for_operands r r' (apply op width args) h = h
 same_for_operands r r' (shift op width arg by) h = h.0
 same_for_operands r r' (select width cond first second) h = (h.0, λ e. h.1.0, λ e. h.1.1.0)
 same_for_operands r r' (byte index) h = h.0
-same_for_operands r r' (look object keys) h = h
 same_for_operands r r' (put object keys values) h = (each_first (Same r r') keys values h, each_second (Same r r') keys values h)
-same_for_operands r r' (del object keys) h = h
+same_for_operands r r' _ h = h
 
 pub change_same : (r r' : Reading) (st : Store) (work : Work) → SameFor r r' work → change_of r st work ≡ change_of r' st work
-change_same r r' st (const width number) h = refl
-change_same r r' st (field name) h = refl
-change_same r r' st (apply op width args) h = refl
-change_same r r' st (shift op width arg by) h = refl
-change_same r r' st (select width cond first second) h = refl
-change_same r r' st (byte index) h = refl
-change_same r r' st (look object keys) h = refl
 change_same r r' st (put object keys values) h = rw (map_same r r' keys h.0, map_same r r' values h.1)
 change_same r r' st (del object keys) h = rw (map_same r r' keys h)
+change_same r r' st _ h = refl
 
 -- the same results from the same numbers
 pub results_same : (r r' : Reading) (live : Bool) (st : Store) (packet : Packet) (work : Work) → SameFor r r' work → results r live st packet work ≡ results r' live st packet work
-results_same r r' live st packet (const width number) h = refl
-results_same r r' live st packet (field name) h = refl
 results_same r r' live st packet (apply op width args) h = ap (λ ns. operator_value op width ns ∷ []) (map_same r r' args h)
 results_same r r' live st packet (shift op width arg by) h = ap (λ n. operator_value op width (n ∷ by ∷ []) ∷ []) h
 results_same r r' live st packet (select width cond first second) h =
@@ -90,6 +64,7 @@ results_same r r' live st packet (put object keys values) h =
     ap (λ change. length (made live change) ∷ []) (change_same r r' st (put object keys values) h)
 results_same r r' live st packet (del object keys) h =
     ap (λ change. length (made live change) ∷ []) (change_same r r' st (del object keys) h)
+results_same r r' live st packet _ h = refl
 
 -- ## Blocks
 

@@ -10,7 +10,8 @@ use Rattle.flat_ir.specs.Blocks.{Reading, is_live, line}
 use Rattle.flat_ir.specs.Run.{Machine, after, flat_run, with_results, results}
 use Rattle.flat_ir.specs.WellFormed.{IsWellFormed, EachCondition}
 use Rattle.flat_ir.specs.Laws.{IsItsValues, Same}
-use Rattle.flat_ir.proofs.Readings.{same_for_operands, results_same, live_same, each_weaker, condition_weaker}
+use Rattle.flat_ir.proofs.Readings.{same_for_operands, results_same, live_same, condition_weaker}
+use Rattle.lemmas.proofs.Lists.{each_weaker}
 
 pub set_other : (i : ℕ) (rs : List ℕ) (reads : Reading) (v : ValueId) → v.instruction ≢ i → with_results i rs reads v ≡ reads v
 set_other i rs reads v ne = cond-false (v.instruction == i) (slice_index rs v.result) (reads v) (ne_eqb v.instruction i ne)

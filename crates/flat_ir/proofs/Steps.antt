@@ -19,8 +19,9 @@ use Rattle.flat_ir.specs.WellFormed.{EachCondition}
 use Rattle.flat_ir.specs.Registers.{results_of, reads_of}
 use Rattle.flat_ir.specs.Turns.{StandAs, turn}
 use Rattle.flat_ir.specs.Laws.{Same}
-use Rattle.flat_ir.proofs.Readings.{same_for_operands, results_same, change_same, live_same, each_all, condition_all}
+use Rattle.flat_ir.proofs.Readings.{same_for_operands, results_same, change_same, live_same, condition_all}
 use Rattle.flat_ir.proofs.Runs.{set_own, set_other}
+use Rattle.lemmas.proofs.Lists.{each_all}
 
 -- an entry of the code is the instruction of its number
 pub step_is : (f : Flat) (i : ℕ) (instr : Instr) (code : List Instr) → code ≡ f.code → i < length f.code → instr ≡ get_or code i instr → step_of instr ≡ step_at (program_of f) i

@@ -6,7 +6,7 @@ use Rattle.state_store.specs.Store.{Object, Store, object_at, put_answer, put_ro
 use Rattle.state_store.specs.Store as store
 use Rattle.state_store.specs.Laws.{IsChangedAlone}
 use Rattle.flat_ir.specs.Program.{Program, Work, step_at}
-use Rattle.flat_ir.specs.Program.Work.{const, field, apply, shift, select, byte, look, put, del}
+use Rattle.flat_ir.specs.Program.Work.{look, put, del}
 use Rattle.flat_ir.specs.Blocks.{Reading, is_live}
 use Rattle.flat_ir.specs.Run.{change_of, made, with_changes, after}
 use Rattle.flat_ir.specs.WellFormed.{IsWellFormed, WritesNoTable}
@@ -35,13 +35,7 @@ module _ (alone : (st : Store) (number : ℕ) (object : Object) → IsChangedAlo
       changed live (is_stored (put_answer (object_at st object) (map reads keys))) st number object (map reads keys) (Some (map reads values)) (differ f number object is not)
   step_keeps f reads live st number (del object keys) is not =
       changed live (is_some (store.look (object_at st object) (map reads keys))) st number object (map reads keys) None (differ f number object is not)
-  step_keeps f reads live st number (const w n) is not = ap (λ s. object_at s number) (unchanged live st)
-  step_keeps f reads live st number (field name) is not = ap (λ s. object_at s number) (unchanged live st)
-  step_keeps f reads live st number (apply op width args) is not = ap (λ s. object_at s number) (unchanged live st)
-  step_keeps f reads live st number (shift op width arg by) is not = ap (λ s. object_at s number) (unchanged live st)
-  step_keeps f reads live st number (select width cond first second) is not = ap (λ s. object_at s number) (unchanged live st)
-  step_keeps f reads live st number (byte index) is not = ap (λ s. object_at s number) (unchanged live st)
-  step_keeps f reads live st number (look object keys) is not = ap (λ s. object_at s number) (unchanged live st)
+  step_keeps f reads live st number _ is not = ap (λ s. object_at s number) (unchanged live st)
 
   pub keeps_tables : (f : Program) (st : Store) (packet : Packet) → IsWellFormed f → KeepsTables f st packet
   keeps_tables f st packet well number zero is le = refl

@@ -7,7 +7,7 @@ use Rattle.state_store.specs.Store.{Object, Store, object_at, with_object, put_a
 use Rattle.flat_ir.specs.Run.{Change, made, put_change, with_changes}
 
 -- to set an object to itself changes nothing
-set_self : (st : Store) (o : ℕ) → with_object st o (object_at st o) ≡ st
+pub set_self : (st : Store) (o : ℕ) → with_object st o (object_at st o) ≡ st
 set_self [] o = refl
 set_self (x ∷ st) zero = refl
 set_self (x ∷ st) (suc o) = ap (λ l. x ∷ l) (set_self st o)

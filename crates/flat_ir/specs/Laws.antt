@@ -5,7 +5,7 @@ use Rattle.state_store.specs.Kept.{IsKept}
 use Rattle.state_store.specs.Store.{Store, object_at}
 use Rattle.flat_ir.specs.declared.program.ValueId.{ValueId}
 use Rattle.flat_ir.specs.Program.{Program, Work, step_at, width_of_value}
-use Rattle.flat_ir.specs.Program.Work.{const, field, apply, shift, select, byte, look, put, del}
+use Rattle.flat_ir.specs.Program.Work.{apply, shift, select, byte, look, put, del}
 use Rattle.std.specs.List.{AllByRecursion as Each}
 use Rattle.flat_ir.specs.Blocks.{Reading, is_live, is_on}
 use Rattle.flat_ir.specs.Run.{Machine, after, flat_run, flat_store, flat_changes, with_changes, results}
@@ -47,8 +47,6 @@ Same r r' v = r v ≡ r' v
 -- What two readings have to agree on for an instruction to give the same: its operands, of a select the condition and
 -- the side that is taken.
 abbrev pub SameFor : Reading → Reading → Work → Type 0
-SameFor r r' (const width number) = Unit {0}
-SameFor r r' (field name) = Unit {0}
 SameFor r r' (apply op width args) = Each (Same r r') args
 SameFor r r' (shift op width arg by) = Same r r' arg
 SameFor r r' (select width cond first second) =
@@ -57,3 +55,4 @@ SameFor r r' (byte index) = Same r r' index
 SameFor r r' (look object keys) = Each (Same r r') keys
 SameFor r r' (put object keys values) = Each (Same r r') keys × Each (Same r r') values
 SameFor r r' (del object keys) = Each (Same r r') keys
+SameFor r r' _ = Unit {0}

@@ -63,8 +63,6 @@ is_among v vs = list_any (is_value v) vs
 
 -- the values that an instruction reads
 abbrev pub operands : Work → List ValueId
-operands (const width number) = []
-operands (field name) = []
 operands (apply op width args) = args
 operands (shift op width arg by) = arg ∷ []
 operands (select width cond first second) = cond ∷ first ∷ second ∷ []
@@ -72,6 +70,7 @@ operands (byte index) = index ∷ []
 operands (look object keys) = keys
 operands (put object keys values) = keys ++ values
 operands (del object keys) = keys
+operands _ = []
 
 -- the widths of the values of an object's rows
 abbrev pub value_widths : List ObjectDecl → ℕ → List ℕ
@@ -86,8 +85,7 @@ result_widths objects (shift op width arg by) = width ∷ []
 result_widths objects (select width cond first second) = width ∷ []
 result_widths objects (byte index) = 8 ∷ []
 result_widths objects (look object keys) = 1 ∷ value_widths objects object
-result_widths objects (put object keys values) = 1 ∷ []
-result_widths objects (del object keys) = 1 ∷ []
+result_widths objects _ = 1 ∷ []
 
 -- how many results an instruction has
 abbrev pub result_count : List ObjectDecl → Work → ℕ

@@ -36,13 +36,7 @@ del_change st object key =
 abbrev pub change_of : Reading → Store → Work → Option Change
 change_of reads st (put object keys values) = put_change st object (map reads keys) (map reads values)
 change_of reads st (del object keys) = del_change st object (map reads keys)
-change_of reads st (const width number) = None
-change_of reads st (field name) = None
-change_of reads st (apply op width args) = None
-change_of reads st (shift op width arg by) = None
-change_of reads st (select width cond first second) = None
-change_of reads st (byte index) = None
-change_of reads st (look object keys) = None
+change_of reads st _ = None
 
 -- the changes of an instruction in a block that is live, or is not
 abbrev pub made : Bool → Option Change → List Change

@@ -6,7 +6,7 @@ use Rattle.flat_ir.specs.declared.program.ValueId.{ValueId}
 use Rattle.flat_ir.specs.declared.program.Block.{Block}
 use Rattle.flat_ir.specs.declared.program.FieldValue.{FieldValue}
 use Rattle.flat_ir.specs.Program.{Program, Work, step_at, is_named, is_value, width_of_value}
-use Rattle.flat_ir.specs.Program.Work.{const, field, apply, shift, select, byte, look, put, del}
+use Rattle.flat_ir.specs.Program.Work.{field, apply, shift, select, byte, look, put, del}
 use Rattle.flat_ir.specs.Blocks.{same, block_at, line, is_above}
 use Rattle.flat_ir.specs.Fits.{fits}
 
@@ -46,8 +46,6 @@ may_take f i k cond polarity v =
     && (is_seen f k v || is_in_arm f.blocks (step_at f v.instruction).block k cond polarity))
 
 abbrev pub reads_well : Program → ℕ → ℕ → Work → Bool
-reads_well f i k (const width number) = true
-reads_well f i k (field name) = true
 reads_well f i k (apply op width args) = list_all (may_read f i k) args
 reads_well f i k (shift op width arg by) = may_read f i k arg
 reads_well f i k (select width cond first second) =
@@ -56,6 +54,7 @@ reads_well f i k (byte index) = may_read f i k index
 reads_well f i k (look object keys) = list_all (may_read f i k) keys
 reads_well f i k (put object keys values) = list_all (may_read f i k) keys && list_all (may_read f i k) values
 reads_well f i k (del object keys) = list_all (may_read f i k) keys
+reads_well f i k _ = true
 
 -- the condition of a block stands before instruction i
 abbrev pub is_before : List Block → ℕ → ℕ → Bool

@@ -9,7 +9,7 @@ use Rattle.state_store.specs.Store.{Store, object_at, start_object}
 use Rattle.flat_ir.specs.declared.program.ValueId.{ValueId}
 use Rattle.flat_ir.specs.declared.program.FieldValue.{FieldValue}
 use Rattle.flat_ir.specs.Program.{Program, Work, step_at, operands, is_named, width_of_value}
-use Rattle.flat_ir.specs.Program.Work.{const, field, apply, shift, select, byte, look, put, del}
+use Rattle.flat_ir.specs.Program.Work.{field, apply, shift, select, byte, look, put, del}
 use Rattle.flat_ir.specs.Blocks.{block_at, line, is_above, HasLowParents}
 use Rattle.flat_ir.specs.Fits.{fits}
 
@@ -30,14 +30,13 @@ SeesOperands f k (select width cond first second) =
     IsSeenFrom f k cond
     × (IsSeenFrom f k first ⊎ IsInArm f k cond true first)
     × (IsSeenFrom f k second ⊎ IsInArm f k cond false second)
-SeesOperands f k (const width number) = Unit {0}
-SeesOperands f k (field name) = Unit {0}
 SeesOperands f k (apply op width args) = Each (IsSeenFrom f k) args
 SeesOperands f k (shift op width arg by) = IsSeenFrom f k arg
 SeesOperands f k (byte index) = IsSeenFrom f k index
 SeesOperands f k (look object keys) = Each (IsSeenFrom f k) keys
 SeesOperands f k (put object keys values) = Each (IsSeenFrom f k) keys × Each (IsSeenFrom f k) values
 SeesOperands f k (del object keys) = Each (IsSeenFrom f k) keys
+SeesOperands f k _ = Unit {0}
 
 -- what holds of the condition of a block; the root has none
 abbrev pub EachCondition : Program → (ValueId → Type 0) → ℕ → Type 0
@@ -92,13 +91,7 @@ pub record IsWellFormed (f : Program) : Type 0 where
 abbrev pub WritesNoTable : Program → Work → Type 0
 WritesNoTable f (put object keys values) = is_constant f.objects object ≡ false
 WritesNoTable f (del object keys) = is_constant f.objects object ≡ false
-WritesNoTable f (const width number) = Unit {0}
-WritesNoTable f (field name) = Unit {0}
-WritesNoTable f (apply op width args) = Unit {0}
-WritesNoTable f (shift op width arg by) = Unit {0}
-WritesNoTable f (select width cond first second) = Unit {0}
-WritesNoTable f (byte index) = Unit {0}
-WritesNoTable f (look object keys) = Unit {0}
+WritesNoTable f _ = Unit {0}
 
 -- a store in which the constant tables have their declared rows
 pub record HasConstantTables (f : Program) (st : Store) : Type 0 where

@@ -6,7 +6,6 @@ mod eval;
 mod fits;
 mod guards;
 mod kinds;
-mod laws;
 mod listing;
 mod program;
 mod reading;
@@ -21,10 +20,6 @@ mod work;
 pub use blocks::is_live;
 pub use eval::{eval_flat, leave, write_fields};
 pub use guards::write_guards;
-pub use laws::{
-    a_run_goes_on, a_run_is_its_changes, a_run_is_its_values, a_run_keeps_the_tables,
-    a_run_keeps_widths, a_turn_keeps_widths, lines_of_blocks, readings_that_agree,
-};
 pub use listing::print_flat;
 pub use program::{Block, Blocks, Code, FieldValue, Flat, Instr, InstrKind, Out, ValueId};
 pub use reading::{Lookup, Numbers};

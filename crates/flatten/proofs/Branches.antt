@@ -1,5 +1,6 @@
 -- The branches of statements and their loops, on plain values.
 use Rattle.std.proofs.Common.{◌≡◌, ℕ, zero, suc, ◌+◌, ◌-◌, ◌<◌, List, [], ◌∷◌, ◌++◌, length, drop, get_or, Option, false, refl, sym, ap, ◌∙◌, arith}
+use Rattle.std.proofs.lemmas.List.{append-nil}
 use Rattle.element_lang.specs.declared.tree.Stmt.{Stmt}
 use Rattle.element_lang.specs.Tree.{ExprTree, BodyTree}
 use Rattle.element_lang.specs.Tree.StmtTree.{choose}
@@ -44,17 +45,10 @@ choice_made ws p c first second a b g w v x r ex er ea eb ew =
     ∙ ap (λ r. rest_at ws p second x.id r w) (er ∙ ap (λ a. first_at ws p a x w) ea)
     ∙ ap (λ x. rest_at ws p second x.id (first_at ws p first x w) w) ex
 
-no_more : {X : Type 0} (xs : List X) → xs ≡ xs ++ []
-no_more [] = refl
-no_more (x ∷ xs) = ap (λ l. x ∷ l) (no_more xs)
-
 pub none_came : (made : List FieldValue) (fs : List Field) (xs ys : List (Option ValueId)) → length xs ≡ 0 → made ≡ made ++ all_changed fs xs ys
-none_came made [] xs ys e = no_more made
-none_came made (f ∷ fs) [] ys e = no_more made
 none_came made (f ∷ fs) (x ∷ xs) ys e = absurd (omega (arith, e))
+none_came made _ _ ys e = sym (append-nil made)
 
 pub none_now : (made : List FieldValue) (fs : List Field) (xs ys : List (Option ValueId)) → length ys ≡ 0 → made ≡ made ++ all_changed fs xs ys
-none_now made [] xs ys e = no_more made
-none_now made (f ∷ fs) [] ys e = no_more made
-none_now made (f ∷ fs) (x ∷ xs) [] e = no_more made
 none_now made (f ∷ fs) (x ∷ xs) (y ∷ ys) e = absurd (omega (arith, e))
+none_now made _ _ _ e = sym (append-nil made)

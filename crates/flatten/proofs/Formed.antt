@@ -1,14 +1,13 @@
 -- What is given for each piece of a good middlebox is well formed.
-use Rattle.std.proofs.Common.{◌≡◌, ℕ, zero, suc, ◌+◌, ◌<◌, ◌≤◌, ◌^◌, ◌==◌, Bool, true, false, ◌&&◌, ◌||◌, not, List, [], ◌∷◌, ◌++◌, map, length, nat_le, get_or, Option, Some, None, unwrap_or, slice_get, slice_index, slice_set, refl, sym, ap, ◌∙◌, subst, arith, true≢false, eqb-true, leb-true, eq-eqb, lit<, lit≤}
+use Rattle.std.proofs.Common.{◌≡◌, ℕ, zero, suc, ◌+◌, ◌<◌, ◌≤◌, ◌^◌, ◌==◌, Bool, true, false, ◌&&◌, ◌||◌, not, List, [], ◌∷◌, ◌++◌, map, length, nat_le, Option, Some, None, unwrap_or, slice_get, slice_index, slice_set, refl, sym, ap, ◌∙◌, subst, arith, true≢false, eqb-true, leb-true, eq-eqb, lit<, lit≤}
 use Rattle.std.specs.Option.{option_map}
-use Rattle.std.proofs.lemmas.Bool.{and_from, lt-ltb}
+use Rattle.std.proofs.lemmas.Bool.{and_from, lt-ltb, or_left, or_right}
 use Rattle.std.specs.List.{AllByRecursion as Each}
 use Rattle.std.proofs.lemmas.List.{get_or-set_other}
 use Rattle.gal_bits.specs.declared.op.Op.{Op}
-use Rattle.gal_bits.specs.declared.op.Op.TheVariants.{Add, Sub, Mul, Div, Rem, And, Or, Xor, Not, Shl, Shr, Eq, Ne, Lt, Le, Cast, Select, Adjust}
+use Rattle.gal_bits.specs.declared.op.Op.TheVariants.{Select}
 use Rattle.packet_fields.specs.declared.field.Field.{Field}
-use Rattle.packet_fields.specs.declared.field.Field.TheVariants.{MetaPort}
-use Rattle.packet_fields.specs.Table.{row, all_fields, field_index}
+use Rattle.packet_fields.specs.Table.{row, field_index}
 use Rattle.state_store.specs.declared.object.ObjectDecl.{ObjectDecl}
 use Rattle.element_lang.specs.Tree.{ExprTree, Exprs, StmtTree, BodyTree, Tree}
 use Rattle.element_lang.specs.Tree.ExprTree.{lit, local}
@@ -25,15 +24,15 @@ use Rattle.flatten.specs.declared.place.Ending.{Ending}
 use Rattle.flatten.specs.declared.place.Ending.TheVariants.{No, Yes, Maybe}
 use Rattle.flatten.specs.Flatten.{Given, View, At, Valued, Listed, Flattener, result_of, or_nought, value_at, nought, one, nought_port, emit, give, opened, below, operation, merge_id, merge_ids, field_widths, merge_ended, ended_id, ends, join, follow, go_on, in_order, flat_expr, flat_exprs, bound, bound_to, assigned, finished, kept, in_scope, looping, second_side, flat_turn, flat_turns, flat_stmt, flat_body, constants}
 use Rattle.flatten.specs.Occurs.{same_field, is_in_expr, is_in_exprs, is_in_stmt, is_in_body}
-use Rattle.flatten.proofs.BothParts.{left, right}
 use Rattle.gal_bits.specs.Fits.{same_list}
-use Rattle.packet_fields.specs.FieldOrder.{field_width_at}
-use Rattle.packet_fields.specs.FieldOrder.{at_index}
+use Rattle.packet_fields.specs.FieldOrder.{field_width_at, same_index}
 use Rattle.flatten.proofs.GoodSizes.{Wide, wide_in, wide_both, field_wide, binds_wide}
 use Rattle.flatten.proofs.Growth.{Grows, grows, then_grows, emit_grows, open_grows, expr_grows, exprs_grow, merge_id_grows, merge_ids_grow, merge_ended_grows, join_grows, Growing, second_grows, turn_grows, turns_grow, stmt_grows, body_grows}
-use Rattle.flatten.proofs.Meanings.{or_left, or_right}
-use Rattle.flatten.proofs.Views.{HasId, IsThere, there_set, there_new, Knows, known_at, knows_later, there_scope}
-use Rattle.flatten.proofs.Forming.{whole, IsPart, HasOption, AllHave, all_map, each_both, Ready, ready_more, Sided, sided_more, sided_of, IsFormed, low_of, Open, open_more, WorkFits, emit_formed, given_ready, open_formed, open_below, ready_below, sided_above, Constants, constants_ready, select_fits, Formed, merge_id_formed, merge_ids_formed, merge_ended_formed}
+use Rattle.flatten.proofs.Views.{HasId, IsThere, there_set, Knows, known_at, there_scope}
+use Rattle.flatten.proofs.Forming.{whole, IsPart, HasOption, AllHave, all_map, Ready, ready_more, Sided, sided_more, sided_of, IsFormed, low_of, Open, open_more, WorkFits, emit_formed, given_ready, open_formed, open_below, ready_below, sided_above, Constants, constants_ready, select_fits, Formed, merge_id_formed, merge_ids_formed, merge_ended_formed}
+use Rattle.lemmas.proofs.Lists.{each_append}
+use Rattle.lemmas.proofs.Tests.{and_first, and_second}
+use Rattle.flatten.proofs.Keeping.{Keeps, keeps_refl, keeps_trans, keeps_bound, keeps_bound_to, knows_keeps, knows_bound, Leads, knows_after}
 
 -- ## Values of variables
 
@@ -43,17 +42,15 @@ have_some P w (Some v) there h = h
 
 have_at : (P : ℕ → ValueId → Type 0) (ws : List ℕ) (is : List (Option ValueId)) (x : ℕ) → AllHave P ws is → IsThere is x → 1 ≤ slice_index ws x → P (slice_index ws x) (value_at is x)
 have_at P [] [] x h there wide = absurd (omega (arith, wide))
-have_at P [] (i ∷ is) x h there wide = absurd h
-have_at P (w ∷ ws) [] x h there wide = absurd h
 have_at P (w ∷ ws) (i ∷ is) zero h there wide = have_some P w i there h.0
 have_at P (w ∷ ws) (i ∷ is) (suc x) h there wide = have_at P ws is x h.1 there wide
+have_at _ _ _ x h there wide = absurd h
 
 have_set : (P : ℕ → ValueId → Type 0) (ws : List ℕ) (is : List (Option ValueId)) (x : ℕ) (v : ValueId) → AllHave P ws is → P (slice_index ws x) v → AllHave P ws (slice_set is x (Some v))
 have_set P [] [] x v h new = tt
-have_set P [] (i ∷ is) x v h new = absurd h
-have_set P (w ∷ ws) [] x v h new = absurd h
 have_set P (w ∷ ws) (i ∷ is) zero v h new = (new, h.1)
 have_set P (w ∷ ws) (i ∷ is) (suc x) v h new = (h.0, have_set P ws is x v h.1 new)
+have_set _ _ _ x v h new = absurd h
 
 have_kept : (P : ℕ → ValueId → Type 0) (w : ℕ) (a b : Option ValueId) → HasOption P w b → HasOption P w (kept a b)
 have_kept P w None b h = tt
@@ -61,49 +58,9 @@ have_kept P w (Some v) b h = h
 
 have_scope : (P Q : ℕ → ValueId → Type 0) (ws : List ℕ) (before now : List (Option ValueId)) → AllHave P ws before → AllHave Q ws now → AllHave Q ws (in_scope before now)
 have_scope P Q [] [] now h h' = tt
-have_scope P Q [] (a ∷ before) now h h' = absurd h
-have_scope P Q (w ∷ ws) [] now h h' = absurd h
 have_scope P Q (w ∷ ws) (a ∷ before) [] h h' = absurd h'
 have_scope P Q (w ∷ ws) (a ∷ before) (b ∷ now) h h' = (have_kept Q w a b h'.0, have_scope P Q ws before now h.1 h'.1)
-
--- what is in scope stays so, and so does the value of a field that can't be written
-pub record Keeps (w w' : View) : Type 0 where
-  pub locals : (x : ℕ) → IsThere w.locals x → IsThere w'.locals x
-  pub fields : (x : ℕ) → IsThere w.fields x → IsThere w'.fields x
-  pub fixed : (f : Field) → (row f).writable ≡ false → get_or w'.fields (field_index f) None ≡ get_or w.fields (field_index f) None
-
-keeps_refl : (w : View) → Keeps w w
-keeps_refl w = record { locals = λ x h. h; fields = λ x h. h; fixed = λ f e. refl }
-
-keeps_trans : (w w' w'' : View) → Keeps w w' → Keeps w' w'' → Keeps w w''
-keeps_trans w w' w'' p q = record { locals = λ x h. q.locals x (p.locals x h); fields = λ x h. q.fields x (p.fields x h); fixed = λ f e. q.fixed f e ∙ p.fixed f e }
-
-keeps_bound : (x : ℕ) (id : ValueId) (w : View) → Keeps w (bound x id w)
-keeps_bound x id w = record { locals = λ y h. there_set w.locals x y id h; fields = λ y h. h; fixed = λ f e. refl }
-
-keeps_bound_to : (i j : ℕ) (xs : List ℕ) (w : View) → Keeps w (bound_to i j xs w)
-keeps_bound_to i j [] w = keeps_refl w
-keeps_bound_to i j (x ∷ xs) w =
-    let w' = bound x (result_of i j) w in
-    keeps_trans w w' (bound_to i (suc j) xs w') (keeps_bound x (result_of i j) w) (keeps_bound_to i (suc j) xs w')
-
-knows_keeps : (scope : List ℕ) (w w' : View) → Keeps w w' → Knows scope w.locals → Knows scope w'.locals
-knows_keeps scope w w' k kn = knows_later scope w.locals w'.locals k.locals kn
-
-knows_bound : (scope : List ℕ) (x : ℕ) (id : ValueId) (w : View) → Knows scope w.locals → Knows (x ∷ scope) (bound x id w).locals
-knows_bound scope x id w kn = (there_new w.locals x id, knows_keeps scope w (bound x id w) (keeps_bound x id w) kn)
-
-knows_bound_to : (scope : List ℕ) (i j : ℕ) (xs : List ℕ) (w : View) → Knows scope w.locals → Knows (xs ++ scope) (bound_to i j xs w).locals
-knows_bound_to scope i j [] w kn = kn
-knows_bound_to scope i j (x ∷ xs) w kn =
-    let w' = bound x (result_of i j) w in (
-      (keeps_bound_to i (suc j) xs w').locals x (there_new w.locals x (result_of i j)),
-      knows_bound_to scope i (suc j) xs w' (knows_keeps scope w w' (keeps_bound x (result_of i j) w) kn),
-    )
-
--- fields in the same place are one
-same_place : (f h : Field) → field_index f ≡ field_index h → f ≡ h
-same_place f h e = sym (at_index f) ∙ ap (λ i. get_or all_fields i MetaPort) e ∙ at_index h
+have_scope _ _ _ _ now h h' = absurd h
 
 -- the widths of a declaration's values
 abbrev value_widths_of : Option ObjectDecl → List ℕ
@@ -245,21 +202,18 @@ module _ (m : Tree) (F : Program) (same_objects : F.objects ≡ m.objects) (base
 
   abbrev AreReady : ℕ → ℕ → List ℕ → List ValueId → Type 0
   AreReady k n [] [] = Unit {0}
-  AreReady k n [] (v ∷ vs) = ⊥
-  AreReady k n (w ∷ ls) [] = ⊥
   AreReady k n (w ∷ ls) (v ∷ vs) = Ready F k n w v × AreReady k n ls vs
+  AreReady k n _ _ = ⊥
 
   ready_widths : (k n : ℕ) (ls : List ℕ) (vs : List ValueId) → AreReady k n ls vs → fitting.widths_of F vs ≡ ls
   ready_widths k n [] [] h = refl
-  ready_widths k n [] (v ∷ vs) h = absurd h
-  ready_widths k n (w ∷ ls) [] h = absurd h
   ready_widths k n (w ∷ ls) (v ∷ vs) h = ap (λ x. x ∷ fitting.widths_of F vs) h.0.wide ∙ ap (λ l. w ∷ l) (ready_widths k n ls vs h.1)
+  ready_widths k n _ _ h = absurd h
 
   ready_each : (k n : ℕ) (P : ValueId → Type 0) → ((w : ℕ) (v : ValueId) → Ready F k n w v → P v) → (ls : List ℕ) (vs : List ValueId) → AreReady k n ls vs → Each P vs
   ready_each k n P go [] [] h = tt
-  ready_each k n P go [] (v ∷ vs) h = absurd h
-  ready_each k n P go (w ∷ ls) [] h = absurd h
   ready_each k n P go (w ∷ ls) (v ∷ vs) h = (go w v h.0, ready_each k n P go ls vs h.1)
+  ready_each k n _ go _ _ h = absurd h
 
   all_before : (k n : ℕ) (ls : List ℕ) (vs : List ValueId) → AreReady k n ls vs → Each (λ (v : ValueId). v.instruction < n) vs
   all_before k n = ready_each k n (λ v. v.instruction < n) (λ w v h. h.before)
@@ -272,9 +226,8 @@ module _ (m : Tree) (F : Program) (same_objects : F.objects ≡ m.objects) (base
 
   are_more : (k n n' : ℕ) → n ≤ n' → (ls : List ℕ) (vs : List ValueId) → AreReady k n ls vs → AreReady k n' ls vs
   are_more k n n' le [] [] h = tt
-  are_more k n n' le [] (v ∷ vs) h = h
-  are_more k n n' le (w ∷ ls) [] h = h
   are_more k n n' le (w ∷ ls) (v ∷ vs) h = (ready_more F k n n' le w v h.0, are_more k n n' le ls vs h.1)
+  are_more k n n' le _ _ h = h
 
   apply_fits : (k n : ℕ) (op : Op) (w : ℕ) (ls : List ℕ) (vs : List ValueId) → not (fitting.is_select op) ≡ true → AreReady k n ls vs → fits_operator op w ls ≡ true → WorkFits F k n (flat.apply op w vs)
   apply_fits k n op w ls vs other h good = record {
@@ -292,24 +245,8 @@ module _ (m : Tree) (F : Program) (same_objects : F.objects ≡ m.objects) (base
   select_three k n w (a ∷ b ∷ c ∷ d ∷ vs) h = absurd h.1.1.1
 
   operation_fits : (k n : ℕ) (op : Op) (w : ℕ) (ls : List ℕ) (vs : List ValueId) → AreReady k n ls vs → fits_operator op w ls ≡ true → WorkFits F k n (operation op w vs)
-  operation_fits k n Add w ls vs h good = apply_fits k n Add w ls vs refl h good
-  operation_fits k n Sub w ls vs h good = apply_fits k n Sub w ls vs refl h good
-  operation_fits k n Mul w ls vs h good = apply_fits k n Mul w ls vs refl h good
-  operation_fits k n Div w ls vs h good = apply_fits k n Div w ls vs refl h good
-  operation_fits k n Rem w ls vs h good = apply_fits k n Rem w ls vs refl h good
-  operation_fits k n And w ls vs h good = apply_fits k n And w ls vs refl h good
-  operation_fits k n Or w ls vs h good = apply_fits k n Or w ls vs refl h good
-  operation_fits k n Xor w ls vs h good = apply_fits k n Xor w ls vs refl h good
-  operation_fits k n Not w ls vs h good = apply_fits k n Not w ls vs refl h good
-  operation_fits k n Shl w ls vs h good = apply_fits k n Shl w ls vs refl h good
-  operation_fits k n Shr w ls vs h good = apply_fits k n Shr w ls vs refl h good
-  operation_fits k n Eq w ls vs h good = apply_fits k n Eq w ls vs refl h good
-  operation_fits k n Ne w ls vs h good = apply_fits k n Ne w ls vs refl h good
-  operation_fits k n Lt w ls vs h good = apply_fits k n Lt w ls vs refl h good
-  operation_fits k n Le w ls vs h good = apply_fits k n Le w ls vs refl h good
-  operation_fits k n Cast w ls vs h good = apply_fits k n Cast w ls vs refl h good
-  operation_fits k n Adjust w ls vs h good = apply_fits k n Adjust w ls vs refl h good
   operation_fits k n Select w ls vs h good = select_three k n w vs (subst (λ l. AreReady k n l vs) (same_list ls (1 ∷ w ∷ w ∷ []) good) h)
+  operation_fits k n op w ls vs h good = apply_fits k n op w ls vs refl h good
 
   -- an operation has one result
   record HasOne (w : ℕ) (work : Work) : Type 0 where
@@ -320,28 +257,8 @@ module _ (m : Tree) (F : Program) (same_objects : F.objects ≡ m.objects) (base
   apply_one op w vs = record { some = lit< tt; wide = refl }
 
   operation_one : (op : Op) (w : ℕ) (vs : List ValueId) → HasOne w (operation op w vs)
-  operation_one Add w vs = apply_one Add w vs
-  operation_one Sub w vs = apply_one Sub w vs
-  operation_one Mul w vs = apply_one Mul w vs
-  operation_one Div w vs = apply_one Div w vs
-  operation_one Rem w vs = apply_one Rem w vs
-  operation_one And w vs = apply_one And w vs
-  operation_one Or w vs = apply_one Or w vs
-  operation_one Xor w vs = apply_one Xor w vs
-  operation_one Not w vs = apply_one Not w vs
-  operation_one Shl w vs = apply_one Shl w vs
-  operation_one Shr w vs = apply_one Shr w vs
-  operation_one Eq w vs = apply_one Eq w vs
-  operation_one Ne w vs = apply_one Ne w vs
-  operation_one Lt w vs = apply_one Lt w vs
-  operation_one Le w vs = apply_one Le w vs
-  operation_one Cast w vs = apply_one Cast w vs
-  operation_one Adjust w vs = apply_one Adjust w vs
-  operation_one Select w [] = apply_one Select w []
-  operation_one Select w (a ∷ []) = apply_one Select w (a ∷ [])
-  operation_one Select w (a ∷ b ∷ []) = apply_one Select w (a ∷ b ∷ [])
   operation_one Select w (a ∷ b ∷ c ∷ []) = record { some = lit< tt; wide = refl }
-  operation_one Select w (a ∷ b ∷ c ∷ d ∷ vs) = apply_one Select w (a ∷ b ∷ c ∷ d ∷ vs)
+  operation_one op w vs = apply_one op w vs
 
   abbrev Shown : (Field → Bool) → View → Type 0
   Shown test w = (f : Field) → test f ≡ true → IsThere w.fields (field_index f)
@@ -354,7 +271,7 @@ module _ (m : Tree) (F : Program) (same_objects : F.objects ≡ m.objects) (base
     expr_formed : (scope : List ℕ) (p : Place) (w : View) (e : ExprTree) (g : Given) → is_good_expr ws scope e ≡ true → IsPart F (flat_expr ws p w e g).given → Wide ws scope → Knows scope w.locals → Shown (λ f. is_in_expr f e) w → Ahead p g w
         → Formed F p.block (width_of ws e) (flat_expr ws p w e g)
     expr_formed scope p w (lit value width) g good part wide kn sh a =
-        give_formed p (flat.const width value) g w width part a (record { before = tt; names = tt; sees = tt; fit = right (is_width width) _ good }) (lit< tt) refl
+        give_formed p (flat.const width value) g w width part a (record { before = tt; names = tt; sees = tt; fit = and_second (is_width width) _ good }) (lit< tt) refl
     expr_formed scope p w (local x) g good part wide kn sh a = record {
       formed = a.formed;
       ready = have_at (Ready F p.block (length g.code)) ws w.locals x a.holds.locals (known_at scope w.locals x kn good) (wide_in ws scope x good wide);
@@ -369,25 +286,25 @@ module _ (m : Tree) (F : Program) (same_objects : F.objects ≡ m.objects) (base
     expr_formed scope p w (ExprTree.byte index) g good part wide kn sh a =
         let r = flat_expr ws p w index g in
         let work = flat.byte r.id in
-        let s = expr_formed scope p w index g (left _ _ good) (then_grows r.given (emit p work r.given) (whole F) (emit_grows p work r.given) part) wide kn sh a in
+        let s = expr_formed scope p w index g (and_first _ _ good) (then_grows r.given (emit p work r.given) (whole F) (emit_grows p work r.given) part) wide kn sh a in
         give_formed p work r.given w 8 part (ahead_later p g r.given w (expr_grows ws p w index g) s.formed a)
-        (record { before = (s.ready.before, tt); names = (s.ready.named, tt); sees = s.ready.seen; fit = eq-eqb (width_of_value F r.id) 16 (s.ready.wide ∙ eqb-true (width_of ws index) 16 (right (is_good_expr ws scope index) _ good)) })
+        (record { before = (s.ready.before, tt); names = (s.ready.named, tt); sees = s.ready.seen; fit = eq-eqb (width_of_value F r.id) 16 (s.ready.wide ∙ eqb-true (width_of ws index) 16 (and_second (is_good_expr ws scope index) _ good)) })
         (lit< tt) refl
     expr_formed scope p w (ExprTree.shift op by arg) g good part wide kn sh a =
         let r = flat_expr ws p w arg g in
         let width = width_of ws arg in
         let work = flat.shift op width r.id by in
-        let s = expr_formed scope p w arg g (right _ (is_good_expr ws scope arg) good) (then_grows r.given (emit p work r.given) (whole F) (emit_grows p work r.given) part) wide kn sh a in
+        let s = expr_formed scope p w arg g (and_second _ (is_good_expr ws scope arg) good) (then_grows r.given (emit p work r.given) (whole F) (emit_grows p work r.given) part) wide kn sh a in
         give_formed p work r.given w width part (ahead_later p g r.given w (expr_grows ws p w arg g) s.formed a)
-        (record { before = (s.ready.before, tt); names = (s.ready.named, tt); sees = s.ready.seen; fit = and_from (is_shift op && nat_le by 63) (width_of_value F r.id == width) (left _ (is_good_expr ws scope arg) good) (eq-eqb (width_of_value F r.id) width s.ready.wide) })
+        (record { before = (s.ready.before, tt); names = (s.ready.named, tt); sees = s.ready.seen; fit = and_from (is_shift op && nat_le by 63) (width_of_value F r.id == width) (and_first _ (is_good_expr ws scope arg) good) (eq-eqb (width_of_value F r.id) width s.ready.wide) })
         (lit< tt) refl
     expr_formed scope p w (ExprTree.apply op width args) g good part wide kn sh a =
         let r = flat_exprs ws p w args g in
         let work = operation op width r.ids in
-        let s = exprs_formed scope p w args g (left (are_good_exprs ws scope args) _ good) (then_grows r.given (emit p work r.given) (whole F) (emit_grows p work r.given) part) wide kn sh a in
+        let s = exprs_formed scope p w args g (and_first (are_good_exprs ws scope args) _ good) (then_grows r.given (emit p work r.given) (whole F) (emit_grows p work r.given) part) wide kn sh a in
         let only = operation_one op width r.ids in
         give_formed p work r.given w width part (ahead_later p g r.given w (exprs_grow ws p w args g) s.formed a)
-        (operation_fits p.block (length r.given.code) op width (widths_of ws args) r.ids s.ready (right _ (fits_operator op width (widths_of ws args)) good)) only.some only.wide
+        (operation_fits p.block (length r.given.code) op width (widths_of ws args) r.ids s.ready (and_second _ (fits_operator op width (widths_of ws args)) good)) only.some only.wide
 
     exprs_formed : (scope : List ℕ) (p : Place) (w : View) (es : Exprs) (g : Given) → are_good_exprs ws scope es ≡ true → IsPart F (flat_exprs ws p w es g).given → Wide ws scope → Knows scope w.locals → Shown (λ f. is_in_exprs f es) w → Ahead p g w
         → Forms p.block (widths_of ws es) (flat_exprs ws p w es g)
@@ -396,8 +313,8 @@ module _ (m : Tree) (F : Program) (same_objects : F.objects ≡ m.objects) (base
         let r = flat_expr ws p w e g in
         let rest = flat_exprs ws p w es r.given in
         let grow = exprs_grow ws p w es r.given in
-        let s = expr_formed scope p w e g (left (is_good_expr ws scope e) _ good) (then_grows r.given rest.given (whole F) grow part) wide kn (λ h is. sh h (or_left (is_in_expr h e) (is_in_exprs h es) is)) a in
-        let t = exprs_formed scope p w es r.given (right _ (are_good_exprs ws scope es) good) part wide kn (λ h is. sh h (or_right (is_in_expr h e) (is_in_exprs h es) is)) (ahead_later p g r.given w (expr_grows ws p w e g) s.formed a) in
+        let s = expr_formed scope p w e g (and_first (is_good_expr ws scope e) _ good) (then_grows r.given rest.given (whole F) grow part) wide kn (λ h is. sh h (or_left (is_in_expr h e) (is_in_exprs h es) is)) a in
+        let t = exprs_formed scope p w es r.given (and_second _ (are_good_exprs ws scope es) good) part wide kn (λ h is. sh h (or_right (is_in_expr h e) (is_in_exprs h es) is)) (ahead_later p g r.given w (expr_grows ws p w e g) s.formed a) in
         record { formed = t.formed; ready = (ready_more F p.block (length r.given.code) (length rest.given.code) grow.longer (width_of ws e) r.id s.ready, t.ready) }
 
   -- ## Pieces
@@ -490,10 +407,6 @@ module _ (m : Tree) (F : Program) (same_objects : F.objects ≡ m.objects) (base
       let ru : Ready F p.block (length g.code) 1 u = subst (λ (x : Ending). Ready F p.block (length g.code) 1 (ended_id x)) e a.holds.ended in
       follow_made scope go made growing p u g w part a ru kn sh
 
-  -- what is in scope behind a piece
-  abbrev Leads : List ℕ → List ℕ → Flattener → Type 0
-  Leads scope scope' go = (p : Place) (g : Given) (w : View) → Knows scope w.locals → Keeps w (go p g w).view → Knows scope' (go p g w).view.locals
-
   shown_keeps : (w w' : View) → Keeps w w' → Shown occurs w → Shown occurs w'
   shown_keeps w w' k sh f e = k.fields (field_index f) (sh f e)
 
@@ -545,7 +458,7 @@ module _ (m : Tree) (F : Program) (same_objects : F.objects ≡ m.objects) (base
           locals = λ y there. there;
           fields = λ y there. there_set w.fields (field_index f) y r.id there;
           fixed = λ h no. get_or-set_other w.fields (field_index f) (field_index h) (Some r.id) None
-              (λ same. true≢false (sym may ∙ ap (λ (k : Field). (row k).writable) (sym (same_place h f same)) ∙ no));
+              (λ same. true≢false (sym may ∙ ap (λ (k : Field). (row k).writable) (sym (same_index h f same)) ∙ no));
         };
       }
 
@@ -622,8 +535,8 @@ module _ (m : Tree) (F : Program) (same_objects : F.objects ≡ m.objects) (base
   put_fits k n object ls ls' ks vs h h' can keys values =
       let d = slice_get F.objects object in
       record {
-        before = each_both (λ (v : ValueId). v.instruction < n) ks vs (all_before k n ls ks h) (all_before k n ls' vs h');
-        names = each_both (λ v. is_named F v ≡ true) ks vs (all_named k n ls ks h) (all_named k n ls' vs h');
+        before = each_append (λ (v : ValueId). v.instruction < n) ks vs (all_before k n ls ks h) (all_before k n ls' vs h');
+        names = each_append (λ v. is_named F v ≡ true) ks vs (all_named k n ls ks h) (all_named k n ls' vs h');
         sees = (all_seen k n ls ks h, all_seen k n ls' vs h');
         fit = and_from (can_put d && fits_keys d (fitting.widths_of F ks)) (fits_values d (fitting.widths_of F vs))
             (and_from (can_put d) (fits_keys d (fitting.widths_of F ks)) (subst (λ os. can_put (slice_get os object) ≡ true) (sym same_objects) can) (keys_fit k n object ls ks h keys))
@@ -694,20 +607,6 @@ module _ (m : Tree) (F : Program) (same_objects : F.objects ≡ m.objects) (base
       (λ p g w kn k. knows_keeps scope w (flat_turn i x go p g w).view k kn)
       (turns_made scope x go wide made growing n (suc i) (omega (arith, le))) (turns_grow ws n (suc i) x go growing)
 
-  -- what is in scope behind a statement
-  knows_after : (t : StmtTree) (scope : List ℕ) → Leads scope (binds t ++ scope) (flat_stmt ws t)
-  knows_after (StmtTree.let_local x e) scope p g w kn k = knows_bound scope x (flat_expr ws p w e g).id w kn
-  knows_after (StmtTree.assign x e) scope p g w kn k = knows_later scope w.locals _ k.locals kn
-  knows_after (StmtTree.set_field f e) scope p g w kn k = kn
-  knows_after (StmtTree.look found into object keys) scope p g w kn k = knows_bound_to scope (length (flat_exprs ws p w keys g).given.code) 0 (found ∷ into) w kn
-  knows_after (StmtTree.put ok object keys values) scope p g w kn k =
-      knows_bound scope ok (result_of (length (flat_exprs ws p w values (flat_exprs ws p w keys g).given).given.code) 0) w kn
-  knows_after (StmtTree.del was object keys) scope p g w kn k = knows_bound scope was (result_of (length (flat_exprs ws p w keys g).given.code) 0) w kn
-  knows_after (StmtTree.choose c first second) scope p g w kn k = knows_later scope w.locals _ k.locals kn
-  knows_after (StmtTree.repeat index count body) scope p g w kn k = knows_later scope w.locals _ k.locals kn
-  knows_after (StmtTree.send e) scope p g w kn k = kn
-  knows_after StmtTree.drop scope p g w kn k = kn
-
   finished_made : (p : Place) (g h : Given) (w : View) (out by : ValueId) → Grows g h → Ahead p g w → IsFormed F h → Ready F p.block (length h.code) 1 out → Ready F p.block (length h.code) 8 by
       → Made p.block w (record { given = h; view = finished out by w })
   finished_made p g h w out by q a formed ro rb =
@@ -725,54 +624,54 @@ module _ (m : Tree) (F : Program) (same_objects : F.objects ≡ m.objects) (base
   mutual
     pub stmt_formed : (t : StmtTree) (scope : List ℕ) (next : ℕ) → is_good_stmt m scope next t ≡ true → Wide ws scope → ((f : Field) → is_in_stmt f t ≡ true → occurs f ≡ true) → IsMade scope (flat_stmt ws t)
     stmt_formed (StmtTree.let_local x e) scope next good wide cov p g w part a kn sh =
-        let two = left _ _ (left _ _ good) in
+        let two = and_first _ _ (and_first _ _ good) in
         bind_made p g w x (width_of ws e) (flat_expr ws p w e g) (expr_grows ws p w e g) a
-        (expr_formed scope p w e g (left _ _ two) part wide kn (λ f h. sh f (cov f h)) a) (eqb-true (slice_index ws x) (width_of ws e) (right (is_good_expr ws scope e) _ two))
+        (expr_formed scope p w e g (and_first _ _ two) part wide kn (λ f h. sh f (cov f h)) a) (eqb-true (slice_index ws x) (width_of ws e) (and_second (is_good_expr ws scope e) _ two))
     stmt_formed (StmtTree.assign x e) scope next good wide cov p g w part a kn sh =
         bind_made p g w x (width_of ws e) (flat_expr ws p w e g) (expr_grows ws p w e g) a
-        (expr_formed scope p w e g (left _ _ (left _ _ good)) part wide kn (λ f h. sh f (cov f h)) a) (eqb-true (slice_index ws x) (width_of ws e) (right _ _ good))
+        (expr_formed scope p w e g (and_first _ _ (and_first _ _ good)) part wide kn (λ f h. sh f (cov f h)) a) (eqb-true (slice_index ws x) (width_of ws e) (and_second _ _ good))
     stmt_formed (StmtTree.set_field f e) scope next good wide cov p g w part a kn sh =
         let r = flat_expr ws p w e g in
-        let s = expr_formed scope p w e g (left _ _ (left _ _ good)) part wide kn (λ h is. sh h (cov h (or_right (same_field h f) (is_in_expr h e) is))) a in
-        set_made p g w f r (expr_grows ws p w e g) a (as_wide p.block (width_of ws e) (row f).width r (eqb-true (width_of ws e) (row f).width (right _ _ good)) s) (right (is_good_expr ws scope e) _ (left _ _ good))
+        let s = expr_formed scope p w e g (and_first _ _ (and_first _ _ good)) part wide kn (λ h is. sh h (cov h (or_right (same_field h f) (is_in_expr h e) is))) a in
+        set_made p g w f r (expr_grows ws p w e g) a (as_wide p.block (width_of ws e) (row f).width r (eqb-true (width_of ws e) (row f).width (and_second _ _ good)) s) (and_second (is_good_expr ws scope e) _ (and_first _ _ good))
     stmt_formed (StmtTree.look found into object keys) scope next good wide cov p g w part a kn sh =
-        let four = left _ _ (left _ _ good) in
-        let three = left _ _ four in
-        let two = left _ _ three in
+        let four = and_first _ _ (and_first _ _ good) in
+        let three = and_first _ _ four in
+        let two = and_first _ _ three in
         let ks = flat_exprs ws p w keys g in
         let work = flat.look object ks.ids in
-        let s = exprs_formed scope p w keys g (left _ _ two) (then_grows ks.given (emit p work ks.given) (whole F) (emit_grows p work ks.given) part) wide kn (λ f h. sh f (cov f h)) a in
-        look_made p g w found into object (widths_of ws keys) ks (exprs_grow ws p w keys g) part a s (right (are_good_exprs ws scope keys) _ two) (right _ _ three) (eqb-true (slice_index ws found) 1 (right _ _ four))
+        let s = exprs_formed scope p w keys g (and_first _ _ two) (then_grows ks.given (emit p work ks.given) (whole F) (emit_grows p work ks.given) part) wide kn (λ f h. sh f (cov f h)) a in
+        look_made p g w found into object (widths_of ws keys) ks (exprs_grow ws p w keys g) part a s (and_second (are_good_exprs ws scope keys) _ two) (and_second _ _ three) (eqb-true (slice_index ws found) 1 (and_second _ _ four))
     stmt_formed (StmtTree.put ok object keys values) scope next good wide cov p g w part a kn sh =
-        let six = left _ _ (left _ _ good) in
-        let five = left _ _ six in
-        let four = left _ _ five in
-        let three = left _ _ four in
-        let two = left _ _ three in
+        let six = and_first _ _ (and_first _ _ good) in
+        let five = and_first _ _ six in
+        let four = and_first _ _ five in
+        let three = and_first _ _ four in
+        let two = and_first _ _ three in
         let ks = flat_exprs ws p w keys g in
         let vs = flat_exprs ws p w values ks.given in
         let work = flat.put object ks.ids vs.ids in
         let gk = exprs_grow ws p w keys g in
         let gv = exprs_grow ws p w values ks.given in
         let part_v = then_grows vs.given (emit p work vs.given) (whole F) (emit_grows p work vs.given) part in
-        let sk = exprs_formed scope p w keys g (left _ _ two) (then_grows ks.given vs.given (whole F) gv part_v) wide kn (λ f h. sh f (cov f (or_left (is_in_exprs f keys) (is_in_exprs f values) h))) a in
-        let sv = exprs_formed scope p w values ks.given (right (are_good_exprs ws scope keys) _ two) part_v wide kn (λ f h. sh f (cov f (or_right (is_in_exprs f keys) (is_in_exprs f values) h))) (ahead_later p g ks.given w gk sk.formed a) in
+        let sk = exprs_formed scope p w keys g (and_first _ _ two) (then_grows ks.given vs.given (whole F) gv part_v) wide kn (λ f h. sh f (cov f (or_left (is_in_exprs f keys) (is_in_exprs f values) h))) a in
+        let sv = exprs_formed scope p w values ks.given (and_second (are_good_exprs ws scope keys) _ two) part_v wide kn (λ f h. sh f (cov f (or_right (is_in_exprs f keys) (is_in_exprs f values) h))) (ahead_later p g ks.given w gk sk.formed a) in
         let n = length vs.given.code in
         let fit = put_fits p.block n object (widths_of ws keys) (widths_of ws values) ks.ids vs.ids (are_more p.block (length ks.given.code) n gv.longer (widths_of ws keys) ks.ids sk.ready) sv.ready
-        (right _ _ three) (right _ _ four) (right _ _ five) in
-        write_made p g vs.given w ok work (then_grows g ks.given vs.given gk gv) part a sv.formed fit (record { some = lit< tt; wide = refl }) (eqb-true (slice_index ws ok) 1 (right _ _ six))
+        (and_second _ _ three) (and_second _ _ four) (and_second _ _ five) in
+        write_made p g vs.given w ok work (then_grows g ks.given vs.given gk gv) part a sv.formed fit (record { some = lit< tt; wide = refl }) (eqb-true (slice_index ws ok) 1 (and_second _ _ six))
     stmt_formed (StmtTree.del was object keys) scope next good wide cov p g w part a kn sh =
-        let four = left _ _ (left _ _ good) in
-        let three = left _ _ four in
-        let two = left _ _ three in
+        let four = and_first _ _ (and_first _ _ good) in
+        let three = and_first _ _ four in
+        let two = and_first _ _ three in
         let ks = flat_exprs ws p w keys g in
         let work = flat.del object ks.ids in
-        let s = exprs_formed scope p w keys g (left _ _ two) (then_grows ks.given (emit p work ks.given) (whole F) (emit_grows p work ks.given) part) wide kn (λ f h. sh f (cov f h)) a in
-        let fit = del_fits p.block (length ks.given.code) object (widths_of ws keys) ks.ids s.ready (right (are_good_exprs ws scope keys) _ two) (right _ _ three) in
-        write_made p g ks.given w was work (exprs_grow ws p w keys g) part a s.formed fit (record { some = lit< tt; wide = refl }) (eqb-true (slice_index ws was) 1 (right _ _ four))
+        let s = exprs_formed scope p w keys g (and_first _ _ two) (then_grows ks.given (emit p work ks.given) (whole F) (emit_grows p work ks.given) part) wide kn (λ f h. sh f (cov f h)) a in
+        let fit = del_fits p.block (length ks.given.code) object (widths_of ws keys) ks.ids s.ready (and_second (are_good_exprs ws scope keys) _ two) (and_second _ _ three) in
+        write_made p g ks.given w was work (exprs_grow ws p w keys g) part a s.formed fit (record { some = lit< tt; wide = refl }) (eqb-true (slice_index ws was) 1 (and_second _ _ four))
     stmt_formed (StmtTree.choose c first second) scope next good wide cov p g w part a kn sh =
-        let three = left _ _ good in
-        let two = left _ _ three in
+        let three = and_first _ _ good in
+        let two = and_first _ _ three in
         let x = flat_expr ws p w c g in
         let v = x.id in
         let o = opened p v true x.given in
@@ -786,26 +685,26 @@ module _ (m : Tree) (F : Program) (same_objects : F.objects ≡ m.objects) (base
         let part_b : IsPart F rb.given = then_grows rb.given j.given (whole F) (join_grows ws p v ra.view rb) part in
         let part_a : IsPart F ra.given = then_grows ra.given rb.given (whole F) gb part_b in
         let part_x : IsPart F x.given = then_grows x.given ra.given (whole F) ga part_a in
-        let sx = as_wide p.block (width_of ws c) 1 x (eqb-true (width_of ws c) 1 (right (is_good_expr ws scope c) _ two))
-        (expr_formed scope p w c g (left _ _ two) part_x wide kn (λ f h. sh f (cov f (or_left (is_in_expr f c || is_in_body f first) (is_in_body f second) (or_left (is_in_expr f c) (is_in_body f first) h)))) a) in
+        let sx = as_wide p.block (width_of ws c) 1 x (eqb-true (width_of ws c) 1 (and_second (is_good_expr ws scope c) _ two))
+        (expr_formed scope p w c g (and_first _ _ two) part_x wide kn (λ f h. sh f (cov f (or_left (is_in_expr f c || is_in_body f first) (is_in_body f second) (or_left (is_in_expr f c) (is_in_body f first) h)))) a) in
         let ax = ahead_later p g x.given w gx sx.formed a in
-        let sa = side_made scope (flat_body ws first) (body_formed first scope next (right _ _ three) wide (λ f h. cov f (or_left (is_in_expr f c || is_in_body f first) (is_in_body f second) (or_right (is_in_expr f c) (is_in_body f first) h))))
+        let sa = side_made scope (flat_body ws first) (body_formed first scope next (and_second _ _ three) wide (λ f h. cov f (or_left (is_in_expr f c || is_in_body f first) (is_in_body f second) (or_right (is_in_expr f c) (is_in_body f first) h))))
         (body_grows ws first) p v true x.given w part_a ax sx.ready kn sh in
-        let sb = second_made scope second (body_formed second scope (next + declared_by first) (right _ _ good) wide (λ f h. cov f (or_right (is_in_expr f c || is_in_body f first) (is_in_body f second) h)))
+        let sb = second_made scope second (body_formed second scope (next + declared_by first) (and_second _ _ good) wide (λ f h. cov f (or_right (is_in_expr f c || is_in_body f first) (is_in_body f second) h)))
         p v ra.given w part_b (ahead_later p x.given ra.given w ga sa.formed ax) (ready_more F p.block (length x.given.code) (length ra.given.code) ga.longer 1 v sx.ready) kn sh in
         choose_made p g w x ra rb part gx ga gb a sx sa sb
     stmt_formed (StmtTree.repeat index count body) scope next good wide cov p g w part a kn sh =
-        let four = left _ _ (left _ _ (left _ _ good)) in
-        let times = left (is_count count) _ (left _ _ (left _ _ four)) in
-        let few : count ≤ 64 = leb-true count 64 (right _ (nat_le count 64) times) in
-        let is : slice_index ws index ≡ 32 = eqb-true (slice_index ws index) 32 (right _ _ four) in
+        let four = and_first _ _ (and_first _ _ (and_first _ _ good)) in
+        let times = and_first (is_count count) _ (and_first _ _ (and_first _ _ four)) in
+        let few : count ≤ 64 = leb-true count 64 (and_second _ (nat_le count 64) times) in
+        let is : slice_index ws index ≡ 32 = eqb-true (slice_index ws index) 32 (and_second _ _ four) in
         let a' : Ahead (looping p) g w = record { formed = a.formed; opens = a.opens; some = a.some; holds = a.holds } in
-        let d = turns_made scope index (flat_body ws body) is (body_formed body (index ∷ scope) (next + 1) (right _ _ good) (omega (arith, is), wide) cov) (body_grows ws body) count 0 (omega (arith, few)) (looping p) g w part a' kn sh in
+        let d = turns_made scope index (flat_body ws body) is (body_formed body (index ∷ scope) (next + 1) (and_second _ _ good) (omega (arith, is), wide) cov) (body_grows ws body) count 0 (omega (arith, few)) (looping p) g w part a' kn sh in
         record { formed = d.formed; holds = d.holds; keeps = d.keeps }
     stmt_formed (StmtTree.send e) scope next good wide cov p g w part a kn sh =
         let r = flat_expr ws p w e g in
         let q = expr_grows ws p w e g in
-        let s = as_wide p.block (width_of ws e) 8 r (eqb-true (width_of ws e) 8 (right (is_good_expr ws scope e) _ good)) (expr_formed scope p w e g (left _ _ good) part wide kn (λ f h. sh f (cov f h)) a) in
+        let s = as_wide p.block (width_of ws e) 8 r (eqb-true (width_of ws e) 8 (and_second (is_good_expr ws scope e) _ good)) (expr_formed scope p w e g (and_first _ _ good) part wide kn (λ f h. sh f (cov f h)) a) in
         finished_made p g r.given w one r.id q a s.formed (constants_at p r.given w (ahead_later p g r.given w q s.formed a)).one s.ready
     stmt_formed StmtTree.drop scope next good wide cov p g w part a kn sh =
         let cs = constants_at p g w a in
@@ -814,8 +713,8 @@ module _ (m : Tree) (F : Program) (same_objects : F.objects ≡ m.objects) (base
     pub body_formed : (b : BodyTree) (scope : List ℕ) (next : ℕ) → is_good_body m scope next b ≡ true → Wide ws scope → ((f : Field) → is_in_body f b ≡ true → occurs f ≡ true) → IsMade scope (flat_body ws b)
     body_formed BodyTree.done scope next good wide cov p g w part a kn sh = nothing_made p g w a
     body_formed (BodyTree.stmt t b) scope next good wide cov p g w part a kn sh =
-        let first = left _ _ (left _ _ good) in
+        let first = and_first _ _ (and_first _ _ good) in
         in_order_made scope (binds t ++ scope) (flat_stmt ws t) (flat_body ws b)
-        (stmt_formed t scope next first wide (λ f h. cov f (or_left (is_in_stmt f t) (is_in_body f b) h))) (stmt_grows ws t) (knows_after t scope)
-        (body_formed b (binds t ++ scope) (next + declared_in t) (right _ _ good) (wide_both ws (binds t) scope (binds_wide m scope next t declared wide first) wide) (λ f h. cov f (or_right (is_in_stmt f t) (is_in_body f b) h)))
+        (stmt_formed t scope next first wide (λ f h. cov f (or_left (is_in_stmt f t) (is_in_body f b) h))) (stmt_grows ws t) (knows_after ws t scope)
+        (body_formed b (binds t ++ scope) (next + declared_in t) (and_second _ _ good) (wide_both ws (binds t) scope (binds_wide m scope next t declared wide first) wide) (λ f h. cov f (or_right (is_in_stmt f t) (is_in_body f b) h)))
         (body_grows ws b) p g w part a kn sh

@@ -14,16 +14,15 @@ use Rattle.flat_ir.specs.declared.program.FieldValue.{FieldValue}
 use Rattle.flat_ir.specs.Program as flat
 use Rattle.flat_ir.specs.Program.{Program}
 use Rattle.flat_ir.specs.WellFormed.{IsOutput, IsWritten, AreInOrder, IsWellFormed}
-use Rattle.flatten.specs.Flatten.{Given, Scoped, Merged, root, constants, emit, same_id, give_field, give_fields, arrived, start_view, end_of, flat_of, changed, all_changed}
+use Rattle.flatten.specs.Flatten.{Given, Scoped, Merged, root, constants, same_id, give_field, give_fields, arrived, start_view, end_of, flat_of, changed, all_changed}
 use Rattle.flatten.specs.Occurs.{is_in_body}
-use Rattle.flatten.proofs.BothParts.{left, right}
 use Rattle.packet_fields.specs.FieldOrder.{at_index, index-lt, length-all_fields}
-use Rattle.flatten.proofs.Growth.{Grows, grows, then_grows, emit_grows, body_grows}
-use Rattle.flatten.proofs.Meanings.{same_itself}
+use Rattle.flatten.proofs.Growth.{Grows, grows, then_grows, both_bits, emit_grows, empty, body_grows, zero_bit}
 use Rattle.flatten.proofs.Views.{HasId, IsThere}
-use Rattle.flatten.proofs.Written.{counted, all_counted}
+use Rattle.flatten.proofs.Written.{counted, all_counted, same_itself}
 use Rattle.flatten.proofs.Forming.{whole, IsPart, HasOption, AllHave, option_later, Ready, IsFormed, Open, open_more, emit_formed, given_ready, in_root, constants_ready, low_of}
 use Rattle.flatten.proofs.Formed.{Ahead, Made, body_formed}
+use Rattle.lemmas.proofs.Tests.{and_first, and_second}
 
 -- ## What comes first
 
@@ -77,16 +76,6 @@ module _ (F : Program) where
         there = there_at;
       }
 
-  -- the constants, given one after the other
-  abbrev empty : Given
-  empty = record { code = []; blocks = [] }
-
-  abbrev zero_bit : Given
-  zero_bit = emit root (flat.const 1 0) empty
-
-  abbrev both_bits : Given
-  both_bits = emit root (flat.const 1 1) zero_bit
-
   open_root : (g : Given) → Open F g 0
   open_root g = record { within = omega arith; before = (tt, tt) }
 
@@ -103,22 +92,18 @@ module _ (F : Program) where
 
 -- the value of a field that can't be written is still that of its instruction
 abbrev Fixed : List Field → List (Option ValueId) → List (Option ValueId) → Type 0
-Fixed [] before after = Unit {0}
-Fixed (f ∷ fs) [] after = Unit {0}
-Fixed (f ∷ fs) (a ∷ before) [] = Unit {0}
 Fixed (f ∷ fs) (a ∷ before) (b ∷ after) = ((row f).writable ≡ false → b ≡ a) × Fixed fs before after
+Fixed _ _ _ = Unit {0}
 
 fixed_at : (fs : List Field) (before after : List (Option ValueId)) → ((i : ℕ) → i < length fs → (row (get_or fs i MetaPort)).writable ≡ false → get_or after i None ≡ get_or before i None) → Fixed fs before after
-fixed_at [] before after h = tt
-fixed_at (f ∷ fs) [] after h = tt
-fixed_at (f ∷ fs) (a ∷ before) [] h = tt
 fixed_at (f ∷ fs) (a ∷ before) (b ∷ after) h = (h 0 (omega arith), fixed_at fs before after (λ i lt. h (suc i) (omega (arith, lt))))
+fixed_at _ _ _ h = tt
 
 counted_at : (k : ℕ) (fs : List Field) → counted k fs ≡ true → (i : ℕ) → i < length fs → field_index (get_or fs i MetaPort) ≡ k + i
 counted_at k [] c i lt = absurd (omega (arith, lt))
-counted_at k (f ∷ fs) c zero lt = let e = eqb-true (field_index f) k (left (field_index f == k) (counted (suc k) fs) c) in omega (arith, e)
+counted_at k (f ∷ fs) c zero lt = let e = eqb-true (field_index f) k (and_first (field_index f == k) (counted (suc k) fs) c) in omega (arith, e)
 counted_at k (f ∷ fs) c (suc i) lt =
-    let e = counted_at (suc k) fs (right (field_index f == k) (counted (suc k) fs) c) i (omega (arith, lt)) in
+    let e = counted_at (suc k) fs (and_second (field_index f == k) (counted (suc k) fs) c) i (omega (arith, lt)) in
     omega (arith, e)
 
 -- the fields come from this place on
@@ -131,9 +116,8 @@ from_more least least' [] le h = tt
 from_more least least' (w ∷ ws) le h = (omega (arith, h.0, le), h.1)
 
 from_order : (least : ℕ) (ws : List FieldValue) → From least ws → AreInOrder ws
-from_order least [] h = tt
-from_order least (w ∷ []) h = tt
 from_order least (w ∷ x ∷ ws) h = (h.1.0, from_order (suc (field_index w.field)) (x ∷ ws) h.1)
+from_order least _ h = tt
 
 by_test : (c : Bool) (k : ℕ) (f : Field) (v : ValueId) (rest : List FieldValue) → field_index f ≡ k → From (suc k) rest → From k (cond c [] (record { field = f; value = v } ∷ []) ++ rest)
 by_test true k f v rest e h = from_more k (suc k) rest (omega arith) h
@@ -145,12 +129,10 @@ one_from k f (Some a) None rest e h = from_more k (suc k) rest (omega arith) h
 one_from k f (Some a) (Some b) rest e h = by_test (same_id a b) k f b rest e h
 
 changed_from : (k : ℕ) (fs : List Field) (before after : List (Option ValueId)) → counted k fs ≡ true → From k (all_changed fs before after)
-changed_from k [] before after c = tt
-changed_from k (f ∷ fs) [] after c = tt
-changed_from k (f ∷ fs) (a ∷ before) [] c = tt
 changed_from k (f ∷ fs) (a ∷ before) (b ∷ after) c =
-    one_from k f a b (all_changed fs before after) (eqb-true (field_index f) k (left (field_index f == k) (counted (suc k) fs) c))
-    (changed_from (suc k) fs before after (right (field_index f == k) (counted (suc k) fs) c))
+    one_from k f a b (all_changed fs before after) (eqb-true (field_index f) k (and_first (field_index f == k) (counted (suc k) fs) c))
+    (changed_from (suc k) fs before after (and_second (field_index f == k) (counted (suc k) fs) c))
+changed_from k _ _ _ c = tt
 
 module _ (F : Program) (n : ℕ) where
   output : (w : ℕ) (v : ValueId) → Ready F 0 n w v → IsOutput F w v
@@ -169,15 +151,12 @@ module _ (F : Program) (n : ℕ) where
   written_case false f a b rest e h fixed all = (record { writable = may_write f a b (row f).writable refl e fixed; output = output (row f).width b h }, all)
 
   written_one : (f : Field) (a b : Option ValueId) (rest : List FieldValue) → HasOption (Ready F 0 n) (row f).width b → ((row f).writable ≡ false → b ≡ a) → Each (IsWritten F) rest → Each (IsWritten F) (changed f a b ++ rest)
-  written_one f None b rest h fixed all = all
-  written_one f (Some a) None rest h fixed all = all
   written_one f (Some a) (Some b) rest h fixed all = written_case (same_id a b) f a b rest refl h fixed all
+  written_one f _ _ rest h fixed all = all
 
   written_all : (fs : List Field) (before after : List (Option ValueId)) → AllHave (Ready F 0 n) (map (λ (f : Field). (row f).width) fs) after → Fixed fs before after → Each (IsWritten F) (all_changed fs before after)
-  written_all [] before after h fixed = tt
-  written_all (f ∷ fs) [] after h fixed = tt
-  written_all (f ∷ fs) (a ∷ before) [] h fixed = tt
   written_all (f ∷ fs) (a ∷ before) (b ∷ after) h fixed = written_one f a b (all_changed fs before after) h.0 fixed.0 (written_all fs before after h.1 fixed.1)
+  written_all _ _ _ h fixed = tt
 
 -- ## The whole
 
@@ -196,7 +175,7 @@ module _ (m : Tree) (good : is_good m ≡ true) where
   g1 = (end_of m).given
 
   declared : are_good_objects [] m.objects ≡ true
-  declared = left _ _ (left _ _ good)
+  declared = and_first _ _ (and_first _ _ good)
 
   part_end : IsPart F g1
   part_end = grows g1
@@ -241,7 +220,7 @@ module _ (m : Tree) (good : is_good m ≡ true) where
       came.there (field_index f) within (ap (λ h. is_in_body h m.body) (at_index f) ∙ e)
 
   made : Made m F refl base declared occurs 0 (start_view m) (end_of m)
-  made = body_formed m F refl base declared occurs m.body [] 0 (right _ _ good) tt (λ f h. h) root g0 (start_view m) part_end ahead tt shown
+  made = body_formed m F refl base declared occurs m.body [] 0 (and_second _ _ good) tt (λ f h. h) root g0 (start_view m) part_end ahead tt shown
 
   fixed_here : (i : ℕ) → i < length all_fields → (row (get_or all_fields i MetaPort)).writable ≡ false → get_or (end_of m).view.fields i None ≡ get_or (arrived m).ids i None
   fixed_here i lt not_it =

@@ -1,7 +1,7 @@
 -- Instructions and blocks that keep a flat program well formed.
-use Rattle.std.proofs.Common.{◌≡◌, ℕ, zero, suc, ◌<◌, ◌≤◌, ◌==◌, Bool, true, false, cond, List, [], ◌∷◌, ◌++◌, length, nat_lt, get_or, slice_index, Option, Some, None, refl, sym, ap, ◌∙◌, subst, arith, length-append, true≢false, eqb-true, eq-eqb, lit<, ◌⊎◌, inl, inr, ⊎_elim}
+use Rattle.std.proofs.Common.{◌≡◌, ℕ, zero, suc, ◌<◌, ◌≤◌, ◌==◌, Bool, true, false, cond, List, [], ◌∷◌, length, nat_lt, get_or, slice_index, Option, Some, None, refl, sym, ap, ◌∙◌, subst, arith, length-append, true≢false, eqb-true, eq-eqb, lit<, ◌⊎◌, inl, inr, ⊎_elim}
 use Rattle.std.proofs.Math.Seq.{get_or-append_seam}
-use Rattle.std.proofs.lemmas.Bool.{cases_lt, and_from, lt-ltb, or_cases}
+use Rattle.std.proofs.lemmas.Bool.{cases_lt, and_from, lt-ltb, or_cases, or_left, or_right}
 use Rattle.std.specs.List.{list_any, AllByRecursion as Each}
 use Rattle.std.proofs.lemmas.Option.{none-some, same_Some}
 use Rattle.flat_ir.specs.declared.program.ValueId.{ValueId}
@@ -13,19 +13,12 @@ use Rattle.flat_ir.specs.Fits.{fits, widths_of, same_widths}
 use Rattle.flat_ir.specs.WellFormed.{IsSeenFrom, IsInArm, SeesOperands, EachCondition}
 use Rattle.flatten.specs.declared.place.Place.{Place}
 use Rattle.flatten.specs.declared.place.Ending.{Ending}
-use Rattle.flatten.specs.declared.place.Ending.TheVariants.{No, Yes, Maybe}
+use Rattle.flatten.specs.declared.place.Ending.TheVariants.{No, Yes}
 use Rattle.flatten.specs.Flatten.{Given, Valued, Scoped, Merged, EndedAt, result_of, nought, one, nought_port, emit, give, opened, same_id, merge_id, merge_option, merge_ids, merge_ended, ended_id, select_ended, constants}
-use Rattle.flatten.proofs.Growth.{Grows, then_grows, blank_step, blank_block, merge_option_grows, merge_ids_grow}
-use Rattle.flatten.proofs.Views.{HasId, IsThere}
-use Rattle.flatten.proofs.Meanings.{same_ids, same_itself, or_left, or_right}
-
-each_map : {X : Type 0} (P Q : X → Type 0) → ((x : X) → P x → Q x) → (xs : List X) → Each P xs → Each Q xs
-each_map P Q go [] h = tt
-each_map P Q go (x ∷ xs) h = (go x h.0, each_map P Q go xs h.1)
-
-pub each_both : {X : Type 0} (P : X → Type 0) (xs ys : List X) → Each P xs → Each P ys → Each P (xs ++ ys)
-each_both P [] ys h h' = h'
-each_both P (x ∷ xs) ys h h' = (h.0, each_both P xs ys h.1 h')
+use Rattle.flatten.proofs.Growth.{Grows, then_grows, emit_length, blank_step, blank_block, merge_option_grows, merge_ids_grow}
+use Rattle.flatten.proofs.Views.{HasId, IsThere, there_cons, alike_cons}
+use Rattle.flatten.proofs.Written.{same_ids, same_itself}
+use Rattle.lemmas.proofs.Lists.{each_weaker}
 
 -- ## Values of variables
 
@@ -36,9 +29,8 @@ HasOption P w (Some v) = P w v
 -- there is a place for each width, and this holds of each value that is there
 abbrev pub AllHave : (ℕ → ValueId → Type 0) → List ℕ → List (Option ValueId) → Type 0
 AllHave P [] [] = Unit {0}
-AllHave P [] (i ∷ is) = ⊥
-AllHave P (w ∷ ws) [] = ⊥
 AllHave P (w ∷ ws) (i ∷ is) = HasOption P w i × AllHave P ws is
+AllHave _ _ _ = ⊥
 
 option_map : (P Q : ℕ → ValueId → Type 0) → ((w : ℕ) (v : ValueId) → P w v → Q w v) → (w : ℕ) (i : Option ValueId) → HasOption P w i → HasOption Q w i
 option_map P Q go w None h = tt
@@ -46,9 +38,8 @@ option_map P Q go w (Some v) h = go w v h
 
 pub all_map : (P Q : ℕ → ValueId → Type 0) → ((w : ℕ) (v : ValueId) → P w v → Q w v) → (ws : List ℕ) (is : List (Option ValueId)) → AllHave P ws is → AllHave Q ws is
 all_map P Q go [] [] h = tt
-all_map P Q go [] (i ∷ is) h = h
-all_map P Q go (w ∷ ws) [] h = h
 all_map P Q go (w ∷ ws) (i ∷ is) h = (option_map P Q go w i h.0, all_map P Q go ws is h.1)
+all_map _ _ go _ _ h = h
 
 module _ (F : Program) where
   abbrev pub whole : Given
@@ -120,7 +111,7 @@ module _ (F : Program) where
   condition_more n n' le (suc k) h = omega (arith, le, h)
 
   before_more : (n n' k : ℕ) → n ≤ n' → Before n k → Before n' k
-  before_more n n' k le h = each_map (EachCondition F (λ c. c.instruction < n)) (EachCondition F (λ c. c.instruction < n')) (condition_more n n' le) (line F.blocks k) h
+  before_more n n' k le h = each_weaker (EachCondition F (λ c. c.instruction < n)) (EachCondition F (λ c. c.instruction < n')) (condition_more n n' le) (line F.blocks k) h
 
   -- ## Values
 
@@ -205,9 +196,6 @@ module _ (F : Program) where
 
   abbrev step_in : Place → Work → Step
   step_in p work = record { block = p.block; looped = p.looped; work = work }
-
-  pub emit_length : (p : Place) (work : Work) (g : Given) → length (emit p work g).code ≡ suc (length g.code)
-  emit_length p work g = omega (arith, length-append g.code (step_in p work ∷ []))
 
   step_emitted : (p : Place) (work : Work) (g : Given) → IsPart (emit p work g) → step_at F (length g.code) ≡ step_in p work
   step_emitted p work g part =
@@ -418,22 +406,11 @@ module _ (F : Program) where
     pub there : (x : ℕ) → IsThere xs x → IsThere ys x → IsThere r.ids x
     pub alike : (x : ℕ) → get_or xs x None ≡ get_or ys x None → get_or r.ids x None ≡ get_or xs x None
 
-  there_cons : (i i' j : Option ValueId) (is is' js : List (Option ValueId)) → (HasId i → HasId i' → HasId j) → ((x : ℕ) → IsThere is x → IsThere is' x → IsThere js x) → (x : ℕ) → IsThere (i ∷ is) x → IsThere (i' ∷ is') x → IsThere (j ∷ js) x
-  there_cons i i' j is is' js here rest zero = here
-  there_cons i i' j is is' js here rest (suc x) = rest x
-
-  alike_cons : (i i' j : Option ValueId) (is is' js : List (Option ValueId)) → (i ≡ i' → j ≡ i) → ((x : ℕ) → get_or is x None ≡ get_or is' x None → get_or js x None ≡ get_or is x None)
-      → (x : ℕ) → get_or (i ∷ is) x None ≡ get_or (i' ∷ is') x None → get_or (j ∷ js) x None ≡ get_or (i ∷ is) x None
-  alike_cons i i' j is is' js here rest zero = here
-  alike_cons i i' j is is' js here rest (suc x) = rest x
-
   pub merge_ids_formed : (p : Place) (v : ValueId) (ws : List ℕ) (xs ys : List (Option ValueId)) (g : Given) → IsPart (merge_ids p v ws xs ys g).given → IsFormed g → Open g p.block → Ready p.block (length g.code) 1 v
       → AllHave (Sided p.block (length g.code) v true) ws xs → AllHave (Sided p.block (length g.code) v false) ws ys → ChosenAll p.block ws xs ys (merge_ids p v ws xs ys g)
   merge_ids_formed p v [] [] [] g part h open_ rv rx ry = record { formed = h; ready = tt; there = λ x i j. tt; alike = λ x e. refl }
-  merge_ids_formed p v [] [] (y ∷ ys) g part h open_ rv rx ry = absurd ry
   merge_ids_formed p v [] (x ∷ xs) ys g part h open_ rv rx ry = absurd rx
   merge_ids_formed p v (w ∷ ws) [] ys g part h open_ rv rx ry = absurd rx
-  merge_ids_formed p v (w ∷ ws) (x ∷ xs) [] g part h open_ rv rx ry = absurd ry
   merge_ids_formed p v (w ∷ ws) (x ∷ xs) (y ∷ ys) g part h open_ rv rx ry =
       let k = p.block in
       let n = length g.code in
@@ -453,6 +430,7 @@ module _ (F : Program) where
         there = there_cons x y r.id xs ys rest.ids s.there t.there;
         alike = alike_cons x y r.id xs ys rest.ids s.alike t.alike;
       }
+  merge_ids_formed p v _ _ _ g part h open_ rv rx ry = absurd ry
 
   -- whether the run has ended, of two states
   pub record ChosenEnd (k : ℕ) (r : EndedAt) : Type 0 where
@@ -473,9 +451,4 @@ module _ (F : Program) where
   merge_ended_formed p v No No g part h open_ cs rv rx ry = record { formed = h; ready = cs.nought }
   merge_ended_formed p v Yes Yes g part h open_ cs rv rx ry = record { formed = h; ready = cs.one }
   merge_ended_formed p v Yes No g part h open_ cs rv rx ry = record { formed = h; ready = rv }
-  merge_ended_formed p v No Yes g part h open_ cs rv rx ry = end_select p v No Yes g part h open_ rv rx ry
-  merge_ended_formed p v No (Maybe u) g part h open_ cs rv rx ry = end_select p v No (Maybe u) g part h open_ rv rx ry
-  merge_ended_formed p v Yes (Maybe u) g part h open_ cs rv rx ry = end_select p v Yes (Maybe u) g part h open_ rv rx ry
-  merge_ended_formed p v (Maybe t) No g part h open_ cs rv rx ry = end_select p v (Maybe t) No g part h open_ rv rx ry
-  merge_ended_formed p v (Maybe t) Yes g part h open_ cs rv rx ry = end_select p v (Maybe t) Yes g part h open_ rv rx ry
-  merge_ended_formed p v (Maybe t) (Maybe u) g part h open_ cs rv rx ry = end_select p v (Maybe t) (Maybe u) g part h open_ rv rx ry
+  merge_ended_formed p v x y g part h open_ cs rv rx ry = end_select p v x y g part h open_ rv rx ry

@@ -1,14 +1,14 @@
 -- The expressions of a middlebox that keeps the rules have bits, and its looks bind few locals.
-use Rattle.std.proofs.Common.{◌≡◌, ◌≤◌, ◌+◌, ℕ, zero, suc, Bool, true, ◌==◌, ◌&&◌, List, [], ◌∷◌, ◌++◌, length, map, nat_le, Option, Some, None, slice_get, slice_index, refl, sym, ap, subst, arith, true≢false, ⊎_elim}
-use Rattle.std.proofs.lemmas.Bool.{leb-true, eqb-true, or_cases, and_parts, false≢true}
+use Rattle.std.proofs.Common.{◌≡◌, ◌≤◌, ◌+◌, ℕ, zero, suc, true, ◌==◌, List, [], ◌∷◌, ◌++◌, length, map, nat_le, Option, Some, None, slice_get, slice_index, refl, sym, ap, subst, arith, true≢false, ⊎_elim}
+use Rattle.std.proofs.lemmas.Bool.{leb-true, eqb-true, or_cases, false≢true}
 use Rattle.std.specs.List.{list_any, list_all}
 use Rattle.gal_bits.specs.declared.op.Op.{Op}
-use Rattle.gal_bits.specs.declared.op.Op.TheVariants.{Add, Sub, Mul, Div, Rem, And, Or, Xor, Not, Shl, Shr, Eq, Ne, Lt, Le, Cast, Select, Adjust}
+use Rattle.gal_bits.specs.declared.op.Op.TheVariants.{Not, Shl, Shr, Eq, Ne, Lt, Le, Cast, Select, Adjust}
 use Rattle.packet_fields.specs.declared.field.Field.{Field}
 use Rattle.packet_fields.specs.FieldOrder.{width_range}
 use Rattle.packet_fields.specs.Table.{row}
 use Rattle.state_store.specs.declared.object.Kind.{Kind}
-use Rattle.state_store.specs.declared.object.Kind.TheVariants.{Table, Map, Vector, Int}
+use Rattle.state_store.specs.declared.object.Kind.TheVariants.{Int}
 use Rattle.state_store.specs.declared.object.ObjectDecl.{ObjectDecl}
 use Rattle.element_lang.specs.Tree.{ExprTree, Exprs, StmtTree, BodyTree, Tree}
 use Rattle.element_lang.specs.Tree.ExprTree.{lit, local, field, byte, shift, apply}
@@ -18,12 +18,7 @@ use Rattle.element_lang.specs.Tree.BodyTree.{done, stmt}
 use Rattle.element_lang.specs.Widths.{local_widths, width_of}
 use Rattle.element_lang.specs.Rules.{widths_of, same_widths, fits_operator, is_good_expr, are_good_exprs, is_good_stmt, is_good_body, is_good, fits_values, are_widths, is_good_object, are_good_objects, declared_in, declared_by, binds, is_width}
 use Rattle.flatten.specs.Sized.{IsSizedExpr, AreSizedExprs, IsSizedStmt, IsSizedBody}
-
-left : (a b : Bool) → (a && b) ≡ true → a ≡ true
-left a b h = (and_parts a b h).0
-
-right : (a b : Bool) → (a && b) ≡ true → b ≡ true
-right a b h = (and_parts a b h).1
+use Rattle.lemmas.proofs.Tests.{and_first, and_second}
 
 -- each local in scope has bits
 abbrev pub Wide : List ℕ → List ℕ → Type 0
@@ -49,66 +44,56 @@ AllWide (w ∷ ws) = (1 ≤ w) × AllWide ws
 
 first_wide : (ls : List ℕ) (width : ℕ) (more : List ℕ) → AllWide ls → same_widths ls (width ∷ more) ≡ true → 1 ≤ width
 first_wide [] width more w h = absurd (true≢false (sym h))
-first_wide (l ∷ ls) width more w h = subst (λ n. 1 ≤ n) (eqb-true l width (left (l == width) _ h)) w.0
+first_wide (l ∷ ls) width more w h = subst (λ n. 1 ≤ n) (eqb-true l width (and_first (l == width) _ h)) w.0
 
 second_wide : (ls : List ℕ) (bit width : ℕ) (more : List ℕ) → AllWide ls → same_widths ls (bit ∷ width ∷ more) ≡ true → 1 ≤ width
 second_wide [] bit width more w h = absurd (true≢false (sym h))
-second_wide (l ∷ ls) bit width more w h = first_wide ls width more w.1 (right (l == bit) _ h)
+second_wide (l ∷ ls) bit width more w h = first_wide ls width more w.1 (and_second (l == bit) _ h)
 
 op_wide : (op : Op) (width : ℕ) (ls : List ℕ) → AllWide ls → fits_operator op width ls ≡ true → 1 ≤ width
-op_wide Add width ls w h = first_wide ls width (width ∷ []) w h
-op_wide Sub width ls w h = first_wide ls width (width ∷ []) w h
-op_wide Mul width ls w h = first_wide ls width (width ∷ []) w h
-op_wide Div width ls w h = first_wide ls width (width ∷ []) w h
-op_wide Rem width ls w h = first_wide ls width (width ∷ []) w h
-op_wide And width ls w h = first_wide ls width (width ∷ []) w h
-op_wide Or width ls w h = first_wide ls width (width ∷ []) w h
-op_wide Xor width ls w h = first_wide ls width (width ∷ []) w h
 op_wide Not width ls w h = first_wide ls width [] w h
 op_wide Shl width ls w h = absurd (true≢false (sym h))
 op_wide Shr width ls w h = absurd (true≢false (sym h))
-op_wide Eq width ls w h = let e = eqb-true width 1 (left (width == 1) _ h) in omega arith
-op_wide Ne width ls w h = let e = eqb-true width 1 (left (width == 1) _ h) in omega arith
-op_wide Lt width ls w h = let e = eqb-true width 1 (left (width == 1) _ h) in omega arith
-op_wide Le width ls w h = let e = eqb-true width 1 (left (width == 1) _ h) in omega arith
-op_wide Cast width ls w h = leb-true 1 width (left _ _ (left (is_width width) _ h))
+op_wide Eq width ls w h = let e = eqb-true width 1 (and_first (width == 1) _ h) in omega arith
+op_wide Ne width ls w h = let e = eqb-true width 1 (and_first (width == 1) _ h) in omega arith
+op_wide Lt width ls w h = let e = eqb-true width 1 (and_first (width == 1) _ h) in omega arith
+op_wide Le width ls w h = let e = eqb-true width 1 (and_first (width == 1) _ h) in omega arith
+op_wide Cast width ls w h = leb-true 1 width (and_first _ _ (and_first (is_width width) _ h))
 op_wide Select width ls w h = second_wide ls 1 width (width ∷ []) w h
-op_wide Adjust width ls w h = let e = eqb-true width 16 (left (width == 16) _ h) in omega arith
+op_wide Adjust width ls w h = let e = eqb-true width 16 (and_first (width == 16) _ h) in omega arith
+op_wide _ width ls w h = first_wide ls width (width ∷ []) w h
 
 mutual
   pub expr_wide : (ws scope : List ℕ) (e : ExprTree) → Wide ws scope → is_good_expr ws scope e ≡ true → 1 ≤ width_of ws e
-  expr_wide ws scope (lit value width) w h = leb-true 1 width (left _ _ (left (is_width width) _ h))
+  expr_wide ws scope (lit value width) w h = leb-true 1 width (and_first _ _ (and_first (is_width width) _ h))
   expr_wide ws scope (local x) w h = wide_in ws scope x h w
   expr_wide ws scope (field f) w h = field_wide f
   expr_wide ws scope (byte index) w h = omega arith
-  expr_wide ws scope (shift op by arg) w h = expr_wide ws scope arg w (right _ (is_good_expr ws scope arg) h)
+  expr_wide ws scope (shift op by arg) w h = expr_wide ws scope arg w (and_second _ (is_good_expr ws scope arg) h)
   expr_wide ws scope (apply op width args) w h =
-      op_wide op width (widths_of ws args) (exprs_wide ws scope args w (left (are_good_exprs ws scope args) _ h)) (right _ (fits_operator op width (widths_of ws args)) h)
+      op_wide op width (widths_of ws args) (exprs_wide ws scope args w (and_first (are_good_exprs ws scope args) _ h)) (and_second _ (fits_operator op width (widths_of ws args)) h)
 
   exprs_wide : (ws scope : List ℕ) (es : Exprs) → Wide ws scope → are_good_exprs ws scope es ≡ true → AllWide (widths_of ws es)
   exprs_wide ws scope no_expr w h = tt
-  exprs_wide ws scope (expr e es) w h = (expr_wide ws scope e w (left (is_good_expr ws scope e) _ h), exprs_wide ws scope es w (right _ (are_good_exprs ws scope es) h))
+  exprs_wide ws scope (expr e es) w h = (expr_wide ws scope e w (and_first (is_good_expr ws scope e) _ h), exprs_wide ws scope es w (and_second _ (are_good_exprs ws scope es) h))
 
 mutual
   expr_sized : (ws scope : List ℕ) (e : ExprTree) → Wide ws scope → is_good_expr ws scope e ≡ true → IsSizedExpr ws e
-  expr_sized ws scope (lit value width) w h = tt
-  expr_sized ws scope (local x) w h = tt
-  expr_sized ws scope (field f) w h = tt
-  expr_sized ws scope (byte index) w h = expr_sized ws scope index w (left (is_good_expr ws scope index) _ h)
+  expr_sized ws scope (byte index) w h = expr_sized ws scope index w (and_first (is_good_expr ws scope index) _ h)
   expr_sized ws scope (shift op by arg) w h =
-      (expr_wide ws scope arg w (right _ (is_good_expr ws scope arg) h), expr_sized ws scope arg w (right _ (is_good_expr ws scope arg) h))
-  expr_sized ws scope (apply op width args) w h = exprs_sized ws scope args w (left (are_good_exprs ws scope args) _ h)
+      (expr_wide ws scope arg w (and_second _ (is_good_expr ws scope arg) h), expr_sized ws scope arg w (and_second _ (is_good_expr ws scope arg) h))
+  expr_sized ws scope (apply op width args) w h = exprs_sized ws scope args w (and_first (are_good_exprs ws scope args) _ h)
+  expr_sized ws scope _ w h = tt
 
   exprs_sized : (ws scope : List ℕ) (es : Exprs) → Wide ws scope → are_good_exprs ws scope es ≡ true → AreSizedExprs ws es
   exprs_sized ws scope no_expr w h = tt
-  exprs_sized ws scope (expr e es) w h = (expr_sized ws scope e w (left (is_good_expr ws scope e) _ h), exprs_sized ws scope es w (right _ (are_good_exprs ws scope es) h))
+  exprs_sized ws scope (expr e es) w h = (expr_sized ws scope e w (and_first (is_good_expr ws scope e) _ h), exprs_sized ws scope es w (and_second _ (are_good_exprs ws scope es) h))
 
 -- the values of a declared object are few, and have bits
 same_length : (xs ys : List ℕ) → same_widths xs ys ≡ true → length xs ≡ length ys
 same_length [] [] h = refl
-same_length [] (y ∷ ys) h = absurd (true≢false (sym h))
-same_length (x ∷ xs) [] h = absurd (true≢false (sym h))
-same_length (x ∷ xs) (y ∷ ys) h = ap suc (same_length xs ys (right (x == y) (same_widths xs ys) h))
+same_length (x ∷ xs) (y ∷ ys) h = ap suc (same_length xs ys (and_second (x == y) (same_widths xs ys) h))
+same_length _ _ h = absurd (true≢false (sym h))
 
 record HasFew (o : ObjectDecl) : Type 0 where
   few : length o.values ≤ 8
@@ -116,31 +101,29 @@ record HasFew (o : ObjectDecl) : Type 0 where
 
 all_wide : (ws : List ℕ) → list_all is_width ws ≡ true → AllWide ws
 all_wide [] h = tt
-all_wide (w ∷ ws) h = (leb-true 1 w (left _ _ (left (is_width w) _ h)), all_wide ws (right _ (list_all is_width ws) h))
+all_wide (w ∷ ws) h = (leb-true 1 w (and_first _ _ (and_first (is_width w) _ h)), all_wide ws (and_second _ (list_all is_width ws) h))
 
 of_widths : (o : ObjectDecl) → are_widths o.values ≡ true → HasFew o
 of_widths o h = record {
-  few = leb-true (length o.values) 8 (right _ (nat_le (length o.values) 8) (left _ _ (left _ _ h)));
-  wide = all_wide o.values (right _ (list_all is_width o.values) (left _ _ h));
+  few = leb-true (length o.values) 8 (and_second _ (nat_le (length o.values) 8) (and_first _ _ (and_first _ _ h)));
+  wide = all_wide o.values (and_second _ (list_all is_width o.values) (and_first _ _ h));
 }
 
 wide_from : (ws vs : List ℕ) → same_widths ws vs ≡ true → AllWide vs → AllWide ws
 wide_from [] vs h w = tt
 wide_from (x ∷ ws) [] h w = absurd (true≢false (sym h))
-wide_from (x ∷ ws) (v ∷ vs) h w = (subst (λ n. 1 ≤ n) (sym (eqb-true x v (left (x == v) _ h))) w.0, wide_from ws vs (right _ (same_widths ws vs) h) w.1)
+wide_from (x ∷ ws) (v ∷ vs) h w = (subst (λ n. 1 ≤ n) (sym (eqb-true x v (and_first (x == v) _ h))) w.0, wide_from ws vs (and_second _ (same_widths ws vs) h) w.1)
 
 object_few : (kind : Kind) (o : ObjectDecl) → is_good_object kind o ≡ true → HasFew o
-object_few Table o h = of_widths o (right _ (are_widths o.values) (left _ _ (left _ _ (left _ _ h))))
-object_few Map o h = of_widths o (right _ (are_widths o.values) (left _ _ (left _ _ (left _ _ h))))
-object_few Vector o h = of_widths o (right _ (are_widths o.values) (left _ _ (left _ _ (left _ _ h))))
 object_few Int o h =
-    let three = left _ _ (left _ _ (left _ _ h)) in
-    let same = right _ (same_widths o.values (slice_index o.values 0 ∷ [])) (left _ _ three) in
+    let three = and_first _ _ (and_first _ _ (and_first _ _ h)) in
+    let same = and_second _ (same_widths o.values (slice_index o.values 0 ∷ [])) (and_first _ _ three) in
     let one = same_length o.values (slice_index o.values 0 ∷ []) same in
     record {
       few = omega arith;
-      wide = wide_from o.values (slice_index o.values 0 ∷ []) same (leb-true 1 (slice_index o.values 0) (left _ _ (right _ (is_width (slice_index o.values 0)) three)), tt);
+      wide = wide_from o.values (slice_index o.values 0 ∷ []) same (leb-true 1 (slice_index o.values 0) (and_first _ _ (and_second _ (is_width (slice_index o.values 0)) three)), tt);
     }
+object_few _ o h = of_widths o (and_second _ (are_widths o.values) (and_first _ _ (and_first _ _ (and_first _ _ h))))
 
 abbrev or_else : {X : Type 0} → X → Option X → X
 or_else d None = d
@@ -148,8 +131,8 @@ or_else d (Some x) = x
 
 objects_few : (names : List (List ℕ)) (os : List ObjectDecl) (n : ℕ) (o : ObjectDecl) → are_good_objects names os ≡ true → slice_get os n ≡ Some o → HasFew o
 objects_few names [] n o h got = cc
-objects_few names (x ∷ xs) zero o h got = subst HasFew (ap (or_else o) got) (object_few x.kind x (left (is_good_object x.kind x) _ (left _ _ h)))
-objects_few names (x ∷ xs) (suc n) o h got = objects_few (x.name ∷ names) xs n o (right _ (are_good_objects (x.name ∷ names) xs) h) got
+objects_few names (x ∷ xs) zero o h got = subst HasFew (ap (or_else o) got) (object_few x.kind x (and_first (is_good_object x.kind x) _ (and_first _ _ h)))
+objects_few names (x ∷ xs) (suc n) o h got = objects_few (x.name ∷ names) xs n o (and_second _ (are_good_objects (x.name ∷ names) xs) h) got
 
 record BindsFew (ws into : List ℕ) : Type 0 where
   few : length into ≤ 8
@@ -159,7 +142,7 @@ into_wide : (ws into vs : List ℕ) → same_widths (map (slice_index ws) into) 
 into_wide ws [] vs h w = tt
 into_wide ws (x ∷ into) [] h w = absurd (true≢false (sym h))
 into_wide ws (x ∷ into) (v ∷ vs) h w =
-    (subst (λ n. 1 ≤ n) (sym (eqb-true (slice_index ws x) v (left (slice_index ws x == v) _ h))) w.0, into_wide ws into vs (right _ (same_widths (map (slice_index ws) into) vs) h) w.1)
+    (subst (λ n. 1 ≤ n) (sym (eqb-true (slice_index ws x) v (and_first (slice_index ws x == v) _ h))) w.0, into_wide ws into vs (and_second _ (same_widths (map (slice_index ws) into) vs) h) w.1)
 
 length_map : (f : ℕ → ℕ) (xs : List ℕ) → length (map f xs) ≡ length xs
 length_map f [] = refl
@@ -182,50 +165,45 @@ one_wide ws x h = let e = eqb-true (slice_index ws x) 1 h in omega arith
 -- what a statement declares has bits
 pub binds_wide : (m : Tree) (scope : List ℕ) (next : ℕ) (s : StmtTree) → are_good_objects [] m.objects ≡ true → Wide (local_widths m) scope → is_good_stmt m scope next s ≡ true → Wide (local_widths m) (binds s)
 binds_wide m scope next (let_local x value) good w h =
-    let two = left _ _ (left _ _ h) in
-    (subst (λ n. 1 ≤ n) (sym (eqb-true (slice_index (local_widths m) x) (width_of (local_widths m) value) (right _ _ two))) (expr_wide (local_widths m) scope value w (left _ _ two)), tt)
-binds_wide m scope next (assign x value) good w h = tt
-binds_wide m scope next (set_field f value) good w h = tt
+    let two = and_first _ _ (and_first _ _ h) in
+    (subst (λ n. 1 ≤ n) (sym (eqb-true (slice_index (local_widths m) x) (width_of (local_widths m) value) (and_second _ _ two))) (expr_wide (local_widths m) scope value w (and_first _ _ two)), tt)
 binds_wide m scope next (look found into object keys) good w h =
-    let three = left _ _ (left _ _ h) in
-    (one_wide (local_widths m) found (right _ _ three), (binds_few m object (local_widths m) into good (right _ _ (left _ _ three))).wide)
-binds_wide m scope next (put ok object keys values) good w h = (one_wide (local_widths m) ok (right _ _ (left _ _ (left _ _ h))), tt)
-binds_wide m scope next (del was object keys) good w h = (one_wide (local_widths m) was (right _ _ (left _ _ (left _ _ h))), tt)
-binds_wide m scope next (choose cond first second) good w h = tt
-binds_wide m scope next (repeat index count body) good w h = tt
-binds_wide m scope next (send port) good w h = tt
-binds_wide m scope next drop good w h = tt
+    let three = and_first _ _ (and_first _ _ h) in
+    (one_wide (local_widths m) found (and_second _ _ three), (binds_few m object (local_widths m) into good (and_second _ _ (and_first _ _ three))).wide)
+binds_wide m scope next (put ok object keys values) good w h = (one_wide (local_widths m) ok (and_second _ _ (and_first _ _ (and_first _ _ h))), tt)
+binds_wide m scope next (del was object keys) good w h = (one_wide (local_widths m) was (and_second _ _ (and_first _ _ (and_first _ _ h))), tt)
+binds_wide m scope next _ good w h = tt
 
 mutual
   stmt_sized : (m : Tree) (scope : List ℕ) (next : ℕ) (s : StmtTree) → are_good_objects [] m.objects ≡ true → Wide (local_widths m) scope → is_good_stmt m scope next s ≡ true → IsSizedStmt (local_widths m) s
-  stmt_sized m scope next (let_local x value) good w h = expr_sized (local_widths m) scope value w (left _ _ (left _ _ (left _ _ h)))
-  stmt_sized m scope next (assign x value) good w h = expr_sized (local_widths m) scope value w (left _ _ (left _ _ h))
-  stmt_sized m scope next (set_field f value) good w h = expr_sized (local_widths m) scope value w (left _ _ (left _ _ h))
+  stmt_sized m scope next (let_local x value) good w h = expr_sized (local_widths m) scope value w (and_first _ _ (and_first _ _ (and_first _ _ h)))
+  stmt_sized m scope next (assign x value) good w h = expr_sized (local_widths m) scope value w (and_first _ _ (and_first _ _ h))
+  stmt_sized m scope next (set_field f value) good w h = expr_sized (local_widths m) scope value w (and_first _ _ (and_first _ _ h))
   stmt_sized m scope next (look found into object keys) good w h =
-      let three = left _ _ (left _ _ h) in
-      (exprs_sized (local_widths m) scope keys w (left _ _ (left _ _ (left _ _ three))), (binds_few m object (local_widths m) into good (right _ _ (left _ _ three))).few)
+      let three = and_first _ _ (and_first _ _ h) in
+      (exprs_sized (local_widths m) scope keys w (and_first _ _ (and_first _ _ (and_first _ _ three))), (binds_few m object (local_widths m) into good (and_second _ _ (and_first _ _ three))).few)
   stmt_sized m scope next (put ok object keys values) good w h =
-      let two = left _ _ (left _ _ (left _ _ (left _ _ (left _ _ (left _ _ h))))) in
-      (exprs_sized (local_widths m) scope keys w (left _ _ two), exprs_sized (local_widths m) scope values w (right _ _ two))
+      let two = and_first _ _ (and_first _ _ (and_first _ _ (and_first _ _ (and_first _ _ (and_first _ _ h))))) in
+      (exprs_sized (local_widths m) scope keys w (and_first _ _ two), exprs_sized (local_widths m) scope values w (and_second _ _ two))
   stmt_sized m scope next (del was object keys) good w h =
-      let three = left _ _ (left _ _ (left _ _ h)) in
-      exprs_sized (local_widths m) scope keys w (left _ _ (left _ _ three))
+      let three = and_first _ _ (and_first _ _ (and_first _ _ h)) in
+      exprs_sized (local_widths m) scope keys w (and_first _ _ (and_first _ _ three))
   stmt_sized m scope next (choose cond first second) good w h =
-      let three = left _ _ h in
-      (expr_sized (local_widths m) scope cond w (left _ _ (left _ _ three)), body_sized m scope next first good w (right _ _ three), body_sized m scope (next + declared_by first) second good w (right _ _ h))
+      let three = and_first _ _ h in
+      (expr_sized (local_widths m) scope cond w (and_first _ _ (and_first _ _ three)), body_sized m scope next first good w (and_second _ _ three), body_sized m scope (next + declared_by first) second good w (and_second _ _ h))
   stmt_sized m scope next (repeat index count body) good w h =
-      let four = left _ _ (left _ _ (left _ _ h)) in
-      let e = eqb-true (slice_index (local_widths m) index) 32 (right _ _ four) in
-      body_sized m (index ∷ scope) (next + 1) body good (omega (arith, e), w) (right _ _ h)
-  stmt_sized m scope next (send port) good w h = expr_sized (local_widths m) scope port w (left _ _ h)
+      let four = and_first _ _ (and_first _ _ (and_first _ _ h)) in
+      let e = eqb-true (slice_index (local_widths m) index) 32 (and_second _ _ four) in
+      body_sized m (index ∷ scope) (next + 1) body good (omega (arith, e), w) (and_second _ _ h)
+  stmt_sized m scope next (send port) good w h = expr_sized (local_widths m) scope port w (and_first _ _ h)
   stmt_sized m scope next drop good w h = tt
 
   body_sized : (m : Tree) (scope : List ℕ) (next : ℕ) (b : BodyTree) → are_good_objects [] m.objects ≡ true → Wide (local_widths m) scope → is_good_body m scope next b ≡ true → IsSizedBody (local_widths m) b
   body_sized m scope next done good w h = tt
   body_sized m scope next (stmt s b) good w h =
-      let first = left _ _ (left _ _ h) in
-      (stmt_sized m scope next s good w first, body_sized m (binds s ++ scope) (next + declared_in s) b good (wide_both (local_widths m) (binds s) scope (binds_wide m scope next s good w first) w) (right _ _ h))
+      let first = and_first _ _ (and_first _ _ h) in
+      (stmt_sized m scope next s good w first, body_sized m (binds s ++ scope) (next + declared_in s) b good (wide_both (local_widths m) (binds s) scope (binds_wide m scope next s good w first) w) (and_second _ _ h))
 
 -- the whole middlebox
 pub good_sized : (m : Tree) → is_good m ≡ true → IsSizedBody (local_widths m) m.body
-good_sized m h = body_sized m [] 0 m.body (left _ _ (left _ _ h)) tt (right _ _ h)
+good_sized m h = body_sized m [] 0 m.body (and_first _ _ (and_first _ _ h)) tt (and_second _ _ h)

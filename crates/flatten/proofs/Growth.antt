@@ -1,8 +1,8 @@
 -- What is given only grows.
-use Rattle.std.proofs.Common.{◌≡◌, ℕ, zero, suc, ◌≤◌, ◌<◌, Bool, true, false, List, [], ◌∷◌, length, get_or, Option, Some, None, refl, ◌∙◌, subst, arith, length-append, cond}
+use Rattle.std.proofs.Common.{◌≡◌, ℕ, zero, suc, ◌≤◌, ◌<◌, Bool, true, false, List, [], ◌∷◌, length, get_or, Option, Some, refl, ◌∙◌, subst, arith, length-append, cond}
 use Rattle.std.proofs.Math.ListN.{get_or-append}
 use Rattle.element_lang.specs.Tree.{ExprTree, Exprs, StmtTree, BodyTree}
-use Rattle.element_lang.specs.Tree.ExprTree.{lit, local, field, byte, shift, apply}
+use Rattle.element_lang.specs.Tree.ExprTree.{lit, byte, shift, apply}
 use Rattle.element_lang.specs.Tree.Exprs.{no_expr, expr}
 use Rattle.element_lang.specs.Tree.StmtTree.{let_local, assign, set_field, look, put, del, choose, repeat, send, drop}
 use Rattle.element_lang.specs.Tree.BodyTree.{done, stmt}
@@ -18,7 +18,7 @@ use Rattle.flatten.specs.declared.error.FlatError.TheVariants.{TooLarge, NoMemor
 use Rattle.flatten.specs.declared.place.Ending.{Ending}
 use Rattle.flatten.specs.declared.place.Ending.TheVariants.{No, Yes, Maybe}
 use Rattle.flatten.specs.declared.place.Place.{Place}
-use Rattle.flatten.specs.Flatten.{Given, View, At, Valued, Flattener, emit, give, opened, below, flat_expr, flat_exprs, operation, same_id, merge_id, merge_option, merge_ids, field_widths, merge, merge_ended, ends, select_ended, join, follow, go_on, in_order, bound, flat_turn, flat_turns, looping, second_side, flat_stmt, flat_body}
+use Rattle.flatten.specs.Flatten.{Given, View, At, root, Valued, Flattener, emit, give, opened, below, flat_expr, flat_exprs, operation, same_id, merge_id, merge_option, merge_ids, field_widths, merge, merge_ended, ends, select_ended, join, follow, go_on, in_order, bound, flat_turn, flat_turns, looping, second_side, flat_stmt, flat_body}
 use Rattle.flatten.specs.Over.{IsOver}
 use Rattle.flatten.specs.Pending.{first_at, rest_at}
 use Rattle.flatten.specs.declared.stretch.Pending.{Pending}
@@ -26,6 +26,19 @@ use Rattle.flatten.specs.Open.{closed, outermost}
 
 abbrev pub size : Given → ℕ
 size g = length g.code
+
+pub emit_length : (p : Place) (work : Work) (g : Given) → length (emit p work g).code ≡ suc (length g.code)
+emit_length p work g = omega (arith, length-append g.code (record { block = p.block; looped = p.looped; work = work } ∷ []))
+
+-- the constants, given one after the other
+abbrev pub empty : Given
+empty = record { code = []; blocks = [] }
+
+abbrev pub zero_bit : Given
+zero_bit = emit root (flat.const 1 0) empty
+
+abbrev pub both_bits : Given
+both_bits = emit root (flat.const 1 1) zero_bit
 
 abbrev pub blank_step : Step
 blank_step = record { block = 0; looped = false; work = flat.const 1 0 }
@@ -69,8 +82,6 @@ open_grows p cond polarity g =
 mutual
   pub expr_grows : (ws : List ℕ) (p : Place) (w : View) (e : ExprTree) (g : Given) → Grows g (flat_expr ws p w e g).given
   expr_grows ws p w (lit value width) g = emit_grows p (flat.const width value) g
-  expr_grows ws p w (local x) g = grows g
-  expr_grows ws p w (field f) g = grows g
   expr_grows ws p w (byte index) g =
       let r = flat_expr ws p w index g in
       then_grows g r.given (emit p (flat.byte r.id) r.given) (expr_grows ws p w index g) (emit_grows p (flat.byte r.id) r.given)
@@ -82,6 +93,7 @@ mutual
       let r = flat_exprs ws p w args g in
       let work = operation op width r.ids in
       then_grows g r.given (emit p work r.given) (exprs_grow ws p w args g) (emit_grows p work r.given)
+  expr_grows ws p w _ g = grows g
 
   pub exprs_grow : (ws : List ℕ) (p : Place) (w : View) (es : Exprs) (g : Given) → Grows g (flat_exprs ws p w es g).given
   exprs_grow ws p w no_expr g = grows g
@@ -97,17 +109,14 @@ pub merge_id_grows : (p : Place) (v : ValueId) (width : ℕ) (a b : ValueId) (g 
 merge_id_grows p v width a b g = by_test (same_id a b) p (flat.select width v a b) a g
 
 pub merge_option_grows : (p : Place) (v : ValueId) (width : ℕ) (a b : Option ValueId) (g : Given) → Grows g (merge_option p v width a b g).given
-merge_option_grows p v width None b g = grows g
-merge_option_grows p v width (Some a) None g = grows g
 merge_option_grows p v width (Some a) (Some b) g = merge_id_grows p v width a b g
+merge_option_grows p v width _ _ g = grows g
 
 pub merge_ids_grow : (p : Place) (v : ValueId) (ws : List ℕ) (xs ys : List (Option ValueId)) (g : Given) → Grows g (merge_ids p v ws xs ys g).given
-merge_ids_grow p v [] xs ys g = grows g
-merge_ids_grow p v (width ∷ ws) [] ys g = grows g
-merge_ids_grow p v (width ∷ ws) (a ∷ xs) [] g = grows g
 merge_ids_grow p v (width ∷ ws) (a ∷ xs) (b ∷ ys) g =
     let r = merge_option p v width a b g in
     then_grows g r.given (merge_ids p v ws xs ys r.given).given (merge_option_grows p v width a b g) (merge_ids_grow p v ws xs ys r.given)
+merge_ids_grow p v _ _ _ g = grows g
 
 pub merge_grows : (ws : List ℕ) (p : Place) (v : ValueId) (a b : View) (g : Given) → Grows g (merge ws p v a b g).given
 merge_grows ws p v a b g =
@@ -126,12 +135,7 @@ pub merge_ended_grows : (p : Place) (v : ValueId) (a b : Ending) (g : Given) →
 merge_ended_grows p v No No g = grows g
 merge_ended_grows p v Yes Yes g = grows g
 merge_ended_grows p v Yes No g = grows g
-merge_ended_grows p v No Yes g = select_grows p v No Yes g
-merge_ended_grows p v No (Maybe u) g = select_grows p v No (Maybe u) g
-merge_ended_grows p v Yes (Maybe u) g = select_grows p v Yes (Maybe u) g
-merge_ended_grows p v (Maybe t) No g = select_grows p v (Maybe t) No g
-merge_ended_grows p v (Maybe t) Yes g = select_grows p v (Maybe t) Yes g
-merge_ended_grows p v (Maybe t) (Maybe u) g = select_grows p v (Maybe t) (Maybe u) g
+merge_ended_grows p v a b g = select_grows p v a b g
 
 pub join_grows : (ws : List ℕ) (p : Place) (v : ValueId) (a : View) (b : At) → Grows b.given (join ws p v a b).given
 join_grows ws p v a b =

@@ -19,7 +19,7 @@ use Rattle.flatten.specs.declared.place.Place.{Place}
 use Rattle.flatten.specs.Flatten.{Given, View, At, join, same_id, give, merge_option, merge_ids, kept, in_scope, leave}
 use Rattle.flatten.specs.Journal.{Past, before, undone, with_locals, entry_locals, value_or_none, change_at, second_at, with_first, IsOther, AreRising, AreOn, AreSides, AreAssigned, merge_each, merge_rest, leave_each}
 use Rattle.flatten.specs.Pending.{placed, scoped, merged, valued}
-use Rattle.flatten.proofs.Meanings.{same_itself}
+use Rattle.flatten.proofs.Written.{same_itself}
 
 abbrev Ids : Type 0
 Ids = List (Option ValueId)
@@ -128,21 +128,18 @@ AreAlike xs ys = (x : ℕ) → value_or_none xs x ≡ value_or_none ys x
 
 merge_all_alike : (p : Place) (v : ValueId) (ws : List ℕ) (xs ys : Ids) (g : Given) → length xs ≡ length ws → length ys ≡ length ws → AreAlike xs ys → merge_ids p v ws xs ys g ≡ scoped g ys
 merge_all_alike p v [] xs [] g l m alike = refl
-merge_all_alike p v [] xs (b ∷ ys) g l m alike = absurd (omega (arith, m))
 merge_all_alike p v (w ∷ ws) [] ys g l m alike = absurd (omega (arith, l))
-merge_all_alike p v (w ∷ ws) (a ∷ xs) [] g l m alike = absurd (omega (arith, m))
 merge_all_alike p v (w ∷ ws) (a ∷ xs) (b ∷ ys) g l m alike =
     ap (λ r. let rest = merge_ids p v ws xs ys r.given in scoped rest.given (r.id ∷ rest.ids)) (merge_alike p v w a b g (alike 0))
     ∙ ap (λ rest. scoped rest.given (b ∷ rest.ids)) (merge_all_alike p v ws xs ys g (omega (arith, l)) (omega (arith, m)) (λ x. alike (suc x)))
+merge_all_alike p v _ _ _ g l m alike = absurd (omega (arith, m))
 
 -- A variable before which both sides are alike may be made one first.
 merge_first : (p : Place) (v : ValueId) (x : ℕ) (ws : List ℕ) (xs ys : Ids) (g : Given) → length xs ≡ length ws → length ys ≡ length ws → ((k : ℕ) → k < x → value_or_none xs k ≡ value_or_none ys k)
     → let m = merge_option p v (get_or ws x 1) (value_or_none xs x) (value_or_none ys x) g in merge_ids p v ws (slice_set xs x m.id) (slice_set ys x m.id) m.given ≡ merge_ids p v ws xs ys g
 merge_first p v x [] [] [] g l m alike = refl
-merge_first p v x [] [] (b ∷ ys) g l m alike = absurd (omega (arith, m))
 merge_first p v x [] (a ∷ xs) ys g l m alike = absurd (omega (arith, l))
 merge_first p v x (w ∷ ws) [] ys g l m alike = absurd (omega (arith, l))
-merge_first p v x (w ∷ ws) (a ∷ xs) [] g l m alike = absurd (omega (arith, m))
 merge_first p v zero (w ∷ ws) (a ∷ xs) (b ∷ ys) g l m alike =
     let r = merge_option p v w a b g in
     ap (λ r. let rest = merge_ids p v ws xs ys r.given in scoped rest.given (r.id ∷ rest.ids)) (merge_same p v w r.id r.given)
@@ -152,6 +149,7 @@ merge_first p v (suc x) (w ∷ ws) (a ∷ xs) (b ∷ ys) g l m alike =
     ap (λ q. let rest = merge_ids p v ws (slice_set xs x r.id) (slice_set ys x r.id) q.given in scoped rest.given (q.id ∷ rest.ids)) (merge_alike p v w a b r.given e)
     ∙ ap (λ rest. scoped rest.given (b ∷ rest.ids)) (merge_first p v x ws xs ys g (omega (arith, l)) (omega (arith, m)) (λ k lt. alike (suc k) (omega (arith, lt))))
     ∙ ap (λ q. let rest = merge_ids p v ws xs ys q.given in scoped rest.given (q.id ∷ rest.ids)) (sym (merge_alike p v w a b g e))
+merge_first p v x _ _ _ g l m alike = absurd (omega (arith, m))
 
 merge_this : (p : Place) (v : ValueId) (x : ℕ) (ws : List ℕ) (xs ys : Ids) (a b : Option ValueId) (g : Given) → length xs ≡ length ws → length ys ≡ length ws → ((k : ℕ) → k < x → value_or_none xs k ≡ value_or_none ys k)
     → a ≡ value_or_none xs x → b ≡ value_or_none ys x
@@ -163,13 +161,12 @@ merge_this p v x ws xs ys a b g l m alike ea eb =
 
 -- both sides are given the same value at a place
 set_alike : (xs ys : Ids) (x k : ℕ) (id : Option ValueId) → length xs ≡ length ys → ((x ≡ k → ⊥) → value_or_none xs k ≡ value_or_none ys k) → value_or_none (slice_set xs x id) k ≡ value_or_none (slice_set ys x id) k
-set_alike [] [] x k id l h = refl
 set_alike [] (b ∷ ys) x k id l h = absurd (omega (arith, l))
 set_alike (a ∷ xs) [] x k id l h = absurd (omega (arith, l))
-set_alike (a ∷ xs) (b ∷ ys) zero zero id l h = refl
 set_alike (a ∷ xs) (b ∷ ys) zero (suc k) id l h = h (λ e. omega (arith, e))
 set_alike (a ∷ xs) (b ∷ ys) (suc x) zero id l h = h (λ e. omega (arith, e))
 set_alike (a ∷ xs) (b ∷ ys) (suc x) (suc k) id l h = set_alike xs ys x k id (omega (arith, l)) (λ ne. h (λ e. ne (omega (arith, e))))
+set_alike _ _ _ _ id l h = refl
 
 -- the changes behind one are on both sides what they were
 on_later : (xs ys : Ids) (x : ℕ) (id : Option ValueId) (n : ℕ) (cs : List Change) → x < n → AreRising n cs → AreOn xs ys cs → AreOn (slice_set xs x id) (slice_set ys x id) cs
@@ -221,10 +218,9 @@ kept_same None = refl
 kept_same (Some a) = refl
 
 in_scope_at : (xs ys : Ids) (x : ℕ) → value_or_none (in_scope xs ys) x ≡ kept (value_or_none xs x) (value_or_none ys x)
-in_scope_at [] ys x = refl
 in_scope_at (a ∷ xs) [] x = sym (kept_none (value_or_none (a ∷ xs) x))
-in_scope_at (a ∷ xs) (b ∷ ys) zero = refl
 in_scope_at (a ∷ xs) (b ∷ ys) (suc x) = in_scope_at xs ys x
+in_scope_at _ _ _ = refl
 
 length_in_scope : (xs ys : Ids) → length xs ≡ length ys → length (in_scope xs ys) ≡ length xs
 length_in_scope [] ys l = refl

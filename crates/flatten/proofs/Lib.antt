@@ -4,8 +4,8 @@ pub mod Steps
 pub mod Trees
 pub mod GoodSizes
 pub mod Branches
-pub mod BothParts
 pub mod Views
+pub mod Keeping
 pub mod Meanings
 pub mod Writes
 pub mod Written
@@ -14,3 +14,4 @@ pub mod Forming
 pub mod Formed
 pub mod FormedWhole
 mod Handed
+pub mod Laws

@@ -1,12 +1,11 @@
 -- What a piece of a flat program does is what its source does.
-use Rattle.std.proofs.Common.{◌≡◌, ◌≢◌, ℕ, zero, suc, ◌+◌, ◌<◌, ◌≤◌, ◌^◌, ◌%◌, ◌==◌, Bool, true, false, ◌&&◌, ◌||◌, cond, List, [], ◌∷◌, ◌++◌, map, length, get_or, Option, Some, None, is_some, refl, sym, ap, ◌∙◌, subst, arith, length-append, slice_index, slice_set, if◌then◌else◌, true≢false, eqb-true, leb-true, nat_le, eq-eqb, ne_eqb, lit<, ◌⊎◌, inl, inr, ⊎_elim}
+use Rattle.std.proofs.Common.{◌≡◌, ◌≢◌, ℕ, zero, suc, ◌+◌, ◌<◌, ◌≤◌, ◌^◌, ◌%◌, ◌==◌, Bool, true, false, ◌&&◌, ◌||◌, cond, List, [], ◌∷◌, ◌++◌, map, length, get_or, Option, Some, None, is_some, refl, sym, ap, ◌∙◌, subst, arith, length-append, slice_index, slice_set, if◌then◌else◌, true≢false, eqb-true, leb-true, nat_le, eq-eqb, lit<, ◌⊎◌, inl, inr, ⊎_elim}
 use Rattle.std.proofs.Math.ListN.{get_or-append}
 use Rattle.std.proofs.Math.Seq.{get_or-append_seam}
 use Rattle.std.proofs.Math.Nat.{mod-eq_of_lt}
-use Rattle.std.proofs.lemmas.Bool.{cond-true, cond-false, cases_lt, and_parts}
-use Rattle.std.specs.List.{list_all}
+use Rattle.std.proofs.lemmas.Bool.{cases_lt, or_left, or_right}
 use Rattle.gal_bits.specs.declared.op.Op.{Op}
-use Rattle.gal_bits.specs.declared.op.Op.TheVariants.{Add, Sub, Mul, Div, Rem, And, Or, Xor, Not, Shl, Shr, Eq, Ne, Lt, Le, Cast, Select, Adjust}
+use Rattle.gal_bits.specs.declared.op.Op.TheVariants.{Select}
 use Rattle.gal_bits.specs.Operators.{bit, value_of as operator_value}
 use Rattle.packet_fields.specs.declared.field.Field.{Field}
 use Rattle.packet_fields.specs.declared.packet.Packet.{Packet}
@@ -29,15 +28,14 @@ use Rattle.flat_ir.specs.declared.program.Block.{Block}
 use Rattle.flat_ir.specs.Program as flat
 use Rattle.flat_ir.specs.Program.{Program, Step, Work, step_at}
 use Rattle.flat_ir.specs.Program.Work.{const, field, apply, shift, select, byte, look, put, del}
-use Rattle.flat_ir.specs.Blocks.{Reading, is_on, same, block_at, line_up, holds, is_live, HasLowParents}
-use Rattle.flat_ir.specs.Run.{Machine, after, do_step, results, with_results, made, change_of, put_change, del_change, with_changes}
+use Rattle.flat_ir.specs.Blocks.{Reading, is_on, same, block_at, is_live, HasLowParents}
+use Rattle.flat_ir.specs.Run.{Machine, after, do_step, results, made, change_of, put_change, del_change, with_changes}
 use Rattle.flatten.specs.declared.place.Place.{Place}
 use Rattle.flatten.specs.declared.place.Ending.{Ending}
 use Rattle.flatten.specs.declared.place.Ending.TheVariants.{No, Yes, Maybe}
 use Rattle.flatten.specs.Flatten.{Given, View, At, Valued, Listed, Scoped, Merged, EndedAt, Flattener, result_of, nought, one, nought_port, emit, give, opened, below, operation, same_id, merge_id, merge_option, merge_ids, field_widths, merge_ended, ended_id, ends, select_ended, join, go_on, in_order, flat_expr, flat_exprs, bound, bound_to, assigned, finished, leave, looping, second_side, flat_turn, flat_turns, flat_stmt, flat_body}
 use Rattle.flatten.specs.Occurs.{same_field, is_in_expr, is_in_exprs, is_in_stmt, is_in_body}
-use Rattle.flatten.proofs.BothParts.{left, right}
-use Rattle.flatten.proofs.Views.{Below, InRange, Meets, Agree, HasId, IsThere, range_more, range_at, range_set, meets_more, agree_more, agree_at, agree_set, there_set, there_new, Knows, known_at, knows_later, range_scope, agree_scope, there_scope}
+use Rattle.flatten.proofs.Views.{Below, InRange, Meets, Agree, HasId, IsThere, range_more, range_at, range_set, meets_more, agree_more, agree_at, agree_set, there_set, Knows, known_at, knows_later, range_scope, agree_scope, there_scope, there_cons, alike_cons}
 use Rattle.state_store.specs.Widths.{AtWidths, at_place}
 use Rattle.packet_fields.specs.FieldOrder.{at_index}
 use Rattle.flatten.proofs.Writes.{put_tells, del_tells}
@@ -46,35 +44,20 @@ use Rattle.std.proofs.lemmas.Option.{none-some, same_Some}
 use Rattle.packet_fields.specs.declared.field.Field.TheVariants.{MetaPort}
 use Rattle.element_lang.specs.KeptRuns.{Fits, value_fits, bound_fits, stmt_fits}
 use Rattle.packet_fields.specs.Arrivals.{IsArrival}
+use Rattle.flat_ir.proofs.Runs.{set_other, set_own}
+use Rattle.flatten.proofs.Written.{same_ids, same_itself}
+use Rattle.lemmas.proofs.Tests.{and_first as left, and_second}
+use Rattle.flat_ir.proofs.Laws.{lines_of_blocks-live}
+use Rattle.flatten.proofs.Keeping.{Keeps, keeps_refl, keeps_trans, keeps_bound, keeps_bound_to, knows_bound, Leads, knows_after}
+use Rattle.flatten.proofs.Growth.{emit_length}
 
 -- ## Lines of blocks
-
-beyond : {X : Type 0} (xs : List X) (k : ℕ) (d : X) → length xs ≤ k → get_or xs k d ≡ d
-beyond [] k d le = refl
-beyond (x ∷ xs) zero d le = absurd (omega (arith, le))
-beyond (x ∷ xs) (suc k) d le = beyond xs k d (omega (arith, le))
 
 abbrev blank : Block
 blank = record { parent = 0; cond = record { instruction = 0; result = 0 }; polarity = true }
 
 abbrev blank_step : Step
 blank_step = record { block = 0; looped = false; work = const 1 0 }
-
-module _ (blocks : List Block) (low : HasLowParents blocks) where
-  parent_le : (k : ℕ) → (block_at blocks k).parent ≤ k
-  parent_le k =
-      ⊎_elim (λ lt. low k lt) (λ le. let e = ap (λ (b : Block). b.parent) (beyond blocks k blank le) in omega (arith, e)) (cases_lt k (length blocks))
-
-  fuel : (n n' k : ℕ) → k ≤ n → k ≤ n' → line_up n blocks k ≡ line_up n' blocks k
-  fuel n n' zero le le' = refl
-  fuel zero n' (suc k) le le' = absurd (omega (arith, le))
-  fuel (suc n) zero (suc k) le le' = absurd (omega (arith, le'))
-  fuel (suc n) (suc n') (suc k) le le' =
-      ap (λ l. suc k ∷ l) (fuel n n' (block_at blocks k).parent (omega (arith, parent_le k, le)) (omega (arith, parent_le k, le')))
-
-  -- a block is live where its condition holds and its parent is live
-  pub live_suc : (r : Reading) (k : ℕ) → is_live blocks r (suc k) ≡ (holds blocks r (suc k) && is_live blocks r (block_at blocks k).parent)
-  live_suc r k = ap (λ l. list_all (holds blocks r) (suc k ∷ l)) (fuel k (block_at blocks k).parent (block_at blocks k).parent (parent_le k) (omega arith))
 
 -- one more block below one that is there
 low_more : (blocks : List Block) (b : Block) → b.parent ≤ length blocks → HasLowParents blocks → HasLowParents (blocks ++ b ∷ [])
@@ -88,22 +71,8 @@ low_more blocks b le low k lt =
 
 -- ## Single instructions
 
-set_other : (i : ℕ) (rs : List ℕ) (reads : Reading) (v : ValueId) → v.instruction ≢ i → with_results i rs reads v ≡ reads v
-set_other i rs reads v ne = cond-false (v.instruction == i) (slice_index rs v.result) (reads v) (ne_eqb v.instruction i ne)
-
-set_own : (i : ℕ) (rs : List ℕ) (reads : Reading) (v : ValueId) → v.instruction ≡ i → with_results i rs reads v ≡ slice_index rs v.result
-set_own i rs reads v e = cond-true (v.instruction == i) (slice_index rs v.result) (reads v) (eq-eqb v.instruction i e)
-
 zero_one : (n : ℕ) → n ≡ 0 → n ≡ 1 → ⊥
 zero_one n e e' = omega (arith, e, e')
-
-pub or_left : (a b : Bool) → a ≡ true → (a || b) ≡ true
-or_left true b e = refl
-or_left false b e = absurd (true≢false (sym e))
-
-pub or_right : (a b : Bool) → b ≡ true → (a || b) ≡ true
-or_right true b e = refl
-or_right false b e = e
 
 -- a select, by its condition
 select_first : (w c a b : ℕ) → c ≡ 1 → a < 2 ^ w → operator_value Select w (c ∷ a ∷ b ∷ []) ≡ a
@@ -121,42 +90,12 @@ gives_apply : (op : Op) (w : ℕ) (ids : List ValueId) → Gives (flat.apply op 
 gives_apply op w ids reads live st packet = (refl, refl)
 
 pub operation_gives : (op : Op) (w : ℕ) (ids : List ValueId) → Gives (operation op w ids) op w ids
-operation_gives Add w ids = gives_apply Add w ids
-operation_gives Sub w ids = gives_apply Sub w ids
-operation_gives Mul w ids = gives_apply Mul w ids
-operation_gives Div w ids = gives_apply Div w ids
-operation_gives Rem w ids = gives_apply Rem w ids
-operation_gives And w ids = gives_apply And w ids
-operation_gives Or w ids = gives_apply Or w ids
-operation_gives Xor w ids = gives_apply Xor w ids
-operation_gives Not w ids = gives_apply Not w ids
-operation_gives Shl w ids = gives_apply Shl w ids
-operation_gives Shr w ids = gives_apply Shr w ids
-operation_gives Eq w ids = gives_apply Eq w ids
-operation_gives Ne w ids = gives_apply Ne w ids
-operation_gives Lt w ids = gives_apply Lt w ids
-operation_gives Le w ids = gives_apply Le w ids
-operation_gives Cast w ids = gives_apply Cast w ids
-operation_gives Adjust w ids = gives_apply Adjust w ids
-operation_gives Select w [] = gives_apply Select w []
-operation_gives Select w (a ∷ []) = gives_apply Select w (a ∷ [])
-operation_gives Select w (a ∷ b ∷ []) = gives_apply Select w (a ∷ b ∷ [])
 operation_gives Select w (a ∷ b ∷ c ∷ []) = λ reads live st packet. (refl, refl)
-operation_gives Select w (a ∷ b ∷ c ∷ d ∷ rest) = gives_apply Select w (a ∷ b ∷ c ∷ d ∷ rest)
+operation_gives op w ids = gives_apply op w ids
 
 made_none : (live : Bool) → made live None ≡ []
 made_none true = refl
 made_none false = refl
-
-pub same_ids : (a b : ValueId) → same_id a b ≡ true → a ≡ b
-same_ids a b e =
-    let parts = and_parts (a.instruction == b.instruction) (a.result == b.result) e in
-    let first : a.instruction ≡ b.instruction = eqb-true a.instruction b.instruction parts.0 in
-    let second : a.result ≡ b.result = eqb-true a.result b.result parts.1 in
-    ap (λ i. result_of i a.result) first ∙ ap (λ j. result_of b.instruction j) second
-
-pub same_itself : (a : ValueId) → same_id a a ≡ true
-same_itself a = ap (λ t. t && a.result == a.result) (eq-eqb a.instruction a.instruction refl) ∙ eq-eqb a.result a.result refl
 
 -- ## Locals that have the results of an instruction
 
@@ -171,17 +110,6 @@ bound_all n j (x ∷ xs) w = bound_all n (suc j) xs (bound x (result_of n j) w)
 range_all : (size : ℕ) (ws : List ℕ) (n : ℕ) → n < size → (j : ℕ) (xs : List ℕ) (ids : List (Option ValueId)) → InRange size ws ids → InRange size ws (set_all n j xs ids)
 range_all size ws n lt j [] ids r = r
 range_all size ws n lt j (x ∷ xs) ids r = range_all size ws n lt (suc j) xs (slice_set ids x (Some (result_of n j))) (range_set size ws ids x (result_of n j) lt r)
-
-there_all : (n j : ℕ) (xs : List ℕ) (ids : List (Option ValueId)) (y : ℕ) → IsThere ids y → IsThere (set_all n j xs ids) y
-there_all n j [] ids y h = h
-there_all n j (x ∷ xs) ids y h = there_all n (suc j) xs (slice_set ids x (Some (result_of n j))) y (there_set ids x y (result_of n j) h)
-
--- these are in scope, and what was stays so
-knows_all : (scope : List ℕ) (n j : ℕ) (xs : List ℕ) (ids : List (Option ValueId)) → Knows scope ids → Knows (xs ++ scope) (set_all n j xs ids)
-knows_all scope n j [] ids k = k
-knows_all scope n j (x ∷ xs) ids k =
-    let ids' = slice_set ids x (Some (result_of n j)) in
-    (there_all n (suc j) xs ids' x (there_new ids x (result_of n j)), knows_all scope n (suc j) xs ids' (knows_later scope ids ids' (λ y h. there_set ids x y (result_of n j) h) k))
 
 agree_all : (f : ValueId → ℕ) (n : ℕ) (values : List ℕ) → ((i : ℕ) → f (result_of n (suc i)) ≡ slice_index values i) → (i j : ℕ) → j ≡ suc i → (xs : List ℕ) (ids : List (Option ValueId)) (us : List ℕ)
     → Agree f ids us → Agree f (set_all n j xs ids) (source.bind_from i xs values us)
@@ -223,9 +151,6 @@ module _ (F : Program) (st0 : Store) (packet : Packet) where
       ap (after (prog code) st0 packet) e
       ∙ ap (λ t. stepped (after (prog code) st0 packet n) n t) (get_or-append_seam g.code s [] blank_step)
       ∙ ap (λ m. stepped m n s) (after_front g.code (s ∷ []) n (omega arith))
-
-  pub emit_length : (p : Place) (work : Work) (g : Given) → length (emit p work g).code ≡ suc (length g.code)
-  emit_length p work g = omega (arith, length-append g.code (record { block = p.block; looped = p.looped; work = work } ∷ []))
 
   pub emit_reads : (p : Place) (work : Work) (g : Given) (j : ℕ) → get (emit p work g) (result_of (length g.code) j) ≡ slice_index (results (run g).reads (lv g p.block) (run g).store packet work) j
   emit_reads p work g j =
@@ -308,7 +233,7 @@ module _ (F : Program) (st0 : Store) (packet : Packet) where
       let b : Block = record { parent = p.block; cond = v; polarity = polarity } in
       let lt : length g.blocks < length (g.blocks ++ b ∷ []) = omega (arith, length-append g.blocks (b ∷ [])) in
       let is : block_at F.blocks (length g.blocks) ≡ b = h.at (length g.blocks) lt ∙ get_or-append_seam g.blocks b [] blank in
-      live_suc F.blocks h.low r (length g.blocks) ∙ ap (λ (c : Block). same c.polarity (is_on (r c.cond)) && is_live F.blocks r c.parent) is
+      lines_of_blocks-live F.blocks r (length g.blocks) h.low ∙ ap (λ (c : Block). same c.polarity (is_on (r c.cond)) && is_live F.blocks r c.parent) is
 
   pub here_open : (p : Place) (v : ValueId) (polarity : Bool) (g : Given) → InBlocks (opened p v polarity g) → Here g p.block → v.instruction < length g.code → Here (opened p v polarity g) (suc (length g.blocks))
   here_open p v polarity g h here lt = record {
@@ -412,15 +337,6 @@ module _ (F : Program) (st0 : Store) (packet : Packet) where
   all_cons w ws g g1 g2 i j is js here rest [] fit a = a
   all_cons w ws g g1 g2 i j is js here rest (u ∷ us) fit a = (here u (fit 0) a.0, rest us (λ place. fit (suc place)) a.1)
 
-  there_cons : (i i' j : Option ValueId) (is is' js : List (Option ValueId)) → (HasId i → HasId i' → HasId j) → ((x : ℕ) → IsThere is x → IsThere is' x → IsThere js x) → (x : ℕ) → IsThere (i ∷ is) x → IsThere (i' ∷ is') x → IsThere (j ∷ js) x
-  there_cons i i' j is is' js here rest zero = here
-  there_cons i i' j is is' js here rest (suc x) = rest x
-
-  alike_cons : (i i' j : Option ValueId) (is is' js : List (Option ValueId)) → (i ≡ i' → j ≡ i) → ((x : ℕ) → get_or is x None ≡ get_or is' x None → get_or js x None ≡ get_or is x None)
-      → (x : ℕ) → get_or (i ∷ is) x None ≡ get_or (i' ∷ is') x None → get_or (j ∷ js) x None ≡ get_or (i ∷ is) x None
-  alike_cons i i' j is is' js here rest zero = here
-  alike_cons i i' j is is' js here rest (suc x) = rest x
-
   below_later : (g g' : Given) (i : Option ValueId) → Grows g g' → Below (length g.code) i → Below (length g'.code) i
   below_later g g' None p lt = tt
   below_later g g' (Some v) p lt = omega (arith, p.longer, lt)
@@ -428,10 +344,8 @@ module _ (F : Program) (st0 : Store) (packet : Packet) where
   pub merge_ids_chosen : (p : Place) (v : ValueId) (ws : List ℕ) (xs ys : List (Option ValueId)) (g : Given) → v.instruction < length g.code → InRange (length g.code) ws xs → InRange (length g.code) ws ys → ChosenAll v ws xs ys g (merge_ids p v ws xs ys g)
   merge_ids_chosen p v [] [] [] g lt fx fy =
       record { grows = grows_refl g; inside = tt; store = refl; there = λ x h h'. tt; first = λ on us fit a. a; second = λ off us fit a. a; alike = λ x e. refl }
-  merge_ids_chosen p v [] [] (y ∷ ys) g lt fx fy = absurd fy
   merge_ids_chosen p v [] (x ∷ xs) ys g lt fx fy = absurd fx
   merge_ids_chosen p v (w ∷ ws) [] ys g lt fx fy = absurd fx
-  merge_ids_chosen p v (w ∷ ws) (x ∷ xs) [] g lt fx fy = absurd fy
   merge_ids_chosen p v (w ∷ ws) (x ∷ xs) (y ∷ ys) g lt fx fy =
       let r = merge_option p v w x y g in
       let n = length g.code in
@@ -451,6 +365,7 @@ module _ (F : Program) (st0 : Store) (packet : Packet) where
         second = λ off. all_cons w ws g r.given rest.given y r.id ys rest.ids (λ u fit a. later u (s1.second off u fit a)) (λ us fit a. s2.second (same_v ∙ off) us fit (agree_more (get g) (get r.given) n ws ys us s1.grows.keeps fy.1 a));
         alike = alike_cons x y r.id xs ys rest.ids s1.alike s2.alike;
       }
+  merge_ids_chosen p v _ _ _ g lt fx fy = absurd fy
 
   -- whether the run has ended, of two states
   pub record ChosenEnd (v : ValueId) (x y : Ending) (g : Given) (r : EndedAt) : Type 0 where
@@ -480,12 +395,7 @@ module _ (F : Program) (st0 : Store) (packet : Packet) where
   merge_ended_chosen p v No No g b lt = end_as v No No No g (omega (arith, b.some)) (λ on u lt is. is) (λ off u lt is. is)
   merge_ended_chosen p v Yes Yes g b lt = end_as v Yes Yes Yes g (omega (arith, b.some)) (λ on u lt is. is) (λ off u lt is. is)
   merge_ended_chosen p v Yes No g b lt = end_as v Yes No (Maybe v) g lt (λ on u lt is. on ∙ sym b.one ∙ is) (λ off u lt is. off ∙ sym b.nought ∙ is)
-  merge_ended_chosen p v No Yes g b lt = end_select p v No Yes g
-  merge_ended_chosen p v No (Maybe u) g b lt = end_select p v No (Maybe u) g
-  merge_ended_chosen p v Yes (Maybe u) g b lt = end_select p v Yes (Maybe u) g
-  merge_ended_chosen p v (Maybe t) No g b lt = end_select p v (Maybe t) No g
-  merge_ended_chosen p v (Maybe t) Yes g b lt = end_select p v (Maybe t) Yes g
-  merge_ended_chosen p v (Maybe t) (Maybe u) g b lt = end_select p v (Maybe t) (Maybe u) g
+  merge_ended_chosen p v x y g b lt = end_select p v x y g
 
   -- what passes in the middle passes from before to behind
   through : (w : ℕ) (g g1 g2 g3 : Given) (a b : ValueId) → Grows g g1 → a.instruction < length g.code → Passes w g1 a g2 b → Grows g2 g3 → b.instruction < length g2.code → Passes w g a g3 b
@@ -534,18 +444,6 @@ module _ (F : Program) (st0 : Store) (packet : Packet) where
       ended = λ u fit is. p.keeps (ended_id w.ended) f.ended ∙ is;
       store = e;
     }
-
-    -- what is in scope stays so, and so does the value of a field that can't be written
-    pub record Keeps (w w' : View) : Type 0 where
-      pub locals : (x : ℕ) → IsThere w.locals x → IsThere w'.locals x
-      pub fields : (x : ℕ) → IsThere w.fields x → IsThere w'.fields x
-      pub fixed : (f : Field) → (row f).writable ≡ false → get_or w'.fields (field_index f) None ≡ get_or w.fields (field_index f) None
-
-    pub keeps_refl : (w : View) → Keeps w w
-    keeps_refl w = record { locals = λ x h. h; fields = λ x h. h; fixed = λ f e. refl }
-
-    pub keeps_trans : (w w' w'' : View) → Keeps w w' → Keeps w' w'' → Keeps w w''
-    keeps_trans w w' w'' p q = record { locals = λ x h. q.locals x (p.locals x h); fields = λ x h. q.fields x (p.fields x h); fixed = λ f e. q.fixed f e ∙ p.fixed f e }
 
     -- two states are made one
     pub record Joined (v : ValueId) (g : Given) (a b : View) (r : At) : Type 0 where
@@ -672,7 +570,7 @@ module _ (F : Program) (st0 : Store) (packet : Packet) where
           valued_emit p (flat.byte r.id) (ExprTree.byte index) w g r.given s.grows s.store refl (λ st a a'. ap (slice_index packet.bytes) (s.reads st a a'))
       expr_sound scope p w (ExprTree.shift op by arg) g good kn sh b f =
           let r = flat_expr (local_widths m) p w arg g in
-          let s = expr_sound scope p w arg g (right _ (is_good_expr (local_widths m) scope arg) good) kn sh b f in
+          let s = expr_sound scope p w arg g (and_second _ (is_good_expr (local_widths m) scope arg) good) kn sh b f in
           let width = width_of (local_widths m) arg in
           valued_emit p (flat.shift op width r.id by) (ExprTree.shift op by arg) w g r.given s.grows s.store refl (λ st a a'. ap (λ n. operator_value op width (n ∷ by ∷ [])) (s.reads st a a'))
       expr_sound scope p w (ExprTree.apply op width args) g good kn sh b f =
@@ -689,7 +587,7 @@ module _ (F : Program) (st0 : Store) (packet : Packet) where
           let s = expr_sound scope p w e g (left (is_good_expr (local_widths m) scope e) _ good) kn (λ h is. sh h (or_left (is_in_expr h e) (is_in_exprs h es) is)) b f in
           let rest = flat_exprs (local_widths m) p w es r.given in
           let f' = within_later g r.given w s.grows f in
-          let t = exprs_sound scope p w es r.given (right _ (are_good_exprs (local_widths m) scope es) good) kn (λ h is. sh h (or_right (is_in_expr h e) (is_in_exprs h es) is)) (based_later g r.given s.grows b) f' in
+          let t = exprs_sound scope p w es r.given (and_second _ (are_good_exprs (local_widths m) scope es) good) kn (λ h is. sh h (or_right (is_in_expr h e) (is_in_exprs h es) is)) (based_later g r.given s.grows b) f' in
           record {
             grows = grows_trans g r.given rest.given s.grows t.grows;
             inside = (omega (arith, s.inside, t.grows.longer), t.inside);
@@ -988,10 +886,6 @@ module _ (F : Program) (st0 : Store) (packet : Packet) where
     abbrev pub IsCarried : List ℕ → Doing → Flattener → Type 0
     IsCarried scope go flat = (p : Place) (g : Given) (w : View) → p.block ≤ length g.blocks → Based g → Within g w → Knows scope w.locals → Shown occurs w → Carried p g w go (flat p g w)
 
-    -- what is in scope behind a piece
-    abbrev pub Leads : List ℕ → List ℕ → Flattener → Type 0
-    Leads scope scope' flat = (p : Place) (g : Given) (w : View) → Knows scope w.locals → Keeps w (flat p g w).view → Knows scope' (flat p g w).view.locals
-
     both_is_sound : (scope scope' : List ℕ) (f go : Doing) (first rest : Flattener) → IsSound scope f first → Leads scope scope' first → IsCarried scope' go rest
         → IsSound scope (λ s. then_do (f s) go) (λ q h u. let r = first q h u in rest q r.given r.view)
     both_is_sound scope scope' f go first rest sf leads sr p g w le base wi kn sh =
@@ -1029,9 +923,6 @@ module _ (F : Program) (st0 : Store) (packet : Packet) where
     within_bound : (g : Given) (w : View) (x : ℕ) (id : ValueId) → id.instruction < length g.code → Within g w → Within g (bound x id w)
     within_bound g w x id lt f =
         record { locals = range_set (length g.code) (local_widths m) w.locals x id lt f.locals; fields = f.fields; send = f.send; port = f.port; ended = f.ended }
-
-    keeps_bound : (x : ℕ) (id : ValueId) (w : View) → Keeps w (bound x id w)
-    keeps_bound x id w = record { locals = λ y h. there_set w.locals x y id h; fields = λ y h. h; fixed = λ f e. refl }
 
     -- a value comes to a local, and the store may change
     going_bound : (g g' : Given) (w : View) (x : ℕ) (id : ValueId) (s : State) (u : ℕ) (st : Store) → Grows g g' → Within g w → Going g w s → get g' id ≡ u → (run g').store ≡ st
@@ -1186,7 +1077,7 @@ module _ (F : Program) (st0 : Store) (packet : Packet) where
         (record {
           grows = po;
           within = record { locals = range_all (length o.code) (local_widths m) n lt 0 (found ∷ into) w.locals f'.locals; fields = f'.fields; send = f'.send; port = f'.port; ended = f'.ended };
-          keeps = record { locals = λ y h. there_all n 0 (found ∷ into) w.locals y h; fields = λ y h. h; fixed = λ h e. refl };
+          keeps = subst (Keeps w) (bound_all n 0 (found ∷ into) w) (keeps_bound_to n 0 (found ∷ into) w);
           dead = λ h here off. still;
           alive = λ h here l s z.
               let K = values_of (local_widths m) packet keys s in
@@ -1245,7 +1136,7 @@ module _ (F : Program) (st0 : Store) (packet : Packet) where
         let r = piece p n.given w1 in
         let k = p.block in
         let inside : n.id.instruction < length n.given.code = omega (arith, emit_length p work g) in
-        let kn1 : Knows (x ∷ scope) w1.locals = (there_new w.locals x n.id, knows_later scope w.locals w1.locals (λ y h. there_set w.locals x y n.id h) kn) in
+        let kn1 : Knows (x ∷ scope) w1.locals = knows_bound scope x n.id w kn in
         let c = (ih p n.given w1 le (based_later g n.given pn base) (within_bound n.given w x n.id inside (within_later g n.given w pn wi)) kn1 sh).sound in
         let pr = grows_trans g n.given r.given pn c.grows in
         let same_store : (run n.given).store ≡ (run g).store = emit_still p work g refl in
@@ -1323,27 +1214,6 @@ module _ (F : Program) (st0 : Store) (packet : Packet) where
       alive = λ h here l s z. record { ended = base.one; does = base.nought; store = z.store };
     }
 
-    -- what is in scope behind a statement
-    knows_after : (t : StmtTree) (scope : List ℕ) → Leads scope (binds t ++ scope) (flat_stmt (local_widths m) t)
-    knows_after (StmtTree.let_local x e) scope p g w kn k =
-        let id = (flat_expr (local_widths m) p w e g).id in
-        (there_new w.locals x id, knows_later scope w.locals (slice_set w.locals x (Some id)) (λ y h. there_set w.locals x y id h) kn)
-    knows_after (StmtTree.assign x e) scope p g w kn k = knows_later scope w.locals _ k.locals kn
-    knows_after (StmtTree.set_field f e) scope p g w kn k = kn
-    knows_after (StmtTree.look found into object keys) scope p g w kn k =
-        let n = length (flat_exprs (local_widths m) p w keys g).given.code in
-        subst (λ (v : View). Knows (found ∷ (into ++ scope)) v.locals) (sym (bound_all n 0 (found ∷ into) w)) (knows_all scope n 0 (found ∷ into) w.locals kn)
-    knows_after (StmtTree.put ok object keys values) scope p g w kn k =
-        let id = result_of (length (flat_exprs (local_widths m) p w values (flat_exprs (local_widths m) p w keys g).given).given.code) 0 in
-        (there_new w.locals ok id, knows_later scope w.locals (slice_set w.locals ok (Some id)) (λ y h. there_set w.locals ok y id h) kn)
-    knows_after (StmtTree.del was object keys) scope p g w kn k =
-        let id = result_of (length (flat_exprs (local_widths m) p w keys g).given.code) 0 in
-        (there_new w.locals was id, knows_later scope w.locals (slice_set w.locals was (Some id)) (λ y h. there_set w.locals was y id h) kn)
-    knows_after (StmtTree.choose c first second) scope p g w kn k = knows_later scope w.locals _ k.locals kn
-    knows_after (StmtTree.repeat index count body) scope p g w kn k = knows_later scope w.locals _ k.locals kn
-    knows_after (StmtTree.send e) scope p g w kn k = kn
-    knows_after StmtTree.drop scope p g w kn k = kn
-
     module _ (arrives : IsArrival packet) where
       width_fits : (scope : List ℕ) (e : ExprTree) (width : ℕ) → is_good_expr (local_widths m) scope e ≡ true → width_of (local_widths m) e ≡ width → (s : State) → Fits m s → value_of (local_widths m) packet e s < 2 ^ width
       width_fits scope e width good is s fit = subst (λ b. value_of (local_widths m) packet e s < 2 ^ b) is (value_fits m packet scope s arrives fit e good)
@@ -1362,9 +1232,9 @@ module _ (F : Program) (st0 : Store) (packet : Packet) where
             let good_e = left _ _ (left _ _ good) in
             set_field_sound p g w f e (flat_expr (local_widths m) p w e g) wi
             (expr_sound scope p w e g good_e kn (λ h is. sh h (cov h (or_right (same_field h f) (is_in_expr h e) is))) base wi)
-            (right _ _ (left _ _ good))
+            (and_second _ _ (left _ _ good))
             (cov f (or_left (same_field f f) (is_in_expr f e) (eq-eqb (field_index f) (field_index f) refl)))
-            (width_fits scope e (row f).width good_e (eqb-true (width_of (local_widths m) e) (row f).width (right _ _ good)))
+            (width_fits scope e (row f).width good_e (eqb-true (width_of (local_widths m) e) (row f).width (and_second _ _ good)))
             (λ s fit. stmt_fits m packet scope next (StmtTree.set_field f e) s arrives fit good)
         stmt_sound (StmtTree.look found into object keys) scope next good cov p g w le base wi kn sh =
             let three = left _ _ (left _ _ good) in
@@ -1376,7 +1246,7 @@ module _ (F : Program) (st0 : Store) (packet : Packet) where
             let ks = flat_exprs (local_widths m) p w keys g in
             let sk = exprs_sound scope p w keys g (left _ _ two) kn (λ f h. sh f (cov f (or_left (is_in_exprs f keys) (is_in_exprs f values) h))) base wi in
             put_sound p g w ok object keys values ks (flat_exprs (local_widths m) p w values ks.given) wi sk
-            (exprs_sound scope p w values ks.given (right _ _ two) kn (λ f h. sh f (cov f (or_right (is_in_exprs f keys) (is_in_exprs f values) h))) (based_later g ks.given sk.grows base) (within_later g ks.given w sk.grows wi))
+            (exprs_sound scope p w values ks.given (and_second _ _ two) kn (λ f h. sh f (cov f (or_right (is_in_exprs f keys) (is_in_exprs f values) h))) (based_later g ks.given sk.grows base) (within_later g ks.given w sk.grows wi))
             (λ s fit. stmt_fits m packet scope next (StmtTree.put ok object keys values) s arrives fit good)
         stmt_sound (StmtTree.del was object keys) scope next good cov p g w le base wi kn sh =
             let four = left _ _ (left _ _ good) in
@@ -1394,24 +1264,24 @@ module _ (F : Program) (st0 : Store) (packet : Packet) where
             let lex : p.block ≤ length x.given.blocks = omega (arith, le, sx.grows.more) in
             let ra = flat_body (local_widths m) first (below p x.given) (opened p x.id true x.given) w in
             let sa = side_of scope first p x.id true x.given w lex bx wx kn sh sx.inside
-            (body_sound first scope next (right _ _ three) (λ f h. cov f (or_left (is_in_expr f c || is_in_body f first) (is_in_body f second) (or_right (is_in_expr f c) (is_in_body f first) h)))) in
+            (body_sound first scope next (and_second _ _ three) (λ f h. cov f (or_left (is_in_expr f c || is_in_body f first) (is_in_body f second) (or_right (is_in_expr f c) (is_in_body f first) h)))) in
             let sb = second_of scope second p x.id ra.given w (omega (arith, lex, sa.grows.more)) (based_later x.given ra.given sa.grows bx) (within_later x.given ra.given w sa.grows wx) kn sh (omega (arith, sx.inside, sa.grows.longer))
-            (body_sound second scope (next + declared_by first) (right _ _ good) (λ f h. cov f (or_right (is_in_expr f c || is_in_body f first) (is_in_body f second) h))) in
+            (body_sound second scope (next + declared_by first) (and_second _ _ good) (λ f h. cov f (or_right (is_in_expr f c || is_in_body f first) (is_in_body f second) h))) in
             choose_sound p g w c x (do_body (local_widths m) packet first) (do_body (local_widths m) packet second) ra (second_side (is_empty second) p x.id (flat_body (local_widths m) second) ra.given w) base wi
-            (width_fits scope c 1 good_c (eqb-true (width_of (local_widths m) c) 1 (right _ _ two))) sx sa sb
+            (width_fits scope c 1 good_c (eqb-true (width_of (local_widths m) c) 1 (and_second _ _ two))) sx sa sb
         stmt_sound (StmtTree.repeat index count body) scope next good cov p g w le base wi kn sh =
             let four = left _ _ (left _ _ (left _ _ good)) in
             let times = left (is_count count) _ (left _ _ (left _ _ four)) in
-            let few : count ≤ 64 = leb-true count 64 (right _ (nat_le count 64) times) in
-            let c = turns_carried scope index (do_body (local_widths m) packet body) (flat_body (local_widths m) body) (eqb-true (slice_index (local_widths m) index) 32 (right _ _ four))
-            (body_sound body (index ∷ scope) (next + 1) (right _ _ good) cov) count 0 (omega (arith, few)) (looping p) g w le base wi kn sh in
+            let few : count ≤ 64 = leb-true count 64 (and_second _ (nat_le count 64) times) in
+            let c = turns_carried scope index (do_body (local_widths m) packet body) (flat_body (local_widths m) body) (eqb-true (slice_index (local_widths m) index) 32 (and_second _ _ four))
+            (body_sound body (index ∷ scope) (next + 1) (and_second _ _ good) cov) count 0 (omega (arith, few)) (looping p) g w le base wi kn sh in
             let s = c.sound in
             record { grows = s.grows; within = s.within; keeps = s.keeps; dead = s.dead; alive = s.alive }
         stmt_sound (StmtTree.send e) scope next good cov p g w le base wi kn sh =
             let good_e = left _ _ good in
             send_sound p g w e (flat_expr (local_widths m) p w e g) base wi
             (expr_sound scope p w e g good_e kn (λ f h. sh f (cov f h)) base wi)
-            (width_fits scope e 8 good_e (eqb-true (width_of (local_widths m) e) 8 (right _ _ good)))
+            (width_fits scope e 8 good_e (eqb-true (width_of (local_widths m) e) 8 (and_second _ _ good)))
         stmt_sound StmtTree.drop scope next good cov p g w le base wi kn sh = drop_sound p g w base wi
 
         pub body_sound : (b : BodyTree) (scope : List ℕ) (next : ℕ) → is_good_body m scope next b ≡ true → ((f : Field) → is_in_body f b ≡ true → occurs f ≡ true) → IsCarried scope (do_body (local_widths m) packet b) (flat_body (local_widths m) b)
@@ -1419,6 +1289,6 @@ module _ (F : Program) (st0 : Store) (packet : Packet) where
         body_sound (BodyTree.stmt t b) scope next good cov p g w le base wi kn sh =
             in_order_carried scope (binds t ++ scope) (do_stmt (local_widths m) packet t) (do_body (local_widths m) packet b) (flat_stmt (local_widths m) t) (flat_body (local_widths m) b)
             (stmt_sound t scope next (left _ _ (left _ _ good)) (λ f h. cov f (or_left (is_in_stmt f t) (is_in_body f b) h)))
-            (knows_after t scope)
-            (body_sound b (binds t ++ scope) (next + declared_in t) (right _ _ good) (λ f h. cov f (or_right (is_in_stmt f t) (is_in_body f b) h)))
+            (knows_after (local_widths m) t scope)
+            (body_sound b (binds t ++ scope) (next + declared_in t) (and_second _ _ good) (λ f h. cov f (or_right (is_in_stmt f t) (is_in_body f b) h)))
             p g w le base wi kn sh

@@ -1,5 +1,6 @@
 -- The steps of the code's loops, on plain values.
 use Rattle.std.proofs.Common.{◌≡◌, ℕ, zero, suc, List, [], ◌∷◌, ◌++◌, length, drop, min, Option, refl, sym, ap, ◌∙◌, subst, arith}
+use Rattle.std.proofs.lemmas.List.{append-nil}
 use Rattle.flat_ir.specs.declared.program.ValueId.{ValueId}
 use Rattle.flatten.specs.declared.error.FlatError.{FlatError}
 use Rattle.flatten.specs.declared.place.Place.{Place}
@@ -13,10 +14,6 @@ use Rattle.flatten.specs.Pending.{scoped_front, scoped, placed}
 use Rattle.flatten.specs.Tracked.{started}
 use Rattle.flatten.proofs.Journals.{length_undone}
 use Rattle.flatten.proofs.Growth.{over_later, closed_grows, Growing}
-
-append_none : {X : Type 0} (xs : List X) → xs ++ [] ≡ xs
-append_none [] = refl
-append_none (x ∷ xs) = ap (λ l. x ∷ l) (append_none xs)
 
 -- one more open block
 pub outermost_last : (ps : List Pending) (p : Pending) (start : View) → outermost (ps ++ p ∷ []) start ≡ outermost ps (before p.outer start)
@@ -54,19 +51,16 @@ over_join ws ps start r total e is over = subst (λ t. IsOver t.given e) is (ove
 
 -- where a list of two or three ends
 pub merge_end : (p : Place) (v : ValueId) (n : ℕ) (ws : List ℕ) (xs ys : List (Option ValueId)) (g : Given) → n ≡ min (min (length ws) (length xs)) (length ys) → merge_ids p v (drop n ws) (drop n xs) (drop n ys) g ≡ scoped g []
-merge_end p v zero [] xs ys g e = refl
-merge_end p v (suc n) [] xs ys g e = refl
-merge_end p v zero (b ∷ ws) [] ys g e = refl
 merge_end p v (suc n) (b ∷ ws) [] ys g e = absurd (omega (arith, e))
-merge_end p v zero (b ∷ ws) (x ∷ xs) [] g e = refl
 merge_end p v (suc n) (b ∷ ws) (x ∷ xs) [] g e = absurd (omega (arith, e))
 merge_end p v zero (b ∷ ws) (x ∷ xs) (y ∷ ys) g e = absurd (omega (arith, e))
 merge_end p v (suc n) (b ∷ ws) (x ∷ xs) (y ∷ ys) g e = merge_end p v n ws xs ys g (omega (arith, e))
+merge_end p v _ _ _ _ g e = refl
 
 pub merge_ended_at : (p : Place) (v : ValueId) (n : ℕ) (ws : List ℕ) (xs ys : List (Option ValueId)) (ids : List (Option ValueId)) (g : Given) (total : Scoped) → n ≡ min (min (length ws) (length xs)) (length ys)
     → scoped_front ids (merge_ids p v (drop n ws) (drop n xs) (drop n ys) g) ≡ total → scoped g ids ≡ total
 merge_ended_at p v n ws xs ys ids g total e told =
-    ap (λ l. scoped g l) (sym (append_none ids)) ∙ ap (scoped_front ids) (sym (merge_end p v n ws xs ys g e)) ∙ told
+    ap (λ l. scoped g l) (sym (append-nil ids)) ∙ ap (scoped_front ids) (sym (merge_end p v n ws xs ys g e)) ∙ told
 
 -- ## Bodies and turns
 

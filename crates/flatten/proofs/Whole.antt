@@ -21,14 +21,15 @@ use Rattle.flat_ir.specs.Program as flat
 use Rattle.flat_ir.specs.Program.{Program}
 use Rattle.flat_ir.specs.Blocks.{Reading, block_at, HasLowParents}
 use Rattle.flat_ir.specs.Run.{with_writes, verdict, flat_store, flat_verdict}
-use Rattle.flatten.specs.Flatten.{Given, Scoped, Merged, nought, one, emit, root, constants, give_field, give_fields, arrived, start_view, end_of, flat_of, field_widths, all_changed}
+use Rattle.flatten.specs.Flatten.{Given, Scoped, Merged, nought, one, root, constants, give_field, give_fields, arrived, start_view, end_of, flat_of, field_widths, all_changed}
 use Rattle.flatten.specs.Occurs.{is_in_body}
-use Rattle.flatten.proofs.BothParts.{right}
 use Rattle.packet_fields.specs.FieldOrder.{at_index, index-lt, length-all_fields}
 use Rattle.flatten.proofs.Views.{Below, InRange, Meets, Agree, HasId, IsThere, below_more, meets_more, agree_more, range_none, agree_none}
 use Rattle.element_lang.specs.KeptRuns.{start_fits}
-use Rattle.flatten.proofs.Meanings.{run, get, Grows, grows_refl, grows_trans, grows_emit, emit_length, emit_reads, emit_still, here_root, Based, based_later, Within, Shown, Going, Leaves, Stands, Sound, body_sound}
-use Rattle.flatten.proofs.Written.{FieldsStandAlone, IsPlace, HasPlaces, all_counted, written_all}
+use Rattle.flatten.proofs.Meanings.{run, get, Grows, grows_refl, grows_trans, grows_emit, emit_reads, emit_still, here_root, Based, based_later, Within, Shown, Going, Leaves, Stands, Sound, body_sound}
+use Rattle.flatten.proofs.Written.{IsPlace, HasPlaces, all_counted, written_all}
+use Rattle.lemmas.proofs.Tests.{and_second}
+use Rattle.flatten.proofs.Growth.{both_bits, emit_length, empty, zero_bit}
 
 -- ## The fields as they arrive
 
@@ -49,7 +50,7 @@ module _ (F : Program) (st : Store) (packet : Packet) where
       let work = flat.field f in
       record {
         grows = grows_emit F st packet root work g;
-        inside = omega (arith, emit_length F st packet root work g);
+        inside = omega (arith, emit_length root work g);
         store = emit_still F st packet root work g refl;
         meets = emit_reads F st packet root work g 0;
         there = λ e. tt;
@@ -82,16 +83,6 @@ module _ (F : Program) (st : Store) (packet : Packet) where
         there = there_at;
       }
 
-  -- the constants, given one after the other
-  abbrev empty : Given
-  empty = record { code = []; blocks = [] }
-
-  abbrev zero_bit : Given
-  zero_bit = emit root (flat.const 1 0) empty
-
-  abbrev both_bits : Given
-  both_bits = emit root (flat.const 1 1) zero_bit
-
   constants_based : Based F st packet constants
   constants_based = record {
     some = lit< tt;
@@ -111,10 +102,9 @@ came_at g f =
 
 meets_index : (f : ValueId → ℕ) (ids : List (Option ValueId)) (us : List ℕ) (x : ℕ) → Agree f ids us → Meets f (get_or ids x None) (slice_index us x)
 meets_index f [] [] x a = tt
-meets_index f [] (u ∷ us) x a = absurd a
-meets_index f (i ∷ ids) [] x a = absurd a
 meets_index f (i ∷ ids) (u ∷ us) zero a = a.0
 meets_index f (i ∷ ids) (u ∷ us) (suc x) a = meets_index f ids us x a.1
+meets_index f _ _ x a = absurd a
 
 there_has : (n : ℕ) (ws : List ℕ) (ids : List (Option ValueId)) (x : ℕ) → InRange n ws ids → x < length ws → IsThere ids x → HasId (get_or ids x None)
 there_has n [] ids x r lt h = absurd (omega (arith, lt))
@@ -182,7 +172,7 @@ module _ (m : Tree) (st : Store) (packet : Packet) (good : is_good m ≡ true) (
     }
 
     body_whole : Sound F st packet m occurs root g0 (start_view m) (do_body (local_widths m) packet m.body) (end_of m)
-    body_whole = (body_sound F st packet m occurs arrives m.body [] 0 (right _ _ good) (λ f h. h) root g0 (start_view m) (omega arith) based starts_within tt shown).sound
+    body_whole = (body_sound F st packet m occurs arrives m.body [] 0 (and_second _ _ good) (λ f h. h) root g0 (start_view m) (omega arith) based starts_within tt shown).sound
 
     low_blocks : HasLowParents F.blocks
     low_blocks = subst HasLowParents (sym same_blocks) (body_whole.grows.low (came.grows.low (λ k lt. absurd (omega (arith, lt)))))
@@ -193,8 +183,8 @@ module _ (m : Tree) (st : Store) (packet : Packet) (good : is_good m ≡ true) (
     -- each field, as it came and as it leaves
     field_place : (reads : ValueId → ℕ) (values : List ℕ) → Agree reads (arrived m).ids (map (field_value packet.bytes packet.port) all_fields) → Agree reads (end_of m).view.fields values
         → ((f : Field) → occurs f ≡ false → slice_index values (field_index f) ≡ field_value packet.bytes packet.port f)
-        → (alone : FieldsStandAlone packet.port) (f : Field) → IsPlace packet.port alone reads (field_value packet.bytes packet.port) f (get_or (arrived m).ids (field_index f) None) (get_or (end_of m).view.fields (field_index f) None) (slice_index values (field_index f))
-    field_place reads values before now still alone f =
+        → (f : Field) → IsPlace packet.port reads (field_value packet.bytes packet.port) f (get_or (arrived m).ids (field_index f) None) (get_or (end_of m).view.fields (field_index f) None) (slice_index values (field_index f))
+    field_place reads values before now still f =
         let x = field_index f in
         record {
           came = subst (Meets reads (get_or (arrived m).ids x None)) (came_at (field_value packet.bytes packet.port) f) (meets_index reads (arrived m).ids (map (field_value packet.bytes packet.port) all_fields) x before);
@@ -210,17 +200,17 @@ module _ (m : Tree) (st : Store) (packet : Packet) (good : is_good m ≡ true) (
               (cases_Bool (occurs f));
         }
 
-    pub writes_told : FieldsStandAlone packet.port → (by : ℕ) (now : List ℕ) → Leaves F st packet m occurs (end_of m).given (end_of m).view by now
+    pub writes_told : (by : ℕ) (now : List ℕ) → Leaves F st packet m occurs (end_of m).given (end_of m).view by now
         → with_writes (all_changed all_fields (arrived m).ids (end_of m).view.fields) (get F st packet (end_of m).given) packet.bytes ≡ now
-    writes_told alone by now z =
+    writes_told by now z =
         let reads = get F st packet (end_of m).given in
         let before : Agree reads (arrived m).ids (map (field_value packet.bytes packet.port) all_fields)
         = agree_more (get F st packet g0) reads (length g0.code) field_widths (arrived m).ids (map (field_value packet.bytes packet.port) all_fields) body_whole.grows.keeps came.inside came.meets in
-        let places : HasPlaces packet.port alone reads (field_value packet.bytes packet.port) 0 (arrived m).ids (end_of m).view.fields z.values = λ f le.
+        let places : HasPlaces packet.port reads (field_value packet.bytes packet.port) 0 (arrived m).ids (end_of m).view.fields z.values = λ f le.
         let none : field_index f ≡ field_index f - 0 = omega arith in
-        subst (λ n. IsPlace packet.port alone reads (field_value packet.bytes packet.port) f (get_or (arrived m).ids n None) (get_or (end_of m).view.fields n None) (slice_index z.values (field_index f))) none
-        (field_place reads z.values before z.fields z.still alone f) in
-        written_all packet.port alone reads (field_value packet.bytes packet.port) all_fields 0 (length g0.code) (length (end_of m).given.code) (arrived m).ids (end_of m).view.fields z.values packet.bytes all_counted
+        subst (λ n. IsPlace packet.port reads (field_value packet.bytes packet.port) f (get_or (arrived m).ids n None) (get_or (end_of m).view.fields n None) (slice_index z.values (field_index f))) none
+        (field_place reads z.values before z.fields z.still f) in
+        written_all packet.port reads (field_value packet.bytes packet.port) all_fields 0 (length g0.code) (length (end_of m).given.code) (arrived m).ids (end_of m).view.fields z.values packet.bytes all_counted
         came.inside body_whole.within.fields places arrives.bytes (λ f le. refl)
         ∙ sym z.bytes
 
@@ -228,15 +218,15 @@ module _ (m : Tree) (st : Store) (packet : Packet) (good : is_good m ≡ true) (
   store_told (Running s) z = z.store
   store_told (Ended t verdict) z = z.store
 
-  verdict_told : FieldsStandAlone packet.port → (o : Outcome) → Stands (flat_of m) st packet m occurs (end_of m).given (end_of m).view o → flat_verdict (flat_of m) st packet ≡ verdict_after o
-  verdict_told alone (Running s) z = is_drop (flat_of m) packet (get (flat_of m) st packet (end_of m).given) z.send
-  verdict_told alone (Ended t Drop) z = is_drop (flat_of m) packet (get (flat_of m) st packet (end_of m).given) z.does
-  verdict_told alone (Ended t (Send by now)) z =
+  verdict_told : (o : Outcome) → Stands (flat_of m) st packet m occurs (end_of m).given (end_of m).view o → flat_verdict (flat_of m) st packet ≡ verdict_after o
+  verdict_told (Running s) z = is_drop (flat_of m) packet (get (flat_of m) st packet (end_of m).given) z.send
+  verdict_told (Ended t Drop) z = is_drop (flat_of m) packet (get (flat_of m) st packet (end_of m).given) z.does
+  verdict_told (Ended t (Send by now)) z =
       let leaves = z.does in
-      is_sent (flat_of m) packet (get (flat_of m) st packet (end_of m).given) by now leaves.send leaves.port leaves.small (writes_told (flat_of m) refl alone by now leaves)
+      is_sent (flat_of m) packet (get (flat_of m) st packet (end_of m).given) by now leaves.send leaves.port leaves.small (writes_told (flat_of m) refl by now leaves)
 
   pub same_store : flat_store (flat_of m) st packet ≡ source_store m st packet
   same_store = store_told (source_run m st packet) (ends (flat_of m) refl)
 
-  pub same_verdict : FieldsStandAlone packet.port → flat_verdict (flat_of m) st packet ≡ source_verdict m st packet
-  same_verdict alone = verdict_told alone (source_run m st packet) (ends (flat_of m) refl)
+  pub same_verdict : flat_verdict (flat_of m) st packet ≡ source_verdict m st packet
+  same_verdict = verdict_told (source_run m st packet) (ends (flat_of m) refl)

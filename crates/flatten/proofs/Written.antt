@@ -5,19 +5,14 @@ use Rattle.packet_fields.specs.declared.field.Field.{Field}
 use Rattle.packet_fields.specs.Table.{row, all_fields, field_index}
 use Rattle.packet_fields.specs.Fields.{field_value, with_field}
 use Rattle.packet_fields.specs.Several.{AreBytes}
+use Rattle.packet_fields.proofs.Laws.{fields_stand_alone-bytes, fields_stand_alone-others, fields_stand_alone-own}
 use Rattle.element_lang.specs.Meaning.{with_fields}
 use Rattle.flat_ir.specs.declared.program.ValueId.{ValueId}
 use Rattle.flat_ir.specs.declared.program.FieldValue.{FieldValue}
 use Rattle.flat_ir.specs.Run.{with_writes}
 use Rattle.flatten.specs.Flatten.{same_id, changed, all_changed}
-use Rattle.flatten.proofs.BothParts.{left, right}
 use Rattle.flatten.proofs.Views.{InRange, Meets, HasId}
-
--- fields of a packet stand alone: a field set to its own value leaves the packet, and a field that is set leaves the others
-pub record FieldsStandAlone (port : ℕ) : Type 0 where
-  pub own : (bytes : List ℕ) (f : Field) → AreBytes bytes → with_field bytes f (field_value bytes port f) ≡ bytes
-  pub others : (bytes : List ℕ) (f g : Field) (value : ℕ) → (row f).writable ≡ true → f ≢ g → field_value (with_field bytes f value) port g ≡ field_value bytes port g
-  pub small : (bytes : List ℕ) (f : Field) (value : ℕ) → AreBytes bytes → AreBytes (with_field bytes f value)
+use Rattle.lemmas.proofs.Tests.{and_first, and_second}
 
 -- these fields have the places from k on
 abbrev pub counted : ℕ → List Field → Bool
@@ -28,17 +23,17 @@ pub all_counted : counted 0 all_fields ≡ true
 unfolding all_fields
 all_counted = refl
 
-same_itself : (a : ValueId) → same_id a a ≡ true
+pub same_itself : (a : ValueId) → same_id a a ≡ true
 same_itself a = ap (λ t. t && a.result == a.result) (eq-eqb a.instruction a.instruction refl) ∙ eq-eqb a.result a.result refl
 
-same_ids : (a b : ValueId) → same_id a b ≡ true → a ≡ b
+pub same_ids : (a b : ValueId) → same_id a b ≡ true → a ≡ b
 same_ids a b e =
-    let first : a.instruction ≡ b.instruction = eqb-true a.instruction b.instruction (left _ _ e) in
-    let second : a.result ≡ b.result = eqb-true a.result b.result (right (a.instruction == b.instruction) _ e) in
+    let first : a.instruction ≡ b.instruction = eqb-true a.instruction b.instruction (and_first _ _ e) in
+    let second : a.result ≡ b.result = eqb-true a.result b.result (and_second (a.instruction == b.instruction) _ e) in
     let made : ℕ → ℕ → ValueId = λ i j. record { instruction = i; result = j } in
     ap (λ i. made i a.result) first ∙ ap (λ j. made b.instruction j) second
 
-module _ (port : ℕ) (alone : FieldsStandAlone port) (reads : ValueId → ℕ) (first : Field → ℕ) where
+module _ (port : ℕ) (reads : ValueId → ℕ) (first : Field → ℕ) where
   -- a field that came as a and leaves as b, with this value in the source
   pub record IsPlace (f : Field) (a b : Option ValueId) (u : ℕ) : Type 0 where
     pub came : Meets reads a (first f)
@@ -51,7 +46,7 @@ module _ (port : ℕ) (alone : FieldsStandAlone port) (reads : ValueId → ℕ) 
   written f u bytes = if (row f).writable then with_field bytes f u else bytes
 
   unwritten : (w : Bool) (f : Field) (u : ℕ) (bytes : List ℕ) → AreBytes bytes → field_value bytes port f ≡ first f → u ≡ first f → bytes ≡ cond w (with_field bytes f u) bytes
-  unwritten true f u bytes are is e = sym (alone.own bytes f are) ∙ ap (with_field bytes f) (is ∙ sym e)
+  unwritten true f u bytes are is e = sym (fields_stand_alone-own bytes port f are) ∙ ap (with_field bytes f) (is ∙ sym e)
   unwritten false f u bytes are is e = refl
 
   both_same : (c w : Bool) (f : Field) (a b : ValueId) (u : ℕ) (bytes : List ℕ) → same_id a b ≡ c → (row f).writable ≡ w → AreBytes bytes → field_value bytes port f ≡ first f → IsPlace f (Some a) (Some b) u
@@ -72,11 +67,11 @@ module _ (port : ℕ) (alone : FieldsStandAlone port) (reads : ValueId → ℕ) 
   writes_append (x ∷ xs) ys bytes = writes_append xs ys (with_field bytes x.field (reads x.value))
 
   written_bytes : (w : Bool) (f : Field) (u : ℕ) (bytes : List ℕ) → AreBytes bytes → AreBytes (cond w (with_field bytes f u) bytes)
-  written_bytes true f u bytes are = alone.small bytes f u are
+  written_bytes true f u bytes are = fields_stand_alone-bytes bytes f u are
   written_bytes false f u bytes are = are
 
   written_others : (w : Bool) (f g : Field) (u : ℕ) (bytes : List ℕ) → (row f).writable ≡ w → f ≢ g → field_value (cond w (with_field bytes f u) bytes) port g ≡ field_value bytes port g
-  written_others true f g u bytes is ne = alone.others bytes f g u is ne
+  written_others true f g u bytes is ne = fields_stand_alone-others bytes port f g u is ne
   written_others false f g u bytes is ne = refl
 
   abbrev pub HasPlaces : ℕ → List (Option ValueId) → List (Option ValueId) → List ℕ → Type 0
@@ -100,11 +95,11 @@ module _ (port : ℕ) (alone : FieldsStandAlone port) (reads : ValueId → ℕ) 
   written_all (f ∷ fs) k n n' [] now values bytes c r r' places are firsts = absurd r
   written_all (f ∷ fs) k n n' (a ∷ came) [] values bytes c r r' places are firsts = absurd r'
   written_all (f ∷ fs) k n n' (a ∷ came) (b ∷ now) values bytes c r r' places are firsts =
-      let e : field_index f ≡ k = eqb-true (field_index f) k (left _ _ c) in
+      let e : field_index f ≡ k = eqb-true (field_index f) k (and_first _ _ c) in
       let u = slice_index values (field_index f) in
       let next = written f u bytes in
       writes_append (changed f a b) (all_changed fs came now) bytes
       ∙ ap (with_writes (all_changed fs came now) reads) (one_field f a b u bytes are (firsts f (omega (arith, e))) (head_place f k a b came now values e places))
-      ∙ written_all fs (suc k) n n' came now values next (right (field_index f == k) _ c) r.1 r'.1 (tail_places k a b came now values places)
+      ∙ written_all fs (suc k) n n' came now values next (and_second (field_index f == k) _ c) r.1 r'.1 (tail_places k a b came now values places)
       (written_bytes (row f).writable f u bytes are)
       (λ g le. written_others (row f).writable f g u bytes refl (λ same. omega (arith, e, le, ap field_index same)) ∙ firsts g (omega (arith, le)))

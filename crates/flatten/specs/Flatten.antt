@@ -145,21 +145,18 @@ merge_id p v width a b g =
 
 -- a local that one side alone has was not in scope before
 abbrev pub merge_option : Place → ValueId → ℕ → Option ValueId → Option ValueId → Given → Merged
-merge_option p v width None b g = record { given = g; id = None }
-merge_option p v width (Some a) None g = record { given = g; id = None }
 merge_option p v width (Some a) (Some b) g =
     let r = merge_id p v width a b g in
     record { given = r.given; id = Some r.id }
+merge_option p v width _ _ g = record { given = g; id = None }
 
 -- variables of these widths, in order
 abbrev pub merge_ids : Place → ValueId → List ℕ → List (Option ValueId) → List (Option ValueId) → Given → Scoped
-merge_ids p v [] xs ys g = record { given = g; ids = [] }
-merge_ids p v (width ∷ ws) [] ys g = record { given = g; ids = [] }
-merge_ids p v (width ∷ ws) (a ∷ xs) [] g = record { given = g; ids = [] }
 merge_ids p v (width ∷ ws) (a ∷ xs) (b ∷ ys) g =
     let r = merge_option p v width a b g in
     let rest = merge_ids p v ws xs ys r.given in
     record { given = rest.given; ids = r.id ∷ rest.ids }
+merge_ids p v _ _ _ g = record { given = g; ids = [] }
 
 -- all but whether the run has ended, which is taken from the second
 abbrev pub merge : List ℕ → Place → ValueId → View → View → Given → At
@@ -188,12 +185,7 @@ abbrev pub merge_ended : Place → ValueId → Ending → Ending → Given → E
 merge_ended p v No No g = record { given = g; ended = No }
 merge_ended p v Yes Yes g = record { given = g; ended = Yes }
 merge_ended p v Yes No g = record { given = g; ended = Maybe v }
-merge_ended p v No Yes g = select_ended p v No Yes g
-merge_ended p v No (Maybe u) g = select_ended p v No (Maybe u) g
-merge_ended p v Yes (Maybe u) g = select_ended p v Yes (Maybe u) g
-merge_ended p v (Maybe t) No g = select_ended p v (Maybe t) No g
-merge_ended p v (Maybe t) Yes g = select_ended p v (Maybe t) Yes g
-merge_ended p v (Maybe t) (Maybe u) g = select_ended p v (Maybe t) (Maybe u) g
+merge_ended p v a b g = select_ended p v a b g
 
 abbrev pub with_ended : EndedAt → View → At
 with_ended e w = record { given = e.given; view = record w { ended = e.ended } }
@@ -253,9 +245,8 @@ kept None now = None
 kept (Some a) now = now
 
 abbrev pub in_scope : List (Option ValueId) → List (Option ValueId) → List (Option ValueId)
-in_scope [] now = []
-in_scope (a ∷ before) [] = []
 in_scope (a ∷ before) (b ∷ now) = kept a b ∷ in_scope before now
+in_scope _ _ = []
 
 -- what was declared in a body is out of scope behind it
 abbrev pub leave : View → View → View
@@ -362,15 +353,12 @@ start_view m = record {
 
 -- a field that occurs leaves with another value than it came with
 abbrev pub changed : Field → Option ValueId → Option ValueId → List FieldValue
-changed f None b = []
-changed f (Some a) None = []
 changed f (Some a) (Some b) = if same_id a b then [] else record { field = f; value = b } ∷ []
+changed f _ _ = []
 
 abbrev pub all_changed : List Field → List (Option ValueId) → List (Option ValueId) → List FieldValue
-all_changed [] before after = []
-all_changed (f ∷ fs) [] after = []
-all_changed (f ∷ fs) (a ∷ before) [] = []
 all_changed (f ∷ fs) (a ∷ before) (b ∷ after) = changed f a b ++ all_changed fs before after
+all_changed _ _ _ = []
 
 abbrev pub end_of : Tree → At
 end_of m = flat_body (local_widths m) m.body root (arrived m).given (start_view m)

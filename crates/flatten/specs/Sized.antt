@@ -1,7 +1,7 @@
 -- Trees whose shifts have a width, and whose looks bind few locals.
 use Rattle.std.specs.Prelude.{◌≤◌, ℕ, List, length}
 use Rattle.element_lang.specs.Tree.{ExprTree, Exprs, StmtTree, BodyTree}
-use Rattle.element_lang.specs.Tree.ExprTree.{lit, local, field, byte, shift, apply}
+use Rattle.element_lang.specs.Tree.ExprTree.{byte, shift, apply}
 use Rattle.element_lang.specs.Tree.Exprs.{no_expr, expr}
 use Rattle.element_lang.specs.Tree.StmtTree.{let_local, assign, set_field, look, put, del, choose, repeat, send, drop}
 use Rattle.element_lang.specs.Tree.BodyTree.{done, stmt}
@@ -9,12 +9,10 @@ use Rattle.element_lang.specs.Widths.{width_of}
 
 abbrev mutual
   pub IsSizedExpr : List ℕ → ExprTree → Type 0
-  IsSizedExpr widths (lit value width) = Unit {0}
-  IsSizedExpr widths (local x) = Unit {0}
-  IsSizedExpr widths (field f) = Unit {0}
   IsSizedExpr widths (byte index) = IsSizedExpr widths index
   IsSizedExpr widths (shift op by arg) = (1 ≤ width_of widths arg) × IsSizedExpr widths arg
   IsSizedExpr widths (apply op width args) = AreSizedExprs widths args
+  IsSizedExpr widths _ = Unit {0}
 
   pub AreSizedExprs : List ℕ → Exprs → Type 0
   AreSizedExprs widths no_expr = Unit {0}

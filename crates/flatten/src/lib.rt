@@ -5,7 +5,6 @@ mod entry;
 mod error;
 mod frame;
 mod journal;
-mod laws;
 mod merge;
 mod occurs;
 mod output;
@@ -19,6 +18,5 @@ mod stretch;
 mod value;
 
 pub use error::FlatError;
-pub use laws::{flattened_is_well_formed, flattening_keeps_the_meaning};
 pub use program::flatten;
 pub use sizes::MAX_INSTRUCTIONS;

@@ -16,7 +16,6 @@ ghost use Rattle.flatten.specs.declared.error.FlatError.TheVariants.{TooLarge};
 use crate::error::FlatError;
 use crate::frame::Frame;
 use crate::journal::Tracked;
-use crate::laws::{flattened_is_well_formed, flattening_keeps_the_meaning};
 use crate::occurs::Seen;
 use crate::output::Output;
 use crate::place::{Ending, Place};
@@ -224,7 +223,5 @@ pub fn flatten(alloc: Global, m: &Middlebox) -> Result<Flat, FlatError>
     ensures formed { IfOk result (λ f. IsWellFormed (program_of f)) }
     ensures objects { IfOk result (λ f. (program_of f).objects ≡ (tree m.now).objects) }
 {
-    flattening_keeps_the_meaning();
-    flattened_is_well_formed();
     built(alloc, m)
 }

@@ -1,7 +1,7 @@
 -- Which widths go with an operator.
 use Rattle.std.specs.Prelude.{ℕ, ◌+◌, Bool, true, false, ◌&&◌, List, [], ◌∷◌, length, nat_le, ◌==◌, slice_index}
 use Rattle.gal_bits.specs.declared.op.Op.{Op}
-use Rattle.gal_bits.specs.declared.op.Op.TheVariants.{Add, Sub, Mul, Div, Rem, And, Or, Xor, Not, Shl, Shr, Eq, Ne, Lt, Le, Cast, Select, Adjust}
+use Rattle.gal_bits.specs.declared.op.Op.TheVariants.{Not, Shl, Shr, Eq, Ne, Lt, Le, Cast, Select, Adjust}
 
 -- a width is from 1 to 64
 abbrev pub is_width : ℕ → Bool
@@ -20,14 +20,6 @@ same_widths (x ∷ xs) (y ∷ ys) = x == y && same_widths xs ys
 
 -- the arguments' widths fit the operator and the width of its result
 abbrev pub fits_operator : Op → ℕ → List ℕ → Bool
-fits_operator Add w args = same_widths args (w ∷ w ∷ [])
-fits_operator Sub w args = same_widths args (w ∷ w ∷ [])
-fits_operator Mul w args = same_widths args (w ∷ w ∷ [])
-fits_operator Div w args = same_widths args (w ∷ w ∷ [])
-fits_operator Rem w args = same_widths args (w ∷ w ∷ [])
-fits_operator And w args = same_widths args (w ∷ w ∷ [])
-fits_operator Or w args = same_widths args (w ∷ w ∷ [])
-fits_operator Xor w args = same_widths args (w ∷ w ∷ [])
 fits_operator Not w args = same_widths args (w ∷ [])
 fits_operator Shl w args = false
 fits_operator Shr w args = false
@@ -38,6 +30,7 @@ fits_operator Le w args = w == 1 && same_widths args (slice_index args 0 ∷ sli
 fits_operator Cast w args = is_width w && length args == 1
 fits_operator Select w args = same_widths args (1 ∷ w ∷ w ∷ [])
 fits_operator Adjust w args = w == 16 && same_widths args (16 ∷ 16 ∷ 16 ∷ [])
+fits_operator _ w args = same_widths args (w ∷ w ∷ [])
 
 abbrev pub is_shift : Op → Bool
 is_shift Shl = true

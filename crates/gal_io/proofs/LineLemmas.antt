@@ -1,7 +1,7 @@
 -- The first line of a text, and what follows it.
-use Rattle.std.proofs.Common.{◌≡◌, ℕ, suc, ◌+◌, ◌<◌, ◌≤◌, Bool, true, false, not, List, [], ◌∷◌, length, get_or, take, drop, map, eqb, cond, Option, Some, None, unwrap_or, inl, inr, refl, ap, arith}
+use Rattle.std.proofs.Common.{◌≡◌, ℕ, suc, ◌+◌, ◌<◌, ◌≤◌, true, false, not, List, [], ◌∷◌, length, get_or, take, drop, map, eqb, cond, Option, Some, None, unwrap_or, refl, ap, arith}
 use Rattle.std.specs.List.{position_or_len, onto_first}
-use Rattle.std.proofs.lemmas.Bool.{cases_Bool}
+use Rattle.std.proofs.lemmas.Bool.{false_from_ne_true}
 use Rattle.std.proofs.lemmas.List.Sums.{position_or_len_is}
 use Rattle.memchr.specs.Find.{IsFirstByte, is_byte}
 use Rattle.gal_io.specs.Lines.{fed_lines, lines, without_return}
@@ -10,13 +10,10 @@ use Rattle.gal_io.specs.Lines.{fed_lines, lines, without_return}
 abbrev feed_at : List ℕ → ℕ
 feed_at text = position_or_len (λ byte. eqb byte 10) text
 
-not_passed : (b : Bool) → (b ≡ true → ⊥) → b ≡ false
-not_passed b h = elim (cases_Bool b) [ inl passed ↦ absurd (h passed) | inr failed ↦ failed ]
-
 -- that place is the one that a search for the byte finds
 pub first_feed : (text : List ℕ) (found : Option ℕ) → IsFirstByte (is_byte 10) text found → feed_at text ≡ unwrap_or found (length text)
-first_feed text None nowhere = position_or_len_is (is_byte 10) text (length text) 0 (omega arith) (λ k small. not_passed (is_byte 10 (get_or text k 0)) (nowhere k (omega arith) small)) (λ small. absurd (omega arith))
-first_feed text (Some at) first = position_or_len_is (is_byte 10) text at 0 (let high = first.0.high in omega arith) (λ k small. not_passed (is_byte 10 (get_or text k 0)) (first.0.before k (omega arith) small)) (λ small. first.1)
+first_feed text None nowhere = position_or_len_is (is_byte 10) text (length text) 0 (omega arith) (λ k small. false_from_ne_true (is_byte 10 (get_or text k 0)) (nowhere k (omega arith) small)) (λ small. absurd (omega arith))
+first_feed text (Some at) first = position_or_len_is (is_byte 10) text at 0 (let high = first.0.high in omega arith) (λ k small. false_from_ne_true (is_byte 10 (get_or text k 0)) (first.0.before k (omega arith) small)) (λ small. first.1)
 
 pub feed_within : (text : List ℕ) (found : Option ℕ) → IsFirstByte (is_byte 10) text found → unwrap_or found (length text) ≤ length text
 feed_within text None nowhere = omega arith

@@ -1,15 +1,15 @@
 -- The value of digits, and numbers as they are printed.
-use Rattle.std.proofs.Common.{◌≡◌, ℕ, zero, suc, ◌+◌, ◌-◌, ◌*◌, ◌/◌, ◌%◌, ◌^◌, ◌≤◌, ◌<◌, Bool, true, false, cond, leb, List, [], ◌∷◌, ◌++◌, length, get_or, drop, Some, None, option_and_then, drop-cons, sym, ap, ◌∙◌, lit<, arith, refl, length-append, append_assoc}
+use Rattle.std.proofs.Common.{◌≡◌, ℕ, suc, ◌+◌, ◌-◌, ◌*◌, ◌/◌, ◌%◌, ◌^◌, ◌≤◌, ◌<◌, Bool, true, false, cond, leb, List, [], ◌∷◌, ◌++◌, length, get_or, drop, Some, None, option_and_then, drop-cons, sym, ap, ◌∙◌, arith, refl, append_assoc}
 use Rattle.std.proofs.lemmas.List.{append-nil, drop-set}
 use Rattle.std.proofs.Math.ListN.{drop_of_length-le, set}
 use Rattle.std.specs.Char.{digit_value}
 use Rattle.std.specs.Fmt.{decimal}
 use Rattle.std.specs.Str.{all_ascii_digits}
 use Rattle.std.specs.Str.Parse.{digits_value, digits_value_after}
-use Rattle.std.proofs.lemmas.Str.Parse.{IsNumeralModel, numerals_by_value, tells_all_ascii_digits}
-use Rattle.std.proofs.lemmas.Fmt.{decimal-digits_value, digits_decimal, digits_value-decimal, decimal_nonempty, first_decimal, decimal_digit, decimal_step, length-decimal-le}
+use Rattle.std.proofs.lemmas.Fmt.{decimal-digits_value, digits_decimal, digits_value-decimal, decimal_nonempty, decimal_digit, decimal_step}
 use Rattle.std.proofs.lemmas.Bool.Decides.{nat_tests}
 use Rattle.gal_io.specs.Number.{is_number, number_up_to}
+use Rattle.lemmas.proofs.Numbers.{decimal_digits as own, no_zero_first}
 
 -- further digits make a number no less
 value_at_least : (value : ℕ) (digits : List ℕ) → value ≤ digits_value_after 10 value digits
@@ -18,9 +18,6 @@ value_at_least value (digit ∷ digits) = omega (arith, value_at_least (value * 
 
 pub value_with_next : (value : ℕ) (digits : List ℕ) (at : ℕ) → at < length digits → value * 10 + digit_value (get_or digits at 0) ≤ digits_value_after 10 value (drop at digits)
 value_with_next value digits at inside = rw (drop-cons digits at 0) (value_at_least (value * 10 + digit_value (get_or digits at 0)) (drop (suc at) digits))
-
-own : IsNumeralModel (λ digits. all_ascii_digits digits ≡ true) (digits_value 10)
-own = numerals_by_value _ tells_all_ascii_digits
 
 -- what a number's text is, and what it isn't
 record Numeral (text : List ℕ) : Type 0 where
@@ -36,15 +33,11 @@ numeral_is : (text : List ℕ) → Numeral text → is_number text ≡ true
 numeral_is [] h = absurd (omega (arith, h.some))
 numeral_is (first ∷ rest) h = grind (arith, nat_tests, h.digits, h.unpadded)
 
-decimal_unpadded : (number : ℕ) → number < 2 ^ 64 → get_or (decimal number) 0 0 ≡ 48 → length (decimal number) ≡ 1
-decimal_unpadded zero fits h = ap length (decimal_digit 0 (lit< tt))
-decimal_unpadded (suc before) fits h = absurd (omega (arith, first_decimal (suc before) (omega arith) fits, h))
-
 decimal_is_numeral : (number : ℕ) → number < 2 ^ 64 → Numeral (decimal number)
 decimal_is_numeral number fits = record {
   some = decimal_nonempty number fits;
   digits = digits_decimal own number fits;
-  unpadded = decimal_unpadded number fits;
+  unpadded = no_zero_first number fits;
 }
 
 found_in : (is : Bool) (value most number : ℕ) → option_and_then (λ number. cond (leb number most) (Some number) None) (cond is (Some value) None) ≡ Some number → (is ≡ true) × (value ≡ number)
@@ -66,16 +59,6 @@ read_again text most number h small fits =
     rw (h, is, value) (grind (arith, nat_tests))
 
 -- ## Digits that are written
-
-pub few_digits : (number : ℕ) → number < 2 ^ 64 → length (decimal number) ≤ 20
-few_digits number fits = length-decimal-le 20 number (lit< tt) (omega arith) fits
-
-pub some_digits : (number : ℕ) → number < 2 ^ 64 → 0 < length (decimal number)
-some_digits number fits = decimal_nonempty number fits
-
--- the digits of a number and of what is left of it but for the last digit
-pub digits_left : (number : ℕ) → 10 ≤ number → number < 2 ^ 64 → length (decimal number) ≡ length (decimal (number / 10)) + 1
-digits_left number large fits = ap length (decimal_step number large fits) ∙ length-append (decimal (number / 10)) ((48 + number % 10) ∷ [])
 
 -- before a digit is written, all of the number is left
 pub nothing_written : (number start : ℕ) (digits : List ℕ) → length digits ≤ start → decimal number ≡ decimal number ++ drop start digits

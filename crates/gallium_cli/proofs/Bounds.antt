@@ -1,9 +1,9 @@
 -- What the sizes of a source bound in its flat program.
-use Rattle.std.proofs.Common.{◌≡◌, ◌≤◌, ◌<◌, ◌^◌, ◌==◌, ◌&&◌, ℕ, Bool, true, false, nat_le, List, [], ◌∷◌, length, map, slice_index}
+use Rattle.std.proofs.Common.{◌≡◌, ◌≤◌, ◌<◌, ◌^◌, ◌==◌, ℕ, true, nat_le, List, [], ◌∷◌, length, map, slice_index}
 use Rattle.std.proofs.Common.{refl, sym, ap, subst, arith}
 use Rattle.std.specs.Prelude.{All}
 use Rattle.std.specs.List.{list_all}
-use Rattle.std.proofs.lemmas.Bool.{leb-true, eqb-true, true≢false}
+use Rattle.std.proofs.lemmas.Bool.{leb-true, eqb-true, true≢false, and_from}
 use Rattle.std.proofs.lemmas.List.{length-map}
 use Rattle.std.proofs.lemmas.List.Elements.{All-nil, All-cons}
 use Rattle.state_store.specs.declared.object.Kind.{Kind}
@@ -14,29 +14,19 @@ use Rattle.element_lang.specs.Surface.{Declared, unplaced_decl, named_decl}
 use Rattle.element_lang.specs.Accepted.{IsSource}
 use Rattle.element_lang.specs.Sizes.{entries_of, entries_in}
 use Rattle.element_lang.specs.Rules as rules
-use Rattle.element_lang.specs.Rules.{are_widths, is_size, same_widths, is_width, is_good_object, are_good_objects, is_good_body}
+use Rattle.element_lang.specs.Rules.{are_widths, same_widths, is_width, is_good_object, are_good_objects, is_good_body}
 use Rattle.element_lang.specs.Rules.{declared_by}
 use Rattle.flat_ir.specs.Program.{Program}
 use Rattle.flat_ir.specs.WellFormed.{IsWellFormed}
 use Rattle.flatten.specs.Flatten.{flat_of}
 use Rattle.gal_bits.specs.Fitting.{sum_of}
 use Rattle.split_model.specs.Bounds.{IsSmall, IsBounded}
-use Rattle.gallium_cli.specs.declared.refusal.Refusal.TheVariants.{LongProgram}
-use Rattle.gallium_cli.specs.Roles.{program, IsShort}
-use Rattle.gallium_cli.specs.Roles.{IsOnlySource}
-use Rattle.gallium_cli.specs.Loads.{IsUnread}
-
-left : (a b : Bool) → (a && b) ≡ true → a ≡ true
-left true b h = refl
-left false b h = h
-
-right : (a b : Bool) → (a && b) ≡ true → b ≡ true
-right true b h = h
-right false b h = absurd (true≢false (sym h))
+use Rattle.element_print.proofs.ReadableDecls.{all_widths}
+use Rattle.lemmas.proofs.Tests.{and_first, and_second}
 
 small_widths : (ws : List ℕ) → are_widths ws ≡ true → sum_of ws ≤ 128
 small_widths ws h =
-    leb-true (sum_of ws) 128 (right _ (nat_le (sum_of ws) 128) h)
+    leb-true (sum_of ws) 128 (and_second _ (nat_le (sum_of ws) 128) h)
 
 no_widths : (ws : List ℕ) → (length ws == 0) ≡ true → sum_of ws ≤ 128
 no_widths [] h = omega arith
@@ -47,30 +37,22 @@ sum_of_same [] [] h = refl
 sum_of_same [] (y ∷ ys) h = absurd (true≢false (sym h))
 sum_of_same (x ∷ xs) [] h = absurd (true≢false (sym h))
 sum_of_same (x ∷ xs) (y ∷ ys) h =
-    let one = eqb-true x y (left (x == y) (same_widths xs ys) h) in
-    let others = sum_of_same xs ys (right (x == y) (same_widths xs ys) h) in
+    let one = eqb-true x y (and_first (x == y) (same_widths xs ys) h) in
+    let others = sum_of_same xs ys (and_second (x == y) (same_widths xs ys) h) in
     omega arith
 
 one_width : (ws : List ℕ) (w : ℕ) → same_widths ws (w ∷ []) ≡ true → is_width w ≡ true → sum_of ws ≤ 128
 one_width ws w same wide =
     let sum = sum_of_same ws (w ∷ []) same in
-    let low = leb-true w 64 (right (nat_le 1 w) (nat_le w 64) wide) in
+    let low = leb-true w 64 (and_second (nat_le 1 w) (nat_le w 64) wide) in
     omega arith
 
--- the widths of a value are widths
-fitting_widths : (ws : List ℕ) → are_widths ws ≡ true → list_all is_width ws ≡ true
-fitting_widths ws h = right _ (list_all is_width ws) (left _ _ h)
-
-both : (a b : Bool) → a ≡ true → b ≡ true → (a && b) ≡ true
-both true b one other = other
-both false b one other = one
-
-fitting_width : (ws : List ℕ) (w : ℕ) → same_widths ws (w ∷ []) ≡ true → is_width w ≡ true → list_all is_width ws ≡ true
+pub fitting_width : (ws : List ℕ) (w : ℕ) → same_widths ws (w ∷ []) ≡ true → is_width w ≡ true → list_all is_width ws ≡ true
 fitting_width [] w same wide = absurd (true≢false (sym same))
 fitting_width (x ∷ []) w same wide =
-    let one = eqb-true x w (left (x == w) (same_widths [] []) same) in
-    both (is_width x) true (subst (λ n. is_width n ≡ true) (sym one) wide) refl
-fitting_width (x ∷ y ∷ ys) w same wide = absurd (true≢false (sym (right (x == w) (same_widths (y ∷ ys) []) same)))
+    let one = eqb-true x w (and_first (x == w) (same_widths [] []) same) in
+    and_from (is_width x) true (subst (λ n. is_width n ≡ true) (sym one) wide) refl
+fitting_width (x ∷ y ∷ ys) w same wide = absurd (true≢false (sym (and_second (x == w) (same_widths (y ∷ ys) []) same)))
 
 index_width : (ws : List ℕ) → same_widths ws (32 ∷ []) ≡ true → sum_of ws ≤ 128
 index_width ws same = let sum = sum_of_same ws (32 ∷ []) same in omega arith
@@ -78,41 +60,41 @@ index_width ws same = let sum = sum_of_same ws (32 ∷ []) same in omega arith
 -- an object that keeps the rules, with room for so many rows, is small
 small_object : (kind : Kind) (o : ObjectDecl) → is_good_object kind o ≡ true → entries_of kind o ≤ 1048576 → IsSmall o
 small_object Table o h few =
-    let widths = left _ _ (left _ _ (left _ _ h)) in
-    let rows = eqb-true o.size (length o.rows) (right _ _ (left _ _ (left _ _ h))) in
+    let widths = and_first _ _ (and_first _ _ (and_first _ _ h)) in
+    let rows = eqb-true o.size (length o.rows) (and_second _ _ (and_first _ _ (and_first _ _ h))) in
     record {
       size = omega arith;
-      keys = small_widths o.keys (left (are_widths o.keys) _ widths);
-      values = small_widths o.values (right _ (are_widths o.values) widths);
-      widths = fitting_widths o.values (right _ (are_widths o.values) widths);
+      keys = small_widths o.keys (and_first (are_widths o.keys) _ widths);
+      values = small_widths o.values (and_second _ (are_widths o.values) widths);
+      widths = all_widths o.values (and_second _ (are_widths o.values) widths);
     }
 small_object Map o h few =
-    let widths = left _ _ (left _ _ (left _ _ h)) in
+    let widths = and_first _ _ (and_first _ _ (and_first _ _ h)) in
     record {
       size = few;
-      keys = small_widths o.keys (left (are_widths o.keys) _ widths);
-      values = small_widths o.values (right _ (are_widths o.values) widths);
-      widths = fitting_widths o.values (right _ (are_widths o.values) widths);
+      keys = small_widths o.keys (and_first (are_widths o.keys) _ widths);
+      values = small_widths o.values (and_second _ (are_widths o.values) widths);
+      widths = all_widths o.values (and_second _ (are_widths o.values) widths);
     }
 small_object Vector o h few =
-    let widths = left _ _ (left _ _ (left _ _ h)) in
+    let widths = and_first _ _ (and_first _ _ (and_first _ _ h)) in
     record {
       size = few;
-      keys = index_width o.keys (left (same_widths o.keys (32 ∷ [])) _ widths);
-      values = small_widths o.values (right _ (are_widths o.values) widths);
-      widths = fitting_widths o.values (right _ (are_widths o.values) widths);
+      keys = index_width o.keys (and_first (same_widths o.keys (32 ∷ [])) _ widths);
+      values = small_widths o.values (and_second _ (are_widths o.values) widths);
+      widths = all_widths o.values (and_second _ (are_widths o.values) widths);
     }
 small_object Int o h few =
     let first = slice_index o.values 0 in
-    let sized = left _ _ (left _ _ h) in
-    let one = eqb-true o.size 1 (right _ (o.size == 1) sized) in
-    let wide = left _ _ sized in
-    let widths = left _ _ wide in
+    let sized = and_first _ _ (and_first _ _ h) in
+    let one = eqb-true o.size 1 (and_second _ (o.size == 1) sized) in
+    let wide = and_first _ _ sized in
+    let widths = and_first _ _ wide in
     record {
       size = omega arith;
-      keys = no_widths o.keys (left (length o.keys == 0) _ widths);
-      values = one_width o.values first (right _ (same_widths o.values (first ∷ [])) widths) (right _ (is_width first) wide);
-      widths = fitting_width o.values first (right _ (same_widths o.values (first ∷ [])) widths) (right _ (is_width first) wide);
+      keys = no_widths o.keys (and_first (length o.keys == 0) _ widths);
+      values = one_width o.values first (and_second _ (same_widths o.values (first ∷ [])) widths) (and_second _ (is_width first) wide);
+      widths = fitting_width o.values first (and_second _ (same_widths o.values (first ∷ [])) widths) (and_second _ (is_width first) wide);
     }
 
 small_objects : (names : List (List ℕ)) (os : List ObjectDecl) → are_good_objects names os ≡ true
@@ -120,8 +102,8 @@ small_objects : (names : List (List ℕ)) (os : List ObjectDecl) → are_good_ob
 small_objects names [] h few = All-nil IsSmall
 small_objects names (o ∷ os) h few =
     All-cons IsSmall o os
-    (small_object o.kind o (left (is_good_object o.kind o) _ (left _ _ h)) (omega arith))
-    (small_objects (o.name ∷ names) os (right _ (are_good_objects (o.name ∷ names) os) h) (omega arith))
+    (small_object o.kind o (and_first (is_good_object o.kind o) _ (and_first _ _ h)) (omega arith))
+    (small_objects (o.name ∷ names) os (and_second _ (are_good_objects (o.name ∷ names) os) h) (omega arith))
 
 -- how many objects a source declares
 declared_objects : (text : List ℕ) (m : Tree) → IsSource text m → length m.objects ≤ 64
@@ -138,8 +120,8 @@ few_objects text m is = let few = declared_objects text m is in omega arith
 
 good_objects : (m : Tree) → rules.is_good m ≡ true → are_good_objects [] m.objects ≡ true
 good_objects m h =
-    left (are_good_objects [] m.objects) (declared_by m.body == length m.locals)
-    (left _ (is_good_body m [] 0 m.body) h)
+    and_first (are_good_objects [] m.objects) (declared_by m.body == length m.locals)
+    (and_first _ (is_good_body m [] 0 m.body) h)
 
 -- the flat program of a source is within bounds
 pub bounded_program : (text : List ℕ) (m : Tree) (f : Program) → IsSource text m → f ≡ flat_of m → IsWellFormed f
@@ -150,15 +132,3 @@ bounded_program text m f is same formed few = record {
   objects = declared_objects text m is;
   small = small_objects [] m.objects (good_objects m is.spelling.good) is.few_entries;
 }
-
-no_more : (n : ℕ) → n ≤ 4096 → 4096 < n → ⊥
-no_more n few many = omega arith
-
--- a source whose flat program is too long spells no program
-pub long_unread : (text : List ℕ) (m : Tree) → IsOnlySource text m → 4096 < length (flat_of m).code
-    → IsUnread LongProgram program text
-long_unread text m is many = (
-  (m, is.source),
-  λ spelled.
-      no_more (length (flat_of m).code) (subst IsShort (is.only spelled.0 spelled.1) spelled.2) many,
-)

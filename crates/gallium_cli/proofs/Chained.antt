@@ -1,5 +1,5 @@
 -- What the chain of a file comes to.
-use Rattle.std.proofs.Common.{◌≡◌, ◌≢◌, ◌≤◌, ◌<◌, ◌+◌, ◌^◌, ◌⊎◌, ℕ, List, [], ◌∷◌, length, IsTrue, Some, IfSome}
+use Rattle.std.proofs.Common.{◌≡◌, ◌≢◌, ◌≤◌, ◌<◌, ◌+◌, ◌⊎◌, ℕ, List, [], ◌∷◌, length, IsTrue, Some, IfSome}
 use Rattle.std.proofs.Common.{inl, inr, refl, sym, ap, subst, ◌∙◌, arith}
 use Rattle.gal_io.specs.Files.{FilesState}
 use Rattle.gal_io.specs.Sink.{SinkState}
@@ -22,28 +22,24 @@ use Rattle.element_chain.specs.Laws.{AreKept}
 use Rattle.chain_text.specs.Reads.{IsChainText, IsRefused}
 use Rattle.chain_text.specs.declared.error.ChainTextError.{ChainTextError}
 use Rattle.chain_text.specs.declared.error.ChainTextError.TheVariants as chains
-use Rattle.chain_compose.specs.Refusals as composing
 use Rattle.chain_compose.specs.Refusals.{IsUnrefused, KeepsSizes}
-use Rattle.chain_compose.specs.declared.error.ComposeError.{ComposeError}
-use Rattle.chain_compose.specs.declared.error.ComposeError.TheVariants as errors
 use Rattle.chain_compose.specs.declared.error.What.TheVariants.{Objects, Entries, Writes, Depth}
 use Rattle.switch_ir.specs.Port.{PortState}
 use Rattle.gallium_cli.specs.declared.status.Status.TheVariants as statuses
 use Rattle.gallium_cli.specs.declared.refusal.Refusal.{Refusal}
 use Rattle.gallium_cli.specs.declared.refusal.Refusal.TheVariants as refusals
-use Rattle.gallium_cli.specs.declared.refusal.Uncomposed.{Uncomposed as Told}
 use Rattle.gallium_cli.specs.Call.{work_of}
 use Rattle.gallium_cli.specs.Lines.{status_of}
 use Rattle.gallium_cli.specs.Words.{Chain}
 use Rattle.gallium_cli.specs.Roles.{source, wiring, size_of, gates_of}
 use Rattle.gallium_cli.specs.Loads.{GoesOn, IsFileRefused, IsUnread, raised_by}
 use Rattle.gallium_cli.specs.Chains.{AreClasses, IsFirstClassRefused, IsOneSource, IsUncomposed, IsWired}
-use Rattle.gallium_cli.specs.Chains.{class_files, class_refusal, connected, uncomposed_of}
+use Rattle.gallium_cli.specs.Chains.{class_files, class_refusal, connected}
 use Rattle.gallium_cli.specs.Answers.{IsAnswer}
 use Rattle.gallium_cli.specs.Causes.{CountsFaults, HasCause, IsFirstRefused, ReadsAll, reads_after}
-use Rattle.gallium_cli.proofs.Counted.{IsNoFileFault, gate_counts, goes_further, goes_still}
-use Rattle.gallium_cli.proofs.Files.{classes_before, first_class_later, passed_wiring}
-use Rattle.gallium_cli.proofs.Written.{gate_cause}
+use Rattle.gallium_cli.proofs.Counted.{IsNoFileFault, goes_further, goes_still}
+use Rattle.gallium_cli.proofs.Files.{first_class_later, passed_wiring, told_before}
+use Rattle.gallium_cli.proofs.Written.{all_some, gate_ended}
 
 -- ## The text
 
@@ -54,11 +50,10 @@ pub chain_unread : (fault : ChainTextError) (text : List ℕ) → fault ≢ chai
     → IsUnread (refusals.Chain fault) wiring text
 chain_unread fault text some is exact found = (
   some,
-  λ (chain, spelled). some (found chain spelled),
-  record {
-    cause = is;
-    only = λ other here refused. elim (exact other here refused) [ inl same ↦ sym same | inr none ↦ absurd (some none) ];
-  },
+  (
+    (some, λ (chain, spelled). some (found chain spelled), is),
+    λ other here refused. elim (exact other here refused) [ inl same ↦ sym same | inr none ↦ absurd (some none) ],
+  ),
 )
 
 -- ## Files of classes
@@ -70,7 +65,7 @@ class_goes (refusals.Source fault) name file f f' refused goes = goes
 class_goes (refusals.TooLong blamed) name file f f' refused goes = goes
 class_goes (refusals.ReadFault blamed) name file f f' refused goes = goes
 class_goes refusals.NoMemory name file f f' refused goes = goes
-class_goes _ name file f f' refused goes = absurd refused
+class_goes _ name file f f' refused goes = absurd refused.0
 
 -- ## The composed source
 
@@ -113,19 +108,6 @@ one_source c t text made unrefused good printed reads does =
       parts = same.parts;
     }
 
--- what is told where there is none
-pub told_uncomposed : (told : Told) (es : List Element) (error : ComposeError) (chain : ChainTold) (ms : List Tree)
-    → error ≢ errors.NoMemory → told ≡ uncomposed_of es error → chain.elements ≡ es
-    → composing.IsRefused (connected chain ms) error → IsUncomposed (refusals.Uncomposed told) chain ms
-told_uncomposed told es error chain ms some is same refused =
-    (error, some, refused, is ∙ ap (λ (xs : List Element). uncomposed_of xs error) (sym same))
-
-uncomposed_status : (refusal : Refusal) (chain : ChainTold) (ms : List Tree) → IsUncomposed refusal chain ms
-    → IsNoFileFault (status_of refusal)
-uncomposed_status (refusals.Uncomposed told) chain ms why = (refl, refl)
-uncomposed_status refusals.NoMemory chain ms why = (refl, refl)
-uncomposed_status _ chain ms why = absurd why
-
 -- ## Reads
 
 -- the files of the classes are read behind that of the chain
@@ -139,22 +121,15 @@ read_some : (w : List ℕ) (names : List (List ℕ)) (x y z : ℕ) → y ≡ rai
 read_some w [] x y z one two = omega arith
 read_some w (name ∷ names) x y z one two = omega arith
 
-pub few_before : (x y : ℕ) → y ≡ raised_by 1 x → y < 2 ^ 64
-few_before x y read = omega arith
-
 -- ## Causes
 
 -- the file of a chain is refused
-pub wiring_cause : (refusal : Refusal) (w : List ℕ) (f g : FilesState) (p : PortState) (o : SinkState)
-    → IsFileRefused refusal wiring w f g → g.reads ≡ raised_by 1 f.reads
-    → HasCause refusal (Some (Chain w)) (work_of f g p p o o)
-wiring_cause refusal w f g p o refused read =
-    gate_cause refusal (Chain w) f g p o (inl refused) (w ∷ [], inl refl, read_some w [] f.reads g.reads g.reads read (omega arith))
-
-pub wiring_counts : (refusal : Refusal) (w : List ℕ) (f g : FilesState) (p : PortState) (o : SinkState)
-    → IsFileRefused refusal wiring w f g → GoesOn (status_of refusal) f g
-    → CountsFaults (status_of refusal) (work_of f g p p o o)
-wiring_counts refusal w f g p o refused goes = gate_counts refusal (gates_of (Chain w)) f f g p o (inl refused) goes
+pub wiring_ended : (refusal : Refusal) (w : List ℕ) (f g : FilesState) (p : PortState) (o : SinkState)
+    → IsFileRefused refusal wiring w f g → g.reads ≡ raised_by 1 f.reads → GoesOn (status_of refusal) f g
+    → HasCause refusal (Some (Chain w)) (work_of f g p p o o) × CountsFaults (status_of refusal) (work_of f g p p o o)
+wiring_ended refusal w f g p o refused read goes =
+    gate_ended refusal (Chain w) f g p o (inl refused)
+    (w ∷ [], inl refl, read_some w [] f.reads g.reads g.reads read (omega arith)) goes
 
 -- a chain that was read
 pub record IsRead (w : List ℕ) (chain : ChainTold) (f g : FilesState) : Type 0 where
@@ -170,32 +145,24 @@ chain_read w chain f g spelled goes read = record { wired = spelled; goes = goes
 class_gates : (refusal : Refusal) (w : List ℕ) (chain : ChainTold) (f g h : FilesState) → IsRead w chain f g
     → IsFirstClassRefused refusal (class_files chain.elements) g h → IsFirstRefused refusal (gates_of (Chain w)) f h
 class_gates refusal w chain f g h is first = inr (
-  passed_wiring w f chain is.wired,
+  passed_wiring f.told w chain is.wired,
   inl (chain, is.wired, inl (first_class_later refusal (class_files chain.elements) f g h is.goes first)),
 )
 
 -- the file of a class of it is refused
-pub class_cause : (refusal : Refusal) (w : List ℕ) (chain : ChainTold) (es : List Element) (f g h : FilesState)
+pub class_ended : (refusal : Refusal) (w : List ℕ) (chain : ChainTold) (es : List Element) (f g h : FilesState)
     (p : PortState) (o : SinkState) → IsRead w chain f g → es ≡ chain.elements
     → IsFirstClassRefused refusal (class_files es) g h → h.reads ≤ reads_after (class_files es) g.reads
-    → HasCause refusal (Some (Chain w)) (work_of f h p p o o)
-class_cause refusal w chain es f g h p o is same first few =
+    → GoesOn (status_of refusal) g h
+    → HasCause refusal (Some (Chain w)) (work_of f h p p o o) × CountsFaults (status_of refusal) (work_of f h p p o o)
+class_ended refusal w chain es f g h p o is same first few goes =
     let here = subst (λ (xs : List Element). IsFirstClassRefused refusal (class_files xs) g h) same first in
     let some = subst (λ (xs : List Element). h.reads ≤ reads_after (class_files xs) g.reads) same few in
-    gate_cause refusal (Chain w) f h p o (class_gates refusal w chain f g h is here) (
+    gate_ended refusal (Chain w) f h p o (class_gates refusal w chain f g h is here) (
       w ∷ class_files chain.elements,
       inr (chain, is.wired, refl),
       read_some w (class_files chain.elements) f.reads g.reads h.reads is.read some,
-    )
-
-pub class_counts : (refusal : Refusal) (w : List ℕ) (chain : ChainTold) (es : List Element) (f g h : FilesState)
-    (p : PortState) (o : SinkState) → IsRead w chain f g → es ≡ chain.elements
-    → IsFirstClassRefused refusal (class_files es) g h → GoesOn (status_of refusal) g h
-    → CountsFaults (status_of refusal) (work_of f h p p o o)
-class_counts refusal w chain es f g h p o is same first goes =
-    let here = subst (λ (xs : List Element). IsFirstClassRefused refusal (class_files xs) g h) same first in
-    gate_counts refusal (gates_of (Chain w)) f f h p o (class_gates refusal w chain f g h is here)
-    (goes_further (status_of refusal) f g h is.goes goes)
+    ) (goes_further (status_of refusal) f g h is.goes goes)
 
 -- ## With the middleboxes
 
@@ -211,7 +178,8 @@ pub classes_read : (w : List ℕ) (chain : ChainTold) (es : List Element) (ms : 
     → h.reads ≡ reads_after (class_files es) g.reads → AreRead w chain ms f h
 classes_read w chain es ms f g h is same are goes read = record {
   wired = is.wired;
-  classes = classes_before f g chain.elements ms is.goes (subst (λ (xs : List Element). AreClasses g.told xs ms) same are);
+  classes = told_before (λ told. AreClasses told chain.elements ms) f g is.goes
+      (subst (λ (xs : List Element). AreClasses g.told xs ms) same are);
   goes = goes_further statuses.Done f g h is.goes goes;
   read = read_all w (class_files chain.elements) f.reads g.reads h.reads is.read
       (subst (λ (xs : List Element). h.reads ≡ reads_after (class_files xs) g.reads) same read);
@@ -224,27 +192,21 @@ chain_reads w chain ms f h are = (w ∷ class_files chain.elements, (chain, are.
 uncomposed_gates : (refusal : Refusal) (w : List ℕ) (chain : ChainTold) (ms : List Tree) (f h : FilesState)
     → AreRead w chain ms f h → IsUncomposed refusal chain ms → IsFirstRefused refusal (gates_of (Chain w)) f h
 uncomposed_gates refusal w chain ms f h are why =
-    inr (passed_wiring w f chain are.wired, inl (chain, are.wired, inr (ms, are.classes, why)))
+    inr (passed_wiring f.told w chain are.wired, inl (chain, are.wired, inr (ms, are.classes, why)))
 
 -- they aren't composed
-pub uncomposed_cause : (refusal : Refusal) (w : List ℕ) (chain : ChainTold) (ms : List Tree) (f h : FilesState)
-    (p : PortState) (o : SinkState) → AreRead w chain ms f h → IsUncomposed refusal chain ms
-    → HasCause refusal (Some (Chain w)) (work_of f h p p o o)
-uncomposed_cause refusal w chain ms f h p o are why =
-    gate_cause refusal (Chain w) f h p o (uncomposed_gates refusal w chain ms f h are why) (
-      w ∷ class_files chain.elements,
-      inr (chain, are.wired, refl),
-      read_whole h.reads _ are.read,
-    )
-  where
-    read_whole : (n m : ℕ) → n ≡ m → n ≤ m
-    read_whole n m same = omega arith
+uncomposed_status : (refusal : Refusal) (chain : ChainTold) (ms : List Tree) → IsUncomposed refusal chain ms
+    → IsNoFileFault (status_of refusal)
+uncomposed_status (refusals.Uncomposed told) chain ms why = (refl, refl)
+uncomposed_status refusals.NoMemory chain ms why = (refl, refl)
+uncomposed_status _ chain ms why = absurd why
 
-pub uncomposed_counts : (refusal : Refusal) (w : List ℕ) (chain : ChainTold) (ms : List Tree) (f h : FilesState)
+pub uncomposed_ended : (refusal : Refusal) (w : List ℕ) (chain : ChainTold) (ms : List Tree) (f h : FilesState)
     (p : PortState) (o : SinkState) → AreRead w chain ms f h → IsUncomposed refusal chain ms
-    → CountsFaults (status_of refusal) (work_of f h p p o o)
-uncomposed_counts refusal w chain ms f h p o are why =
-    gate_counts refusal (gates_of (Chain w)) f f h p o (uncomposed_gates refusal w chain ms f h are why)
+    → HasCause refusal (Some (Chain w)) (work_of f h p p o o) × CountsFaults (status_of refusal) (work_of f h p p o o)
+uncomposed_ended refusal w chain ms f h p o are why =
+    gate_ended refusal (Chain w) f h p o (uncomposed_gates refusal w chain ms f h are why)
+    (all_some (Chain w) f h (chain_reads w chain ms f h are))
     (goes_still (status_of refusal) f h (uncomposed_status refusal chain ms why) are.goes)
 
 -- or they are

@@ -1,43 +1,32 @@
 -- What told files and limits say of the split.
-use Rattle.std.proofs.Common.{◌≡◌, ◌≤◌, ◌↔◌, ℕ, Bool, true, false, List, length, Option, Some, None, IfSome, IsSomeAnd}
+use Rattle.std.proofs.Common.{◌≡◌, ℕ, Bool, true, false, List, length, Option, Some, None}
 use Rattle.std.proofs.Common.{◌⊎◌, refl, sym, ap, subst, ◌∙◌, inl, inr}
 use Rattle.element_lang.specs.Tree.{Tree}
-use Rattle.element_lang.specs.Accepted.{IsSource}
 use Rattle.flat_ir.specs.Program.{Program}
 use Rattle.flat_ir.specs.WellFormed.{IsWellFormed}
 use Rattle.flatten.specs.Flatten.{flat_of}
 use Rattle.split_model.specs.declared.split.Part.{Part}
-use Rattle.split_model.specs.Greatest.{IsGreatestSplit}
 use Rattle.toml.specs.Data.{Members}
 use Rattle.resource_limits.specs.Limits as texts
 use Rattle.resource_limits.specs.declared.limits.Limits.{Limits as Allowed}
-use Rattle.resource_limits.specs.declared.counting.Counts.{Counts}
 use Rattle.resource_limits.specs.declared.exceeding.Over.{Over}
 use Rattle.resource_limits.specs.Counts.{counts_of}
-use Rattle.resource_limits.specs.Kept.{Keeps, first_over}
+use Rattle.resource_limits.specs.Kept.{first_over}
+use Rattle.resource_limits.proofs.Laws.{kept_limits_are_not_exceeded}
 use Rattle.partition.specs.Choice.{IsChosen, IsRefused, IsUnrefused}
+use Rattle.partition.proofs.Laws.{greatest_split_is_one-one}
 use Rattle.gallium_cli.specs.declared.status.Status.TheVariants as statuses
 use Rattle.gallium_cli.specs.declared.refusal.Refusal.{Refusal}
 use Rattle.gallium_cli.specs.declared.refusal.Refusal.TheVariants.{Exceeded, NoMemory}
 use Rattle.gallium_cli.specs.Lines.{status_of}
-use Rattle.gallium_cli.specs.Roles.{program, limits, legal_split, size_of, AreLimits}
-use Rattle.gallium_cli.specs.Roles.{IsOnlySource}
+use Rattle.gallium_cli.specs.Roles.{program, limits, legal_split, AreLimits}
 use Rattle.gallium_cli.specs.Answers.{IsPlan}
 use Rattle.gallium_cli.specs.Splits.{excess_of}
 use Rattle.gallium_cli.specs.Causes.{IsOverLimit}
 use Rattle.gallium_cli.specs.Promises.{IsToldPlan, IsEarlyFault, IsUnlessEarlyFault}
+use Rattle.gallium_cli.proofs.Told.{meet}
 
 -- ## One split and one refusal
-
--- There is at most one greatest split of a kind.
-abbrev pub IsGreatestOne : Type 0
-IsGreatestOne =
-    (f : Program) (k : ℕ) (all : Bool) (split other : List Part) → IsWellFormed f
-    → IsGreatestSplit f k all split → IsGreatestSplit f k all other → split ≡ other
-
--- limits are kept exactly where none is exceeded
-abbrev pub IsKeptUnexceeded : Type 0
-IsKeptUnexceeded = (c : Counts) (l : Allowed) → (first_over c l ≡ None) ↔ Keeps c l
 
 no_some : (x : Option Over) (over : Over) → x ≡ None → x ≡ Some over → ⊥
 no_some x over none some = cc
@@ -47,31 +36,25 @@ one_some x over other one two = cc
 
 -- where a split is chosen nothing is refused
 not_both : (f : Program) (allowed : Allowed) (shrink : Bool) (split : List Part) (over : Over)
-    → IsGreatestOne → IsKeptUnexceeded → IsWellFormed f → IsChosen f allowed shrink split
+    → IsWellFormed f → IsChosen f allowed shrink split
     → IsRefused f allowed shrink over → ⊥
-not_both f allowed false split over one kept formed chosen refused =
-    let same = one f (length f.code) true refused.split split formed refused.greatest chosen.greatest in
+not_both f allowed false split over formed chosen refused =
+    let same = greatest_split_is_one-one f (length f.code) true refused.split split formed refused.greatest chosen.greatest in
     let first : List Part → Option Over = λ parts. first_over (counts_of f parts allowed.writeback) allowed in
-    no_some (first split) over ((kept (counts_of f split allowed.writeback) allowed).1 chosen.keeps)
+    no_some (first split) over ((kept_limits_are_not_exceeded (counts_of f split allowed.writeback) allowed).1 chosen.keeps)
     (sym (ap first same) ∙ refused.exceeds)
-not_both f allowed true split over one kept formed chosen refused = refused
+not_both f allowed true split over formed chosen refused = refused
 
 -- one limit is the first
 one_over : (f : Program) (allowed : Allowed) (shrink : Bool) (over other : Over)
-    → IsGreatestOne → IsWellFormed f → IsRefused f allowed shrink over → IsRefused f allowed shrink other → over ≡ other
-one_over f allowed false over other one formed refused also =
-    let same = one f (length f.code) true also.split refused.split formed also.greatest refused.greatest in
+    → IsWellFormed f → IsRefused f allowed shrink over → IsRefused f allowed shrink other → over ≡ other
+one_over f allowed false over other formed refused also =
+    let same = greatest_split_is_one-one f (length f.code) true also.split refused.split formed also.greatest refused.greatest in
     let first : List Part → Option Over = λ parts. first_over (counts_of f parts allowed.writeback) allowed in
     one_some (first refused.split) over other refused.exceeds (sym (ap first same) ∙ also.exceeds)
-one_over f allowed true over other one formed refused also = absurd refused
+one_over f allowed true over other formed refused also = absurd refused
 
 -- ## One middlebox and one record of limits
-
-one_source : (told : Option (List ℕ)) (m other : Tree)
-    → IsSomeAnd told (λ text. (length text ≤ size_of program) × IsSource text m)
-    → IfSome told (λ text. (length text ≤ size_of program) × IsOnlySource text other) → m ≡ other
-one_source None m other one two = absurd one
-one_source (Some text) m other one two = two.1.only m one.1
 
 one_table : (x : Option Members) (table other : Members) → x ≡ Some table → x ≡ Some other → table ≡ other
 one_table x table other one two = cc
@@ -97,12 +80,6 @@ one_record text allowed other one two =
     (one_number _ allowed.writeback other.writeback one.0.2.2 there.2)
     (one_number _ allowed.transfer_bytes other.transfer_bytes one.0.2.3 there.3)
 
-one_limits : (told : Option (List ℕ)) (allowed other : Allowed)
-    → IsSomeAnd told (λ text. (length text ≤ size_of limits) × AreLimits text allowed)
-    → IfSome told (λ text. (length text ≤ size_of limits) × AreLimits text other) → allowed ≡ other
-one_limits None allowed other one two = absurd one
-one_limits (Some text) allowed other one two = one_record text allowed other one.1 two.1
-
 -- ## The plan that is told, and the one that a call found
 
 record IsSamePlan (m m' : Tree) (allowed allowed' : Allowed) : Type 0 where
@@ -112,8 +89,8 @@ record IsSamePlan (m m' : Tree) (allowed allowed' : Allowed) : Type 0 where
 same_plan : (told : List ℕ → Option (List ℕ)) (s l : List ℕ) (m m' : Tree) (allowed allowed' : Allowed)
     → IsToldPlan told s l m allowed → IsPlan told s l m' allowed' → IsSamePlan m m' allowed allowed'
 same_plan told s l m m' allowed allowed' asked found = record {
-  middlebox = one_source (told s) m m' asked.source found.program.source;
-  limits = one_limits (told l) allowed allowed' asked.limits found.limits;
+  middlebox = (let (text, one, two) = meet _ _ (told s) asked.source found.program.source in two.1.only m one.1);
+  limits = (let (text, one, two) = meet _ _ (told l) asked.limits found.limits in one_record text allowed allowed' one.1 two.1);
 }
 
 refused_there : (m m' : Tree) (allowed allowed' : Allowed) (shrink : Bool) (over : Over)
@@ -143,12 +120,11 @@ same_role told s l m m' allowed allowed' asked found =
 
 -- where the told plan is refused, none was chosen
 pub refused_unchosen : (told : List ℕ → Option (List ℕ)) (s l : List ℕ) (shrink : Bool) (m m' : Tree)
-    (allowed allowed' : Allowed) (split : List Part) (over : Over) → IsGreatestOne → IsKeptUnexceeded
-    → IsToldPlan told s l m allowed → IsRefused (flat_of m) allowed shrink over
+    (allowed allowed' : Allowed) (split : List Part) (over : Over) → IsToldPlan told s l m allowed → IsRefused (flat_of m) allowed shrink over
     → IsPlan told s l m' allowed' → IsChosen (flat_of m') allowed' shrink split → ⊥
-refused_unchosen told s l shrink m m' allowed allowed' split over one kept asked refused found chosen =
+refused_unchosen told s l shrink m m' allowed allowed' split over asked refused found chosen =
     let same = same_plan told s l m m' allowed allowed' asked found in
-    not_both (flat_of m') allowed' shrink split over one kept found.program.bounded.formed chosen
+    not_both (flat_of m') allowed' shrink split over found.program.bounded.formed chosen
     (refused_there m m' allowed allowed' shrink over same refused)
 
 -- a choice that is open is refused for want of memory alone
@@ -170,16 +146,16 @@ over_status _ told s l shrink (m', allowed', found, never) = absurd never
 
 -- where the told plan exceeds a limit first, that one is told, or there was no memory
 pub same_excess : (refusal : Refusal) (told : List ℕ → Option (List ℕ)) (s l : List ℕ) (shrink : Bool) (m : Tree)
-    (allowed : Allowed) (over : Over) → IsGreatestOne → IsToldPlan told s l m allowed
+    (allowed : Allowed) (over : Over) → IsToldPlan told s l m allowed
     → IsRefused (flat_of m) allowed shrink over → IsOverLimit refusal s l shrink told
     → (Exceeded (excess_of m.objects over) ≡ refusal) ⊎ IsEarlyFault (status_of refusal)
-same_excess (Exceeded excess) told s l shrink m allowed over one asked refused (m', allowed', found, (other, also, is)) =
+same_excess (Exceeded excess) told s l shrink m allowed over asked refused (m', allowed', found, (other, also, is)) =
     let same = same_plan told s l m m' allowed allowed' asked found in
-    let first = one_over (flat_of m') allowed' shrink over other one found.program.bounded.formed
+    let first = one_over (flat_of m') allowed' shrink over other found.program.bounded.formed
     (refused_there m m' allowed allowed' shrink over same refused) also in
     inl (
     ap (λ (n : Tree). Exceeded (excess_of n.objects over)) same.middlebox
     ∙ ap (λ (o : Over). Exceeded (excess_of m'.objects o)) first ∙ sym (ap Exceeded is)
     )
-same_excess NoMemory told s l shrink m allowed over one asked refused found = inr tt
-same_excess _ told s l shrink m allowed over one asked refused (m', allowed', found, never) = absurd never
+same_excess NoMemory told s l shrink m allowed over asked refused found = inr tt
+same_excess _ told s l shrink m allowed over asked refused (m', allowed', found, never) = absurd never

@@ -1,13 +1,13 @@
 -- The middleboxes of elements, one after the other.
-use Rattle.std.proofs.Common.{◌≡◌, ◌<◌, ◌≤◌, ◌+◌, ◌^◌, ℕ, suc, zero, List, [], ◌∷◌, ◌++◌, ◌⊎◌, inl, inr, map, length, take, get_or}
-use Rattle.std.proofs.Common.{Option, Some, None, IfSome, refl, sym, ap, subst, ◌∙◌, append_assoc, length-append, arith}
+use Rattle.std.proofs.Common.{◌≡◌, ◌<◌, ◌≤◌, ◌+◌, ◌^◌, ℕ, suc, List, [], ◌∷◌, ◌++◌, ◌⊎◌, inl, inr, map, length, take, get_or}
+use Rattle.std.proofs.Common.{Option, Some, IfSome, refl, sym, ap, subst, ◌∙◌, append_assoc, length-append, arith}
 use Rattle.std.proofs.Common.{Result, Ok, Err, IfOk, IfErr}
-use Rattle.std.specs.Prelude.{Bool, true, false, slice_get, filter, not, if◌then◌else◌, OnOk}
+use Rattle.std.specs.Prelude.{slice_get, not, OnOk}
 use Rattle.std.specs.List.{All, AllByRecursion as Each}
 use Rattle.std.specs.Str.{bytes_eq}
 use Rattle.std.proofs.lemmas.List.Elements.{All-append, All-cons, All-nil}
 use Rattle.std.proofs.lemmas.List.{take_more, length-take, map-append}
-use Rattle.std.proofs.lemmas.Option.{same_Some, slice_get_within, slice_get_read}
+use Rattle.std.proofs.lemmas.Option.{IfSome_then, slice_get_within, slice_get_read}
 use Rattle.gal_io.specs.Files.{FilesState}
 use Rattle.element_lang.specs.Tree.{Tree}
 use Rattle.element_lang.specs.View.{tree}
@@ -21,38 +21,19 @@ use Rattle.gallium_cli.specs.Loads.{GoesOn, raised_by}
 use Rattle.gallium_cli.specs.Chains.{firsts, file_of, class_files, IsPlaceOf, AreClasses, MayReadNext, ReadsNext}
 use Rattle.gallium_cli.specs.Chains.{IsClassRefused, IsFirstClassRefused, IsNextRefused}
 use Rattle.gallium_cli.specs.Causes.{reads_after}
-use Rattle.gallium_cli.proofs.Files.{class_later, classes_before}
+use Rattle.gallium_cli.proofs.Files.{class_later, told_before}
 use Rattle.gallium_cli.proofs.Firsts.{files_begin, files_known, files_new, placed_among, none_among, place_here, no_place_here}
+use Rattle.lemmas.proofs.Lists.{each_filter, each_map, each_weaker, get_before_pushed, get_front, get_pushed, get_within, map_get}
 
 -- ## One more in a list
 
-get_last : {X : Type 0} (xs : List X) (y : X) → slice_get (xs ++ y ∷ []) (length xs) ≡ Some y
-get_last [] y = refl
-get_last (z ∷ xs) y = get_last xs y
-
-get_front : {X : Type 0} (xs ys : List X) (k : ℕ) (x : X) → slice_get xs k ≡ Some x → slice_get (xs ++ ys) k ≡ Some x
-get_front [] ys k x there = cc
-get_front (y ∷ xs) ys zero x there = there
-get_front (y ∷ xs) ys (suc k) x there = get_front xs ys k x there
-
--- what stands there is the last one, or stood there before
-got_more : {X : Type 0} (xs : List X) (y x : X) (k : ℕ) → slice_get (xs ++ y ∷ []) k ≡ Some x
-    → ((k ≡ length xs) × (y ≡ x)) ⊎ (slice_get xs k ≡ Some x)
-got_more [] y x zero there = inl (refl, same_Some _ _ there)
-got_more [] y x (suc k) there = inr there
-got_more (z ∷ xs) y x zero there = inr there
-got_more (z ∷ xs) y x (suc k) there = elim (got_more xs y x k there) [
-  | inl (at, is) ↦ inl (ap suc at, is)
-  | inr before ↦ inr before
-]
+got_front : {X : Type 0} (xs ys : List X) (k : ℕ) (x : X) → slice_get xs k ≡ Some x → slice_get (xs ++ ys) k ≡ Some x
+got_front xs ys k x there = get_front xs ys k (slice_get_within xs k x there) ∙ there
 
 -- an element at a place has its middlebox at the same place of as many
 pub same_place : (es : List Element) (ms : List Tree) (e : ℕ) (x : Element) → length ms ≡ length es
     → slice_get es e ≡ Some x → (m : Tree) × (slice_get ms e ≡ Some m)
-same_place [] ms e x count there = cc
-same_place (y ∷ es) [] e x count there = absurd (omega arith)
-same_place (y ∷ es) (m ∷ ms) zero x count there = (m, refl)
-same_place (y ∷ es) (m ∷ ms) (suc e) x count there = same_place es ms e x (omega arith) there
+same_place es ms e x count there = let lt = slice_get_within es e x there in get_within ms e (omega arith)
 
 -- ## One more middlebox
 
@@ -67,7 +48,7 @@ each_more : (told : List ℕ → Option (List ℕ)) (es : List Element) (ms : Li
     → AreClasses told es ms → Spells told x.class m → (e : ℕ) (y : Element) (k : Tree)
     → slice_get (es ++ x ∷ []) e ≡ Some y → slice_get (ms ++ m ∷ []) e ≡ Some k → Spells told y.class k
 each_more told es ms x m are spelled e y k there here =
-    by_place (got_more es x y e there) (got_more ms m k e here)
+    by_place (get_before_pushed es x y e there) (get_before_pushed ms m k e here)
   where
     by_place : ((e ≡ length es) × (x ≡ y)) ⊎ (slice_get es e ≡ Some y)
         → ((e ≡ length ms) × (m ≡ k)) ⊎ (slice_get ms e ≡ Some k) → Spells told y.class k
@@ -84,11 +65,11 @@ same_more : (told : List ℕ → Option (List ℕ)) (es : List Element) (ms : Li
     → slice_get (es ++ x ∷ []) d ≡ Some y → slice_get (es ++ x ∷ []) e ≡ Some z
     → y.class ≡ z.class → slice_get (ms ++ m ∷ []) d ≡ slice_get (ms ++ m ∷ []) e
 same_more told es ms x m are before d e y z there here same =
-    by_place (got_more es x y d there) (got_more es x z e here)
+    by_place (get_before_pushed es x y d there) (get_before_pushed es x z e here)
   where
     at_end : (n : ℕ) → n ≡ length es → slice_get (ms ++ m ∷ []) n ≡ Some m
     at_end n at =
-        subst (λ k. slice_get (ms ++ m ∷ []) k ≡ Some m) (are.count ∙ sym at) (get_last ms m)
+        subst (λ k. slice_get (ms ++ m ∷ []) k ≡ Some m) (are.count ∙ sym at) (get_pushed ms m)
 
     is_there : (n : ℕ) (w : Element) → slice_get es n ≡ Some w → (k : Tree) × (slice_get ms n ≡ Some k)
     is_there n w one = same_place es ms n w are.count one
@@ -99,14 +80,14 @@ same_more told es ms x m are before d e y z there here same =
     by_place (inl one) (inl two) = at_end d one.0 ∙ sym (at_end e two.0)
     by_place (inl one) (inr two) =
         at_end d one.0
-        ∙ sym (get_front ms (m ∷ []) e m (before e z two (sym same ∙ ap (λ (w : Element). w.class) (sym one.1))))
+        ∙ sym (got_front ms (m ∷ []) e m (before e z two (sym same ∙ ap (λ (w : Element). w.class) (sym one.1))))
     by_place (inr one) (inl two) =
-        get_front ms (m ∷ []) d m (before d y one (same ∙ ap (λ (w : Element). w.class) (sym two.1)))
+        got_front ms (m ∷ []) d m (before d y one (same ∙ ap (λ (w : Element). w.class) (sym two.1)))
         ∙ sym (at_end e two.0)
     by_place (inr one) (inr two) =
         let k = is_there d y one in
-        get_front ms (m ∷ []) d k.0 k.1
-        ∙ sym (get_front ms (m ∷ []) e k.0 (sym (are.same d e y z one two same) ∙ k.1))
+        got_front ms (m ∷ []) d k.0 k.1
+        ∙ sym (got_front ms (m ∷ []) e k.0 (sym (are.same d e y z one two same) ∙ k.1))
 
 classes_more : (told : List ℕ → Option (List ℕ)) (es : List Element) (ms : List Tree) (x : Element) (m : Tree)
     → AreClasses told es ms → Spells told x.class m → SameBefore es ms x m
@@ -137,48 +118,31 @@ new_class told es ms x m are none spelled =
 -- ## Files that are good
 
 -- what holds of the files of all elements holds of those of their classes
-each_if : (P : List ℕ → Type 0) (b : Bool) (w : List ℕ) (ws : List (List ℕ)) → P w → Each P ws
-    → Each P (if b then w ∷ ws else ws)
-each_if P true w ws one rest = (one, rest)
-each_if P false w ws one rest = rest
-
-each_filter : (P : List ℕ → Type 0) (keep : List ℕ → Bool) (ws : List (List ℕ)) → Each P ws → Each P (filter keep ws)
-each_filter P keep [] all = tt
-each_filter P keep (w ∷ ws) all = each_if P (keep w) w (filter keep ws) all.0 (each_filter P keep ws all.1)
-
 each_first : (P : List ℕ → Type 0) (ws : List (List ℕ)) → Each P ws → Each P (firsts ws)
 each_first P [] all = tt
 each_first P (w ∷ ws) all =
-    (all.0, each_filter P (λ v. not (bytes_eq v w)) (firsts ws) (each_first P ws all.1))
+    let rest = each_first P ws all.1 in
+    (all.0, each_filter P (λ v. not (bytes_eq v w)) (firsts ws) (each_weaker P _ (λ v h other. h) (firsts ws) rest))
 
 each_class : (P : List ℕ → Type 0) (es : List Element)
     → ((e : ℕ) (x : Element) → slice_get es e ≡ Some x → P x.class) → Each P (map (λ (e : Element). e.class) es)
 each_class P [] all = tt
 each_class P (x ∷ es) all = (all 0 x refl, each_class P es (λ e y. all (suc e) y))
 
-each_file : (P : List ℕ → Type 0) (ws : List (List ℕ)) → Each (λ w. P (file_of w)) ws → Each P (map file_of ws)
-each_file P [] all = tt
-each_file P (w ∷ ws) all = (all.0, each_file P ws all.1)
-
 pub each_class_file : (P : List ℕ → Type 0) (es : List Element)
     → ((e : ℕ) (x : Element) → slice_get es e ≡ Some x → P (file_of x.class)) → Each P (class_files es)
 each_class_file P es all =
-    each_file P (firsts (map (λ (e : Element). e.class) es))
+    each_map P file_of (firsts (map (λ (e : Element). e.class) es))
     (each_first (λ w. P (file_of w)) (map (λ (e : Element). e.class) es) (each_class (λ w. P (file_of w)) es all))
 
 -- the files of middleboxes that elements have are good, where they are told
-may_tell_good : (told : Option (List ℕ)) (m : Tree) → IfSome told (λ text. (length text ≤ size_of source) × IsOnlySource text m)
-    → IfSome told (IsGood source)
-may_tell_good None m may = tt
-may_tell_good (Some text) m may = (may.0, (m, may.1.source))
-
 pub classes_good : (told : List ℕ → Option (List ℕ)) (es : List Element) (ms : List Tree) → AreClasses told es ms
     → Each (λ name. IfSome (told name) (IsGood source)) (class_files es)
 classes_good told es ms are =
     each_class_file (λ name. IfSome (told name) (IsGood source)) es
     (λ e x there.
     let m = same_place es ms e x are.count there in
-    may_tell_good (told (file_of x.class)) m.0 (are.each e x m.0 there m.1))
+    IfSome_then (told (file_of x.class)) (are.each e x m.0 there m.1) (λ text h. (h.0, (m.0, h.1.source))))
 
 -- the first that isn't good, behind those that are
 first_behind : {A : Type 0} (IsBefore IsAt : A → Type 0) (before : List A) (x : A) (rest : List A) → Each IsBefore before
@@ -223,11 +187,6 @@ pub placed_within : (es : List Element) (n : ℕ) (class : List ℕ) (e : ℕ) �
 placed_within es n class e (x, there, same) =
     let lt = slice_get_within (take n es) e x there in let long = length-take n es in omega arith
 
-got_tree : (ks : List Middlebox) (e : ℕ) (k : Middlebox) → slice_get ks e ≡ Some k → slice_get (map tree ks) e ≡ Some (tree k)
-got_tree [] e k there = cc
-got_tree (x ∷ ks) zero k there = ap (λ (m : Middlebox). Some (tree m)) (same_Some _ _ there)
-got_tree (x ∷ ks) (suc e) k there = got_tree ks e k there
-
 -- elements of which these come first, and the last of those
 abbrev pub IsNextOf : List Element → ℕ → List ℕ → Type 0
 IsNextOf es n class = (x : Element) × (take (n + 1) es ≡ take n es ++ x ∷ []) × (class ≡ x.class)
@@ -243,7 +202,7 @@ pub next_known : (told : List ℕ → Option (List ℕ)) (es : List Element) (kn
     → k ≡ get_or known e k → m ≡ tree k → AreClasses told (take (length known + 1) es) (map tree known ++ m ∷ [])
 next_known told es known class k m e (x, next, named) are placed there same =
     let lt = placed_within es (length known) class e placed in
-    let here = got_tree known e k (slice_get_read known (length known) e k refl lt there) ∙ ap Some (sym same) in
+    let here = map_get tree known e k (slice_get_read known (length known) e k refl lt there) ∙ ap Some (sym same) in
     subst (λ (xs : List Element). AreClasses told xs (map tree known ++ m ∷ [])) (sym next)
     (known_class told (take (length known) es) (map tree known) x m e are
     (place_here (take (length known) es) (take (length known) es) class x.class e refl named placed) here)
@@ -335,7 +294,7 @@ classes_next f g es known now m is goes are =
     let trees : map tree now ≡ map tree known ++ tree m ∷ [] = ap (map tree) is ∙ map-append tree known (m ∷ []) in
     subst (λ n. AreClasses f.told (take n es) (map tree now)) (sym long)
     (subst (λ (ts : List Tree). AreClasses f.told (take (length known + 1) es) ts) (sym trees)
-    (classes_before f g (take (length known + 1) es) (map tree known ++ tree m ∷ []) goes are))
+    (told_before (λ told. AreClasses told (take (length known + 1) es) (map tree known ++ tree m ∷ [])) f g goes are))
 
 pub all_next : (P : Middlebox → Type 0) (known now : List Middlebox) (m : Middlebox) → now ≡ known ++ m ∷ []
     → All P known → P m → All P now

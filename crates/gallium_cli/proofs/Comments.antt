@@ -4,9 +4,10 @@ use Rattle.std.proofs.Common.{◌∷◌, ◌++◌, length, take}
 use Rattle.std.proofs.Common.{◌%◌, ◌/◌, ◌==◌, map, refl, sym, ap, ◌∙◌, arith, append_assoc}
 use Rattle.std.specs.List.{list_all, onto_first}
 use Rattle.std.specs.Fmt.{decimal, digits, digits_onto, digit_glyph}
-use Rattle.std.proofs.lemmas.Bool.{and_parts, leb-true}
+use Rattle.std.proofs.lemmas.Bool.{and_parts, leb-true, not-true}
 use Rattle.std.proofs.lemmas.Bool.Decides.{nat_tests}
 use Rattle.gal_io.specs.Lines.{fed_lines, lines, without_return, is_skipped, told_of}
+use Rattle.lemmas.proofs.Lists.{list_all_append}
 
 -- ## Bytes that end no line
 
@@ -16,17 +17,8 @@ goes_on byte = not (eqb byte 10)
 abbrev pub IsUnended : List ℕ → Type 0
 IsUnended bytes = list_all goes_on bytes ≡ true
 
-pub joined : (p : ℕ → Bool) (xs ys : List ℕ) → list_all p xs ≡ true → list_all p ys ≡ true
-    → list_all p (xs ++ ys) ≡ true
-joined p [] ys h k = k
-joined p (x ∷ xs) ys h k = let parts = and_parts (p x) (list_all p xs) h in rw parts.0 (joined p xs ys parts.1 k)
-
 pub unended : (xs ys : List ℕ) → IsUnended xs → IsUnended ys → IsUnended (xs ++ ys)
-unended xs ys h k = joined goes_on xs ys h k
-
-not_so : (b : Bool) → not b ≡ true → b ≡ false
-not_so true h = cc
-not_so false h = refl
+unended xs ys h k = list_all_append goes_on xs ys h k
 
 -- ## Decimals
 
@@ -115,7 +107,7 @@ fed_ended : (line rest : List ℕ) → IsUnended line → fed_lines (line ++ (10
 fed_ended [] rest h = refl
 fed_ended (byte ∷ line) rest h =
     let parts = and_parts (goes_on byte) (list_all goes_on line) h in
-    let other : eqb byte 10 ≡ false = not_so (eqb byte 10) parts.0 in
+    let other : eqb byte 10 ≡ false = not-true (eqb byte 10) parts.0 in
     rw other (ap (onto_first byte) (fed_ended line rest parts.1))
 
 lines_ended : (line rest : List ℕ) → IsUnended line

@@ -13,16 +13,15 @@ use Rattle.gallium_cli.specs.declared.status.Status.TheVariants as statuses
 use Rattle.gallium_cli.specs.Call.{Call}
 use Rattle.gallium_cli.specs.Words.{Request, Check}
 use Rattle.gallium_cli.specs.Roles.{Role, program, limits, legal_split, size_of, IsSpelled, IsGood, AreLimits, gates_of}
-use Rattle.gallium_cli.specs.Roles.{IsOnlySource}
 use Rattle.gallium_cli.specs.Answers.{IsChoice, IsCompiled, IsPlan, compiled_text}
 use Rattle.gallium_cli.specs.Causes.{EndsFor}
 use Rattle.gallium_cli.specs.Promises.{AllOpen, IsCompileText, IsFirstShut, IsRefusedAs, IsToldPlan, IsUnlessFault}
-use Rattle.gallium_cli.proofs.Unkept.{Laws}
+use Rattle.gallium_cli.proofs.Told.{some_then}
 use Rattle.gallium_cli.proofs.Exact.{complete_ends, early_is_fault, exact_ends}
 use Rattle.gallium_cli.proofs.Listed.{compiled_is}
 use Rattle.gallium_cli.proofs.Named.{source_names}
 use Rattle.gallium_cli.proofs.Ranges.{told_in_range}
-use Rattle.gallium_cli.proofs.Replayed.{few_within, some_follows}
+use Rattle.gallium_cli.proofs.Replayed.{few_within}
 
 -- ## Told contents
 
@@ -38,11 +37,10 @@ some_text (Some text) P h = (text, h)
 told_plan : (told : List ℕ → Option (List ℕ)) (s l : List ℕ) (m : Tree) (allowed : Allowed) → IsSome (told s)
     → IsSome (told l) → IsPlan told s l m allowed → IsToldPlan told s l m allowed
 told_plan told s l m allowed one two plan = record {
-  source = some_follows (told s) (λ text. (length text ≤ size_of program) × IsOnlySource text m)
-      (λ text. (length text ≤ size_of program) × IsSource text m) (λ text h. (h.0, h.1.source))
-      (there (told s) (λ text. (length text ≤ size_of program) × IsOnlySource text m) one plan.program.source);
+  source = some_then _ (λ text. (length text ≤ size_of program) × IsSource text m) (told s)
+      (there (told s) _ one plan.program.source) (λ text h. (h.0, h.1.source));
   short = plan.program.bounded.few;
-  limits = there (told l) (λ text. (length text ≤ size_of limits) × AreLimits text allowed) two plan.limits;
+  limits = there (told l) _ two plan.limits;
 }
 
 -- ## What a chosen split is told by
@@ -99,31 +97,29 @@ check_by told s l p found =
     let m = found.m in
     let allowed = found.allowed in
     let one : IsSomeAnd (told s) (IsGood program) =
-    some_follows (told s) (λ text. (length text ≤ size_of program) × IsSource text m) (IsGood program)
-    (λ text h. (h.0, (m, h.1, found.plan.short))) found.plan.source in
+    some_then _ (IsGood program) (told s) found.plan.source (λ text h. (h.0, (m, h.1, found.plan.short))) in
     let two : IsSomeAnd (told l) (IsGood limits) =
-    some_follows (told l) (λ text. (length text ≤ size_of limits) × AreLimits text allowed) (IsGood limits)
-    (λ text h. (h.0, (allowed, h.1))) found.plan.limits in
+    some_then _ (IsGood limits) (told l) found.plan.limits (λ text h. (h.0, (allowed, h.1))) in
     elim (good_or_long (legal_split (flat_of m) allowed) (told p) found.spelled) [
       | inl good ↦ inl (one, (two, ((m, allowed, found.plan, good), tt)))
       | inr long ↦ inr (inr (one, inr (two, inl (m, allowed, found.plan, long))))
     ]
 
-check_ends : (s l p : List ℕ) (status : Status) (call : Call) → Laws → EndsFor (Some (Check s l p)) status call
+check_ends : (s l p : List ℕ) (status : Status) (call : Call) → EndsFor (Some (Check s l p)) status call
     → IsCompileText call.work.files.told s l p → (status ≡ statuses.TooLong) ⊎ IsUnlessFault statuses.Done status
-check_ends s l p status call laws end text =
+check_ends s l p status call end text =
     let told = call.work.files.told in
     elim (check_by told s l p (split_found told s l text.shrink (told p) text.source text.limits text.text)) [
-      | inl free ↦ inr (complete_ends (Some (Check s l p)) status call laws end free)
-      | inr shut ↦ elim (exact_ends (Some (Check s l p)) status call laws end statuses.TooLong shut) [
+      | inl free ↦ inr (complete_ends (Some (Check s l p)) status call end free)
+      | inr shut ↦ elim (exact_ends (Some (Check s l p)) status call end statuses.TooLong shut) [
         | inl is ↦ inl is
         | inr early ↦ inr (inr (early_is_fault status early))
       ]
     ]
 
-pub compiled_ends : (request : Option Request) (status : Status) (call : Call) → Laws → EndsFor request status call
+pub compiled_ends : (request : Option Request) (status : Status) (call : Call) → EndsFor request status call
     → (s l p : List ℕ) → request ≡ Some (Check s l p) → IsCompileText call.work.files.told s l p
     → (status ≡ statuses.TooLong) ⊎ IsUnlessFault statuses.Done status
-compiled_ends request status call laws end s l p is text =
-    check_ends s l p status call laws
+compiled_ends request status call end s l p is text =
+    check_ends s l p status call
     (subst (λ (asked : Option Request). EndsFor asked status call) is end) text

@@ -1,61 +1,50 @@
 -- The objects of a source are ones that a report can tell.
-use Rattle.std.proofs.Common.{◌≡◌, ℕ, ◌<◌, ◌^◌, ◌==◌, Bool, true, false, cond, not, ◌&&◌, ◌||◌, nat_lt, nat_le, List}
+use Rattle.std.proofs.Common.{◌≡◌, ℕ, ◌<◌, ◌^◌, ◌==◌, Bool, true, false, not, ◌&&◌, ◌||◌, nat_lt, nat_le, List}
 use Rattle.std.proofs.Common.{[], ◌∷◌, length}
-use Rattle.std.proofs.Common.{Option, Some, None, refl, sym, ap, ◌∙◌, subst, arith, if◌then◌else◌, true≢false, ◌⊎◌, inl}
+use Rattle.std.proofs.Common.{Option, Some, None, refl, sym, ap, ◌∙◌, arith, true≢false, ◌⊎◌, inl}
 use Rattle.std.proofs.Common.{inr}
 use Rattle.std.specs.Prelude.{All, IsTrue, take_while, slice_index}
 use Rattle.std.specs.List.{list_all, list_any}
 use Rattle.std.specs.Str.{bytes_eq}
-use Rattle.std.proofs.lemmas.Bool.{cases_Bool, eqb-true, leb-true, lt-ltb}
+use Rattle.std.proofs.lemmas.Bool.{cases_Bool, eqb-true, leb-true, lt-ltb, and_from, or_cases}
 use Rattle.std.proofs.lemmas.Slice.Eq.{bytes_eq-Decides}
 use Rattle.std.proofs.lemmas.List.Sums.{take_while-cons}
 use Rattle.std.proofs.lemmas.List.Elements.{All-head, All-tail}
 use Rattle.state_store.specs.declared.object.Kind.{Kind}
-use Rattle.state_store.specs.declared.object.Kind.TheVariants.{Table, Map, Vector, Int}
+use Rattle.state_store.specs.declared.object.Kind.TheVariants.{Vector, Int}
 use Rattle.state_store.specs.declared.object.ObjectDecl.{ObjectDecl}
-use Rattle.element_lang.specs.declared.mark.Mark.{Mark}
 use Rattle.element_lang.specs.Mark.{symbol_in_front}
-use Rattle.element_lang.specs.Token.{Token, name, IsName, Lexeme, sized_lexeme, word_lexeme, word_token}
-use Rattle.element_lang.specs.Token.{number_lexeme, number_token, number_value, symbol_of, is_letter, is_digit}
+use Rattle.element_lang.specs.Token.{Token, name, IsName, sized_lexeme, word_token}
+use Rattle.element_lang.specs.Token.{is_letter, is_digit}
 use Rattle.element_lang.specs.Token.{is_word_byte}
 use Rattle.element_lang.specs.Token.{is_number_byte}
 use Rattle.element_lang.specs.Accepted.{HasNames}
 use Rattle.element_lang.specs.Rules as rules
-use Rattle.element_lang.specs.Rules.{is_size, same_widths, is_width, is_good_object, are_good_objects, is_good_body}
+use Rattle.element_lang.specs.Rules.{same_widths, is_width, is_good_object, are_good_objects, is_good_body}
 use Rattle.element_lang.specs.Rules.{declared_by}
 use Rattle.element_lang.specs.Tree.{Tree}
 use Rattle.report_text.specs.Form.{is_plain, are_widths, is_declared, are_apart, are_declared}
-
-left : (a b : Bool) → (a && b) ≡ true → a ≡ true
-left true b h = refl
-left false b h = h
-
-right : (a b : Bool) → (a && b) ≡ true → b ≡ true
-right true b h = h
-right false b h = absurd (true≢false (sym h))
-
-both : (a b : Bool) → a ≡ true → b ≡ true → (a && b) ≡ true
-both true b one other = other
-both false b one other = one
+use Rattle.element_chain.proofs.ReadNames.{letter_first}
+use Rattle.element_print.proofs.ReadableDecls.{all_widths}
+use Rattle.element_print.proofs.Words.{same_lexeme}
+use Rattle.gallium_cli.proofs.Bounds.{fitting_width}
+use Rattle.lemmas.proofs.Lists.{first_taken}
+use Rattle.lemmas.proofs.Tests.{and_first, and_second}
 
 -- ## Names
 
-one_of : (a b : Bool) → (a || b) ≡ true → (a ≡ true) ⊎ (b ≡ true)
-one_of true b h = inl refl
-one_of false b h = inr h
-
 letter_above : (b : ℕ) → is_letter b ≡ true → 32 < b
-letter_above b h = elim (one_of (nat_le 65 b && nat_le b 90) (nat_le 97 b && nat_le b 122) h) [
-  | inl upper ↦ let low = leb-true 65 b (left (nat_le 65 b) (nat_le b 90) upper) in omega arith
-  | inr lower ↦ let low = leb-true 97 b (left (nat_le 97 b) (nat_le b 122) lower) in omega arith
+letter_above b h = elim (or_cases (nat_le 65 b && nat_le b 90) (nat_le 97 b && nat_le b 122) h) [
+  | inl upper ↦ let low = leb-true 65 b (and_first (nat_le 65 b) (nat_le b 90) upper) in omega arith
+  | inr lower ↦ let low = leb-true 97 b (and_first (nat_le 97 b) (nat_le b 122) lower) in omega arith
 ]
 
 digit_above : (b : ℕ) → is_digit b ≡ true → 32 < b
-digit_above b h = let low = leb-true 48 b (left (nat_le 48 b) (nat_le b 57) h) in omega arith
+digit_above b h = let low = leb-true 48 b (and_first (nat_le 48 b) (nat_le b 57) h) in omega arith
 
 number_above : (b : ℕ) → is_number_byte b ≡ true → 32 < b
-number_above b h = elim (one_of (is_letter b || is_digit b) (b == 95) h) [
-  | inl word ↦ elim (one_of (is_letter b) (is_digit b) word) [
+number_above b h = elim (or_cases (is_letter b || is_digit b) (b == 95) h) [
+  | inl word ↦ elim (or_cases (is_letter b) (is_digit b) word) [
     | inl letter ↦ letter_above b letter
     | inr digit ↦ digit_above b digit
   ]
@@ -64,47 +53,15 @@ number_above b h = elim (one_of (is_letter b || is_digit b) (b == 95) h) [
 
 -- the bytes of words are above a blank
 is_above : (b : ℕ) → is_word_byte b ≡ true → nat_lt 32 b ≡ true
-is_above b h = lt-ltb 32 b (elim (one_of (is_number_byte b) (b == 46) h) [
+is_above b h = lt-ltb 32 b (elim (or_cases (is_number_byte b) (b == 46) h) [
   | inl word ↦ number_above b word
   | inr dot ↦ let is = eqb-true b 46 dot in omega arith
 ])
-
-same_lexeme : (x y : Lexeme) → Some x ≡ Some y → (x.token ≡ y.token) × (x.len ≡ y.len)
-same_lexeme x y h =
-    let same : x ≡ y = cc in
-    (ap (λ (x : Lexeme). x.token) same, ap (λ (x : Lexeme). x.len) same)
-
-not_a_number : (n : Option ℕ) (len : ℕ) (word : List ℕ) (x : ℕ)
-    → sized_lexeme len (number_token n) ≡ Some (record { token = name word; len = x }) → ⊥
-not_a_number None len word x h = cc
-not_a_number (Some n) len word x h = let (token, same_len) = same_lexeme _ _ h in cc
-
-not_a_symbol : (m : Option Mark) (word : List ℕ) (x : ℕ)
-    → symbol_of m ≡ Some (record { token = name word; len = x }) → ⊥
-not_a_symbol None word x h = cc
-not_a_symbol (Some m) word x h = let (token, same_len) = same_lexeme _ _ h in cc
-
--- a name is taken whole from the front as a word
-word_first : (l d : Bool) (w digits : List ℕ) (m : Option Mark) (word : List ℕ)
-    → (if l then word_lexeme w else (if d then number_lexeme digits else symbol_of m))
-    ≡ Some (record { token = name word; len = length word })
-    → word_lexeme w ≡ Some (record { token = name word; len = length word })
-word_first true d w digits m word h = h
-word_first false true w digits m word h = absurd (not_a_number (number_value digits) (length digits) word (length word) h)
-word_first false false w digits m word h = absurd (not_a_symbol m word (length word) h)
 
 len_within : (t : Option Token) (len : ℕ) (word : List ℕ) (x : ℕ)
     → sized_lexeme len t ≡ Some (record { token = name word; len = x }) → len ≡ x
 len_within None len word x h = cc
 len_within (Some t) len word x h = (same_lexeme _ _ h).1
-
-length_cons : (b : ℕ) (bs cs : List ℕ) → length (b ∷ bs) ≡ length (b ∷ cs) → length bs ≡ length cs
-length_cons b bs cs h = omega arith
-
-first_taken : (t : Bool) (b : ℕ) (bs cs : List ℕ) → length (cond t (b ∷ cs) []) ≡ length (b ∷ bs)
-    → (t ≡ true) × (length cs ≡ length bs)
-first_taken true b bs cs h = (refl, length_cons b cs bs h)
-first_taken false b bs cs h = absurd (omega arith)
 
 -- where all bytes are taken, all of them are above a blank
 all_above : (bs : List ℕ) → length (take_while is_word_byte bs) ≡ length bs → list_all (nat_lt 32) bs ≡ true
@@ -112,55 +69,36 @@ all_above [] h = refl
 all_above (b ∷ bs) h =
     let (first, others) =
     first_taken (is_word_byte b) b bs (take_while is_word_byte bs) (ap length (sym (take_while-cons is_word_byte b bs)) ∙ h) in
-    both (nat_lt 32 b) (list_all (nat_lt 32) bs) (is_above b first) (all_above bs others)
+    and_from (nat_lt 32 b) (list_all (nat_lt 32) bs) (is_above b first) (all_above bs others)
 
-name_plain : (word : List ℕ) → IsName word → is_plain word ≡ true
+pub name_plain : (word : List ℕ) → IsName word → is_plain word ≡ true
 name_plain [] h = refl
 name_plain (b ∷ bs) h =
     let w = take_while is_word_byte (b ∷ bs) in
     let whole =
-    word_first (is_letter b) (is_digit b) w (take_while is_number_byte (b ∷ bs)) (symbol_in_front (b ∷ bs)) (b ∷ bs) h in
+    letter_first (is_letter b) (is_digit b) w (take_while is_number_byte (b ∷ bs)) (symbol_in_front (b ∷ bs)) (b ∷ bs) h in
     all_above (b ∷ bs) (len_within (word_token w) (length w) (b ∷ bs) (length (b ∷ bs)) whole)
 
 -- ## Widths
-
-pub width_same : (ws : List ℕ) → list_all is_width ws ≡ true → are_widths ws ≡ true
-width_same [] h = refl
-width_same (w ∷ ws) h =
-    both (nat_le 1 w && nat_le w 64) (are_widths ws) (left (is_width w) (list_all is_width ws) h)
-    (width_same ws (right (is_width w) (list_all is_width ws) h))
-
-good_widths : (ws : List ℕ) → rules.are_widths ws ≡ true → are_widths ws ≡ true
-good_widths ws h = width_same ws (right _ (list_all is_width ws) (left _ _ h))
 
 no_widths : (ws : List ℕ) → (length ws == 0) ≡ true → are_widths ws ≡ true
 no_widths [] h = refl
 no_widths (w ∷ ws) h = let none = eqb-true (length (w ∷ ws)) 0 h in absurd (omega arith)
 
-one_width : (ws : List ℕ) (w : ℕ) → same_widths ws (w ∷ []) ≡ true → is_width w ≡ true → are_widths ws ≡ true
-one_width [] w same wide = absurd (true≢false (sym same))
-one_width (x ∷ []) w same wide =
-    let one = eqb-true x w (left (x == w) (same_widths [] []) same) in
-    width_same (x ∷ []) (both (is_width x) true (subst (λ n. is_width n ≡ true) (sym one) wide) refl)
-one_width (x ∷ y ∷ ys) w same wide = absurd (true≢false (sym (right (x == w) (same_widths (y ∷ ys) []) same)))
-
 -- the keys of an object, and its values
 key_widths : (kind : Kind) (o : ObjectDecl) → is_good_object kind o ≡ true → are_widths o.keys ≡ true
-key_widths Table o h = good_widths o.keys (left (rules.are_widths o.keys) _ (left _ _ (left _ _ (left _ _ h))))
-key_widths Map o h = good_widths o.keys (left (rules.are_widths o.keys) _ (left _ _ (left _ _ (left _ _ h))))
 key_widths Vector o h =
-    one_width o.keys 32 (left (same_widths o.keys (32 ∷ [])) _ (left _ _ (left _ _ (left _ _ h)))) refl
-key_widths Int o h = no_widths o.keys (left (length o.keys == 0) _ (left _ _ (left _ _ (left _ _ (left _ _ h)))))
+    fitting_width o.keys 32 (and_first (same_widths o.keys (32 ∷ [])) _ (and_first _ _ (and_first _ _ (and_first _ _ h)))) refl
+key_widths Int o h = no_widths o.keys (and_first (length o.keys == 0) _ (and_first _ _ (and_first _ _ (and_first _ _ (and_first _ _ h)))))
+key_widths _ o h = all_widths o.keys (and_first (rules.are_widths o.keys) _ (and_first _ _ (and_first _ _ (and_first _ _ h))))
 
 value_widths : (kind : Kind) (o : ObjectDecl) → is_good_object kind o ≡ true → are_widths o.values ≡ true
-value_widths Table o h = good_widths o.values (right _ (rules.are_widths o.values) (left _ _ (left _ _ (left _ _ h))))
-value_widths Map o h = good_widths o.values (right _ (rules.are_widths o.values) (left _ _ (left _ _ (left _ _ h))))
-value_widths Vector o h = good_widths o.values (right _ (rules.are_widths o.values) (left _ _ (left _ _ (left _ _ h))))
 value_widths Int o h =
     let first = slice_index o.values 0 in
-    let wide = left _ _ (left _ _ (left _ _ h)) in
-    let widths = left _ _ wide in
-    one_width o.values first (right _ (same_widths o.values (first ∷ [])) widths) (right _ (is_width first) wide)
+    let wide = and_first _ _ (and_first _ _ (and_first _ _ h)) in
+    let widths = and_first _ _ wide in
+    fitting_width o.values first (and_second _ (same_widths o.values (first ∷ [])) widths) (and_second _ (is_width first) wide)
+value_widths _ o h = all_widths o.values (and_second _ (rules.are_widths o.values) (and_first _ _ (and_first _ _ (and_first _ _ h))))
 
 -- ## Objects
 
@@ -168,12 +106,12 @@ all_declared : (names : List (List ℕ)) (os : List ObjectDecl) → are_good_obj
     → All (λ (o : ObjectDecl). IsName o.name) os → list_all is_declared os ≡ true
 all_declared names [] h named = refl
 all_declared names (o ∷ os) h named =
-    let good = left (is_good_object o.kind o) _ (left _ _ h) in
+    let good = and_first (is_good_object o.kind o) _ (and_first _ _ h) in
     let plain = name_plain o.name (All-head (λ (d : ObjectDecl). IsName d.name) o os named) in
-    both (is_declared o) (list_all is_declared os)
-    (both (is_plain o.name && are_widths o.keys) (are_widths o.values)
-    (both (is_plain o.name) (are_widths o.keys) plain (key_widths o.kind o good)) (value_widths o.kind o good))
-    (all_declared (o.name ∷ names) os (right _ (are_good_objects (o.name ∷ names) os) h)
+    and_from (is_declared o) (list_all is_declared os)
+    (and_from (is_plain o.name && are_widths o.keys) (are_widths o.values)
+    (and_from (is_plain o.name) (are_widths o.keys) plain (key_widths o.kind o good)) (value_widths o.kind o good))
+    (all_declared (o.name ∷ names) os (and_second _ (are_good_objects (o.name ∷ names) os) h)
     (All-tail (λ (d : ObjectDecl). IsName d.name) o os named))
 
 abbrev Among : List ℕ → List (List ℕ) → Type 0
@@ -203,24 +141,24 @@ new_names : (taken : List ℕ) (names : List (List ℕ)) (os : List ObjectDecl) 
     → Among taken names → list_any (λ (d : ObjectDecl). bytes_eq taken d.name) os ≡ false
 new_names taken names [] h there = refl
 new_names taken names (o ∷ os) h there =
-    let own = right (is_good_object o.kind o) (not (list_any (bytes_eq o.name) names)) (left _ _ h) in
+    let own = and_second (is_good_object o.kind o) (not (list_any (bytes_eq o.name) names)) (and_first _ _ h) in
     let here = unequal taken o.name names there own in
     let rest =
-    new_names taken (o.name ∷ names) os (right _ (are_good_objects (o.name ∷ names) os) h) (inr there) in
+    new_names taken (o.name ∷ names) os (and_second _ (are_good_objects (o.name ∷ names) os) h) (inr there) in
     ap (λ b. b || list_any (λ (d : ObjectDecl). bytes_eq taken d.name) os) here ∙ rest
 
 all_apart : (names : List (List ℕ)) (os : List ObjectDecl) → are_good_objects names os ≡ true → are_apart os ≡ true
 all_apart names [] h = refl
 all_apart names (o ∷ os) h =
-    let rest = right _ (are_good_objects (o.name ∷ names) os) h in
-    both (not (list_any (λ (d : ObjectDecl). bytes_eq o.name d.name) os)) (are_apart os)
+    let rest = and_second _ (are_good_objects (o.name ∷ names) os) h in
+    and_from (not (list_any (λ (d : ObjectDecl). bytes_eq o.name d.name) os)) (are_apart os)
     (ap not (new_names o.name (o.name ∷ names) os rest (inl refl))) (all_apart (o.name ∷ names) os rest)
 
 pub declared_objects : (m : Tree) → IsTrue (rules.is_good m) → HasNames m → length m.objects < 2 ^ 32
     → IsTrue (are_declared m.objects)
 declared_objects m good names few =
     let objects =
-    left (are_good_objects [] m.objects) (declared_by m.body == length m.locals) (left _ (is_good_body m [] 0 m.body) good) in
-    both (nat_lt (length m.objects) (2 ^ 32) && list_all is_declared m.objects) (are_apart m.objects)
-    (both (nat_lt (length m.objects) (2 ^ 32)) (list_all is_declared m.objects) (lt-ltb (length m.objects) (2 ^ 32) few)
+    and_first (are_good_objects [] m.objects) (declared_by m.body == length m.locals) (and_first _ (is_good_body m [] 0 m.body) good) in
+    and_from (nat_lt (length m.objects) (2 ^ 32) && list_all is_declared m.objects) (are_apart m.objects)
+    (and_from (nat_lt (length m.objects) (2 ^ 32)) (list_all is_declared m.objects) (lt-ltb (length m.objects) (2 ^ 32) few)
     (all_declared [] m.objects objects names.objects)) (all_apart [] m.objects objects)

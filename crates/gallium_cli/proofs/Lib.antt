@@ -1,4 +1,6 @@
 pub mod Bounds
+pub mod Told
+pub mod Walks
 pub mod Declared
 pub mod Files
 pub mod OverLinks
@@ -10,9 +12,10 @@ pub mod Chained
 pub mod Reported
 pub mod Runnable
 pub mod Choices
-pub mod Walks
 pub mod Unkept
 pub mod Untrue
+pub mod Held
+pub mod Blamed
 pub mod Replayed
 pub mod Exact
 pub mod CauseTold
@@ -23,3 +26,4 @@ pub mod Named
 pub mod Ranges
 pub mod Compiled
 pub mod Promised
+pub mod Laws

@@ -6,17 +6,11 @@ use Rattle.std.specs.Fmt.{decimal}
 use Rattle.std.proofs.lemmas.List.{append-nil}
 use Rattle.gal_io.specs.Lines.{lines, line_end, told_of}
 use Rattle.gal_bits.specs.declared.op.Op.{Op}
-use Rattle.gal_bits.specs.declared.op.Op.TheVariants.{Add, Sub, Mul, Div, Rem, And, Or, Xor, Not, Shl, Shr, Eq, Ne}
-use Rattle.gal_bits.specs.declared.op.Op.TheVariants.{Lt, Le, Cast, Select, Adjust}
+use Rattle.gal_bits.specs.declared.op.Op.TheVariants.{Add}
+use Rattle.gal_bits.specs.declared.op.Op.TheVariants.{Select}
 use Rattle.gal_bits.specs.Operators.{operator_row}
 use Rattle.packet_fields.specs.declared.field.Field.{Field}
-use Rattle.packet_fields.specs.declared.field.Field.TheVariants.{MetaPort, MetaLen, HasIp, HasTcp, HasUdp, EthDst}
-use Rattle.packet_fields.specs.declared.field.Field.TheVariants.{EthSrc, EthType, VlanPcp, VlanDei, VlanId}
-use Rattle.packet_fields.specs.declared.field.Field.TheVariants.{IpVersion, IpIhl, IpTos, IpLen, IpId, IpFlags}
-use Rattle.packet_fields.specs.declared.field.Field.TheVariants.{IpFrag, IpTtl, IpProto, IpSum, IpSrc, IpDst}
-use Rattle.packet_fields.specs.declared.field.Field.TheVariants.{TcpSport, TcpDport, TcpSeq, TcpAck, TcpOff, TcpRes}
-use Rattle.packet_fields.specs.declared.field.Field.TheVariants.{TcpFlags, TcpWin, TcpSum, TcpUrg}
-use Rattle.packet_fields.specs.declared.field.Field.TheVariants.{UdpSport, UdpDport, UdpLen, UdpSum}
+use Rattle.packet_fields.specs.declared.field.Field.TheVariants.{MetaPort}
 use Rattle.packet_fields.specs.Table.{row}
 use Rattle.state_store.specs.declared.object.ObjectDecl.{ObjectDecl}
 use Rattle.flat_ir.specs.declared.program.ValueId.{ValueId}
@@ -47,62 +41,11 @@ use Rattle.gallium_cli.proofs.Named.{HaveUnendedNames}
 
 operator_unended : (op : Op) → IsUnended (operator_row op).name
 operator_unended Add = refl
-operator_unended Sub = refl
-operator_unended Mul = refl
-operator_unended Div = refl
-operator_unended Rem = refl
-operator_unended And = refl
-operator_unended Or = refl
-operator_unended Xor = refl
-operator_unended Not = refl
-operator_unended Shl = refl
-operator_unended Shr = refl
-operator_unended Eq = refl
-operator_unended Ne = refl
-operator_unended Lt = refl
-operator_unended Le = refl
-operator_unended Cast = refl
-operator_unended Select = refl
-operator_unended Adjust = refl
+operator_unended _ = refl
 
 field_unended : (f : Field) → IsUnended (row f).name
 field_unended MetaPort = refl
-field_unended MetaLen = refl
-field_unended HasIp = refl
-field_unended HasTcp = refl
-field_unended HasUdp = refl
-field_unended EthDst = refl
-field_unended EthSrc = refl
-field_unended EthType = refl
-field_unended VlanPcp = refl
-field_unended VlanDei = refl
-field_unended VlanId = refl
-field_unended IpVersion = refl
-field_unended IpIhl = refl
-field_unended IpTos = refl
-field_unended IpLen = refl
-field_unended IpId = refl
-field_unended IpFlags = refl
-field_unended IpFrag = refl
-field_unended IpTtl = refl
-field_unended IpProto = refl
-field_unended IpSum = refl
-field_unended IpSrc = refl
-field_unended IpDst = refl
-field_unended TcpSport = refl
-field_unended TcpDport = refl
-field_unended TcpSeq = refl
-field_unended TcpAck = refl
-field_unended TcpOff = refl
-field_unended TcpRes = refl
-field_unended TcpFlags = refl
-field_unended TcpWin = refl
-field_unended TcpSum = refl
-field_unended TcpUrg = refl
-field_unended UdpSport = refl
-field_unended UdpDport = refl
-field_unended UdpLen = refl
-field_unended UdpSum = refl
+field_unended _ = refl
 
 value_unended : (v : ValueId) → IsUnended (value_text v)
 value_unended v =

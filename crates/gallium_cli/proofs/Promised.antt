@@ -1,44 +1,40 @@
 -- What follows from how a call ends.
 use Rattle.std.proofs.Common.{◌≡◌, ◌⊎◌, ℕ, Bool, true, false, List, [], ◌∷◌, Option, Some, None, sym, subst, ap, ◌∙◌, inl, inr}
-use Rattle.std.proofs.Common.{refl}
+use Rattle.std.proofs.Common.{arith, refl}
 use Rattle.std.specs.Prelude.{is_some, IsSomeAnd}
 use Rattle.gal_io.specs.Count.{Rose}
 use Rattle.gal_io.specs.Files.{FilesState}
 use Rattle.gal_io.specs.Sink.{SinkState}
 use Rattle.gal_io.specs.declared.sink.SinkEnd.{SinkEnd}
 use Rattle.gal_io.specs.declared.sink.SinkEnd.TheVariants as ends
-use Rattle.packet_fields.specs.declared.packet.Packet.{Packet}
-use Rattle.element_lang.specs.Tree.{Tree}
-use Rattle.element_chain.specs.declared.chain.Chain.{Chain as ChainTold}
 use Rattle.switch_ir.specs.Port.{PortState}
 use Rattle.gallium_cli.specs.declared.status.Status.{Status}
 use Rattle.gallium_cli.specs.declared.status.Status.TheVariants as statuses
-use Rattle.gallium_cli.specs.declared.refusal.Excess.{Excess}
 use Rattle.gallium_cli.specs.declared.refusal.Refusal.{Refusal}
-use Rattle.gallium_cli.specs.declared.refusal.Refusal.TheVariants.{Usage, Exceeded, TooLong, ReadFault, WriteFault, SwitchFault}
-use Rattle.gallium_cli.specs.declared.refusal.Refusal.TheVariants.{NoMemory, Report, Audit, ClassTooLong, ClassReadFault}
+use Rattle.gallium_cli.specs.declared.refusal.Refusal.TheVariants.{Usage, Exceeded, WriteFault, SwitchFault}
+use Rattle.gallium_cli.specs.declared.refusal.Refusal.TheVariants.{NoMemory, Report, Audit}
 use Rattle.gallium_cli.specs.Call.{Call, Work}
 use Rattle.gallium_cli.specs.Lines.{status_of}
-use Rattle.gallium_cli.specs.Words.{Request, Run, Compile, Replay, Lossy, Check, Audit as Audited, Chain as Chained, Gen, PcapIn}
-use Rattle.gallium_cli.specs.Words.{PcapOut}
+use Rattle.gallium_cli.specs.Words.{Request, Compile, Replay, Lossy, Check, Audit as Audited, Chain as Chained}
 use Rattle.gallium_cli.specs.Words.{ServerAlone, Within, Spelled, is_replay, request_of}
 use Rattle.gallium_cli.specs.Roles.{Role, source, trace, legal_split, true_report, Gate, File, Choice, SplitFile}
-use Rattle.gallium_cli.specs.Roles.{ReportFile, Composed, IsSpelled, gates_of}
-use Rattle.gallium_cli.specs.Chains.{IsFirstClassRefused, IsWired, class_files}
+use Rattle.gallium_cli.specs.Roles.{ReportFile, Composed, IsFirst, IsSpelled, gates_of}
+use Rattle.gallium_cli.specs.Chains.{class_files}
 use Rattle.gallium_cli.specs.Loads.{IsFileRefused}
-use Rattle.gallium_cli.specs.Reports.{IsBadReport}
 use Rattle.gallium_cli.specs.Causes.{IsFirstRefused, IsSwitchKept, IsSwitchFaulty, IsNotWritten, IsIdle, IsDone}
-use Rattle.gallium_cli.specs.Causes.{HasCause}
+use Rattle.gallium_cli.specs.Causes.{HasCause, IsPassed, IsRefusedAt}
 use Rattle.gallium_cli.specs.Causes.{CountsFaults, after_line, EndsFor, Ends}
-use Rattle.gallium_cli.specs.Promises.{IsWriteFault, BlamesInput, IsReadOnce, IsUsage, IsOneOf, BlamesOne, IsBlamed}
+use Rattle.gallium_cli.specs.Promises.{IsWriteFault, BlamesInput, IsReadOnce, IsUsage, BlamesOne, IsBlamed}
 use Rattle.gallium_cli.specs.Promises.{IsFailedOnSwitch}
 use Rattle.gallium_cli.specs.Promises.{CountsOne}
 use Rattle.gallium_cli.specs.Promises.{MayExceed, IsReplay, IsReplayReport, Promises}
 use Rattle.gallium_cli.proofs.Written.{all_some}
-use Rattle.gallium_cli.proofs.Counted.{no_switch_fault}
-use Rattle.gallium_cli.proofs.Unkept.{Laws}
+use Rattle.gallium_cli.proofs.Blamed.{BlamesIn, IsReadFault, IsTooLong, blamed_in, fault_blames, long_blames, no_gate}
+use Rattle.gallium_cli.proofs.Held.{unspelled}
+use Rattle.gallium_cli.proofs.Told.{meet, some_then}
+use Rattle.gallium_cli.proofs.Walks.{at_gates, first_at}
 use Rattle.gallium_cli.proofs.Untrue.{same_input}
-use Rattle.gallium_cli.proofs.Replayed.{AreTrueReports, not_both, replay_told}
+use Rattle.gallium_cli.proofs.Replayed.{replay_told}
 use Rattle.gallium_cli.proofs.Serial.{serial_done}
 use Rattle.gallium_cli.proofs.Exact.{exact_ends, complete_ends}
 use Rattle.gallium_cli.proofs.CauseTold.{cause_told}
@@ -137,24 +133,10 @@ IsUsageStatus _ = ⊥
 usage_gates : IsOfGates IsUsageStatus
 usage_gates = record { done = λ h. h; write = λ h. h; switch = λ h. h; memory = λ h. h }
 
--- no class file and no gate is refused for the words
-no_usage_class : (names : List (List ℕ)) (f f' : FilesState) → IsFirstClassRefused Usage names f f' → ⊥
-no_usage_class [] f f' h = h
-no_usage_class (name ∷ names) f f' (inl h) = h
-no_usage_class (name ∷ names) f f' (inr later) = no_usage_class names f f' later.1
-
 no_usage : (refusal : Refusal) (gates : List Gate) (f f' : FilesState)
     → IsUsageStatus (status_of refusal) → IsFirstRefused refusal gates f f' → ⊥
-no_usage Usage [] f f' is h = h
-no_usage Usage (File name role ∷ gates) f f' is (inl h) = h
-no_usage Usage (Choice s l shrink ∷ gates) f f' is (inl (m, allowed, found, never)) = never
-no_usage Usage (SplitFile s l p ∷ gates) f f' is (inl (m, allowed, found, never)) = never
-no_usage Usage (ReportFile s t r ∷ gates) f f' is (inl (m, packets, found, never)) = never
-no_usage Usage (Composed w ∷ gates) f f' is (inl (chain, wired, inl first)) =
-    no_usage_class (class_files chain.elements) f f' first
-no_usage Usage (Composed w ∷ gates) f f' is (inl (chain, wired, inr (ms, are, never))) = never
-no_usage Usage (gate ∷ gates) f f' is (inr later) = no_usage Usage gates f f' is later.1
-no_usage _ gates f f' is h = is
+no_usage Usage gates f f' is first = no_gate Usage gates f f' tt first
+no_usage _ gates f f' is first = is
 
 usage_ends : (request : Option Request) (status : Status) (call : Call) → EndsFor request status call
     → IsUsage request status
@@ -166,107 +148,22 @@ usage_ends (Some request) status call end = λ usage.
 
 -- ## Which count rose
 
-abbrev IsTooLong : Status → Type 0
-IsTooLong statuses.TooLong = Unit {0}
-IsTooLong _ = ⊥
-
 long_gates : IsOfGates IsTooLong
 long_gates = record { done = λ h. h; write = λ h. h; switch = λ h. h; memory = λ h. h }
 
--- the files that may be blamed at gates: those that they name, and those of the classes of a chain
-abbrev BlamesIn : (List ℕ → Option (List ℕ)) → List Gate → Option (List ℕ) → Type 0
-BlamesIn told [] blamed = ⊥
-BlamesIn told (File name role ∷ gates) blamed = (blamed ≡ Some name) ⊎ BlamesIn told gates blamed
-BlamesIn told (Choice s l shrink ∷ gates) blamed = BlamesIn told gates blamed
-BlamesIn told (SplitFile s l p ∷ gates) blamed = (blamed ≡ Some p) ⊎ BlamesIn told gates blamed
-BlamesIn told (ReportFile s t r ∷ gates) blamed = (blamed ≡ Some r) ⊎ BlamesIn told gates blamed
-BlamesIn told (Composed w ∷ gates) blamed =
-    ((chain : ChainTold) × IsWired told w chain × IsOneOf (class_files chain.elements) blamed)
-    ⊎ BlamesIn told gates blamed
+fault_gates : IsOfGates IsReadFault
+fault_gates = record { done = λ h. h; write = λ h. h; switch = λ h. h; memory = λ h. h }
 
 blames_one : (told : List ℕ → Option (List ℕ)) (request : Request) (blamed : Option (List ℕ))
     → BlamesIn told (gates_of request) blamed → BlamesOne told request blamed
-blames_one told (Run s t) blamed h = h
-blames_one told (Compile s l shrink) blamed h = h
 blames_one told (Replay s t c ServerAlone) blamed h = h
 blames_one told (Replay s t c (Within l shrink)) blamed h = h
 blames_one told (Replay s t c (Spelled l p)) blamed h = h
-blames_one told (Lossy s t c l) blamed h = h
-blames_one told (Check s l p) blamed h = h
-blames_one told (Audited s t r) blamed h = h
 blames_one told (Chained w) blamed (inl is) = (w ∷ [], inl refl, inl is)
 blames_one told (Chained w) blamed (inr (inl (chain, wired, one))) =
     (w ∷ class_files chain.elements, inr (chain, wired, refl), inr one)
 blames_one told (Chained w) blamed (inr (inr never)) = absurd never
-blames_one told (Gen seed count) blamed h = h
-blames_one told (PcapIn c port) blamed h = h
-blames_one told (PcapOut t big nano) blamed h = h
-
--- the file of a class is blamed by a name of its own
-abbrev IsOfWords : Refusal → Type 0
-IsOfWords (TooLong name) = Unit {0}
-IsOfWords (ReadFault name) = Unit {0}
-IsOfWords _ = ⊥
-
-no_named_class : (refusal : Refusal) (names : List (List ℕ)) (f f' : FilesState) → IsOfWords refusal
-    → IsFirstClassRefused refusal names f f' → ⊥
-no_named_class (TooLong blamed) [] f f' of h = h
-no_named_class (TooLong blamed) (name ∷ names) f f' of (inl h) = h
-no_named_class (TooLong blamed) (name ∷ names) f f' of (inr later) = no_named_class (TooLong blamed) names f f' tt later.1
-no_named_class (ReadFault blamed) [] f f' of h = h
-no_named_class (ReadFault blamed) (name ∷ names) f f' of (inl h) = h
-no_named_class (ReadFault blamed) (name ∷ names) f f' of (inr later) =
-    no_named_class (ReadFault blamed) names f f' tt later.1
-no_named_class _ names f f' of h = of
-
-long_class : (name : List ℕ) (names : List (List ℕ)) (f f' : FilesState) → IsFirstClassRefused (ClassTooLong name) names f f'
-    → Rose f.overlong f'.overlong × IsOneOf names f'.overlong_name
-long_class name [] f f' h = absurd h
-long_class name (file ∷ names) f f' (inl h) = (h.1.2, inl h.1.1)
-long_class name (file ∷ names) f f' (inr later) =
-    let rest = long_class name names f f' later.1 in (rest.0, inr rest.1)
-
-long_rose : (refusal : Refusal) (gates : List Gate) (f f' : FilesState)
-    → IsTooLong (status_of refusal) → IsFirstRefused refusal gates f f'
-    → Rose f.overlong f'.overlong × BlamesIn f.told gates f'.overlong_name
-long_rose (TooLong name) [] f f' is h = absurd h
-long_rose (TooLong name) (File file role ∷ gates) f f' is (inl h) = (h.1.2, inl h.1.1)
-long_rose (TooLong name) (File file role ∷ gates) f f' is (inr later) =
-    let rest = long_rose (TooLong name) gates f f' is later.1 in (rest.0, inr rest.1)
-long_rose (TooLong name) (Choice s l shrink ∷ gates) f f' is (inl (m, allowed, found, never)) = absurd never
-long_rose (TooLong name) (Choice s l shrink ∷ gates) f f' is (inr later) =
-    long_rose (TooLong name) gates f f' is later.1
-long_rose (TooLong name) (SplitFile s l p ∷ gates) f f' is (inl (m, allowed, found, h)) = (h.1.2, inl h.1.1)
-long_rose (TooLong name) (SplitFile s l p ∷ gates) f f' is (inr later) =
-    let rest = long_rose (TooLong name) gates f f' is later.1 in (rest.0, inr rest.1)
-long_rose (TooLong name) (ReportFile s t r ∷ gates) f f' is (inl (m, packets, found, h)) = (h.1.2, inl h.1.1)
-long_rose (TooLong name) (ReportFile s t r ∷ gates) f f' is (inr later) =
-    let rest = long_rose (TooLong name) gates f f' is later.1 in (rest.0, inr rest.1)
-long_rose (TooLong name) (Composed w ∷ gates) f f' is (inl (chain, wired, inl first)) =
-    absurd (no_named_class (TooLong name) (class_files chain.elements) f f' tt first)
-long_rose (TooLong name) (Composed w ∷ gates) f f' is (inl (chain, wired, inr (ms, are, never))) = absurd never
-long_rose (TooLong name) (Composed w ∷ gates) f f' is (inr later) =
-    let rest = long_rose (TooLong name) gates f f' is later.1 in (rest.0, inr rest.1)
-long_rose (ClassTooLong name) [] f f' is h = absurd h
-long_rose (ClassTooLong name) (File file role ∷ gates) f f' is (inl never) = absurd never
-long_rose (ClassTooLong name) (File file role ∷ gates) f f' is (inr later) =
-    let rest = long_rose (ClassTooLong name) gates f f' is later.1 in (rest.0, inr rest.1)
-long_rose (ClassTooLong name) (Choice s l shrink ∷ gates) f f' is (inl (m, allowed, found, never)) = absurd never
-long_rose (ClassTooLong name) (Choice s l shrink ∷ gates) f f' is (inr later) =
-    long_rose (ClassTooLong name) gates f f' is later.1
-long_rose (ClassTooLong name) (SplitFile s l p ∷ gates) f f' is (inl (m, allowed, found, never)) = absurd never
-long_rose (ClassTooLong name) (SplitFile s l p ∷ gates) f f' is (inr later) =
-    let rest = long_rose (ClassTooLong name) gates f f' is later.1 in (rest.0, inr rest.1)
-long_rose (ClassTooLong name) (ReportFile s t r ∷ gates) f f' is (inl (m, packets, found, never)) = absurd never
-long_rose (ClassTooLong name) (ReportFile s t r ∷ gates) f f' is (inr later) =
-    let rest = long_rose (ClassTooLong name) gates f f' is later.1 in (rest.0, inr rest.1)
-long_rose (ClassTooLong name) (Composed w ∷ gates) f f' is (inl (chain, wired, inl first)) =
-    let class = long_class name (class_files chain.elements) f f' first in
-    (class.0, inl (chain, wired, class.1))
-long_rose (ClassTooLong name) (Composed w ∷ gates) f f' is (inl (chain, wired, inr (ms, are, never))) = absurd never
-long_rose (ClassTooLong name) (Composed w ∷ gates) f f' is (inr later) =
-    let rest = long_rose (ClassTooLong name) gates f f' is later.1 in (rest.0, inr rest.1)
-long_rose _ gates f f' is h = absurd is
+blames_one told _ blamed h = h
 
 too_long_ends : (request : Option Request) (status : Status) (call : Call)
     → EndsFor request status call → IsTooLong status
@@ -276,64 +173,11 @@ too_long_ends None status call (inr (refusal, cause, counts, (end, is, written))
     subst (λ r. IsTooLong (status_of r)) cause.0 (told_of IsTooLong refusal end status long_gates is long)
 too_long_ends (Some request) status call end long =
     let out = shut_out IsTooLong request status call long_gates end long in
-    let rose = long_rose out.refusal (gates_of request) call.work.files call.work.files_after out.is out.first in
-    (rose.0, blames_one call.work.files.told request _ rose.1)
-
-abbrev IsReadFault : Status → Type 0
-IsReadFault statuses.ReadFault = Unit {0}
-IsReadFault _ = ⊥
-
-fault_gates : IsOfGates IsReadFault
-fault_gates = record { done = λ h. h; write = λ h. h; switch = λ h. h; memory = λ h. h }
-
-fault_class : (name : List ℕ) (names : List (List ℕ)) (f f' : FilesState) → IsFirstClassRefused (ClassReadFault name) names f f'
-    → Rose f.faults f'.faults × IsOneOf names f'.fault_name
-fault_class name [] f f' h = absurd h
-fault_class name (file ∷ names) f f' (inl h) = (h.1.1, inl h.1.0)
-fault_class name (file ∷ names) f f' (inr later) =
-    let rest = fault_class name names f f' later.1 in (rest.0, inr rest.1)
-
-fault_rose : (refusal : Refusal) (gates : List Gate) (f f' : FilesState)
-    → IsReadFault (status_of refusal) → IsFirstRefused refusal gates f f'
-    → Rose f.faults f'.faults × BlamesIn f.told gates f'.fault_name
-fault_rose (ReadFault name) [] f f' is h = absurd h
-fault_rose (ReadFault name) (File file role ∷ gates) f f' is (inl h) = (h.1.1, inl h.1.0)
-fault_rose (ReadFault name) (File file role ∷ gates) f f' is (inr later) =
-    let rest = fault_rose (ReadFault name) gates f f' is later.1 in (rest.0, inr rest.1)
-fault_rose (ReadFault name) (Choice s l shrink ∷ gates) f f' is (inl (m, allowed, found, never)) = absurd never
-fault_rose (ReadFault name) (Choice s l shrink ∷ gates) f f' is (inr later) =
-    fault_rose (ReadFault name) gates f f' is later.1
-fault_rose (ReadFault name) (SplitFile s l p ∷ gates) f f' is (inl (m, allowed, found, h)) = (h.1.1, inl h.1.0)
-fault_rose (ReadFault name) (SplitFile s l p ∷ gates) f f' is (inr later) =
-    let rest = fault_rose (ReadFault name) gates f f' is later.1 in (rest.0, inr rest.1)
-fault_rose (ReadFault name) (ReportFile s t r ∷ gates) f f' is (inl (m, packets, found, h)) = (h.1.1, inl h.1.0)
-fault_rose (ReadFault name) (ReportFile s t r ∷ gates) f f' is (inr later) =
-    let rest = fault_rose (ReadFault name) gates f f' is later.1 in (rest.0, inr rest.1)
-fault_rose (ReadFault name) (Composed w ∷ gates) f f' is (inl (chain, wired, inl first)) =
-    absurd (no_named_class (ReadFault name) (class_files chain.elements) f f' tt first)
-fault_rose (ReadFault name) (Composed w ∷ gates) f f' is (inl (chain, wired, inr (ms, are, never))) = absurd never
-fault_rose (ReadFault name) (Composed w ∷ gates) f f' is (inr later) =
-    let rest = fault_rose (ReadFault name) gates f f' is later.1 in (rest.0, inr rest.1)
-fault_rose (ClassReadFault name) [] f f' is h = absurd h
-fault_rose (ClassReadFault name) (File file role ∷ gates) f f' is (inl never) = absurd never
-fault_rose (ClassReadFault name) (File file role ∷ gates) f f' is (inr later) =
-    let rest = fault_rose (ClassReadFault name) gates f f' is later.1 in (rest.0, inr rest.1)
-fault_rose (ClassReadFault name) (Choice s l shrink ∷ gates) f f' is (inl (m, allowed, found, never)) = absurd never
-fault_rose (ClassReadFault name) (Choice s l shrink ∷ gates) f f' is (inr later) =
-    fault_rose (ClassReadFault name) gates f f' is later.1
-fault_rose (ClassReadFault name) (SplitFile s l p ∷ gates) f f' is (inl (m, allowed, found, never)) = absurd never
-fault_rose (ClassReadFault name) (SplitFile s l p ∷ gates) f f' is (inr later) =
-    let rest = fault_rose (ClassReadFault name) gates f f' is later.1 in (rest.0, inr rest.1)
-fault_rose (ClassReadFault name) (ReportFile s t r ∷ gates) f f' is (inl (m, packets, found, never)) = absurd never
-fault_rose (ClassReadFault name) (ReportFile s t r ∷ gates) f f' is (inr later) =
-    let rest = fault_rose (ClassReadFault name) gates f f' is later.1 in (rest.0, inr rest.1)
-fault_rose (ClassReadFault name) (Composed w ∷ gates) f f' is (inl (chain, wired, inl first)) =
-    let class = fault_class name (class_files chain.elements) f f' first in
-    (class.0, inl (chain, wired, class.1))
-fault_rose (ClassReadFault name) (Composed w ∷ gates) f f' is (inl (chain, wired, inr (ms, are, never))) = absurd never
-fault_rose (ClassReadFault name) (Composed w ∷ gates) f f' is (inr later) =
-    let rest = fault_rose (ClassReadFault name) gates f f' is later.1 in (rest.0, inr rest.1)
-fault_rose _ gates f f' is h = absurd is
+    let f = call.work.files in
+    let f' = call.work.files_after in
+    let rose = blamed_in out.refusal f'.overlong_name f f' (Rose f.overlong f'.overlong) (long_blames out.refusal f f' out.is)
+    (gates_of request) out.first in
+    (rose.0, blames_one f.told request _ rose.1)
 
 read_fault_ends : (request : Option Request) (status : Status) (call : Call)
     → EndsFor request status call → IsReadFault status
@@ -343,8 +187,11 @@ read_fault_ends None status call (inr (refusal, cause, counts, (end, is, written
     subst (λ r. IsReadFault (status_of r)) cause.0 (told_of IsReadFault refusal end status fault_gates is fault)
 read_fault_ends (Some request) status call end fault =
     let out = shut_out IsReadFault request status call fault_gates end fault in
-    let rose = fault_rose out.refusal (gates_of request) call.work.files call.work.files_after out.is out.first in
-    (rose.0, blames_one call.work.files.told request _ rose.1)
+    let f = call.work.files in
+    let f' = call.work.files_after in
+    let rose = blamed_in out.refusal f'.fault_name f f' (Rose f.faults f'.faults) (fault_blames out.refusal f f' out.is)
+    (gates_of request) out.first in
+    (rose.0, blames_one f.told request _ rose.1)
 
 -- ## A limit that is exceeded
 
@@ -355,78 +202,35 @@ IsExceededStatus _ = ⊥
 exceeded_gates : IsOfGates IsExceededStatus
 exceeded_gates = record { done = λ h. h; write = λ h. h; switch = λ h. h; memory = λ h. h }
 
--- a file is read as no split
-abbrev IsNoSplit : Role → Type 0
-IsNoSplit (legal_split f allowed) = ⊥
-IsNoSplit _ = Unit {0}
+-- the gates at which a limit may be exceeded
+abbrev MayExceedAt : Gate → Type 0
+MayExceedAt (File name (legal_split f allowed)) = Unit {0}
+MayExceedAt (Choice s l false) = Unit {0}
+MayExceedAt (SplitFile s l p) = Unit {0}
+MayExceedAt _ = ⊥
 
-unsplit_unexceeded : (excess : Excess) (role : Role) (name : List ℕ) (f f' : FilesState) → IsNoSplit role
-    → IsFileRefused (Exceeded excess) role name f f' → ⊥
-unsplit_unexceeded excess (legal_split g allowed) name f f' none h = none
-unsplit_unexceeded excess _ name f f' none h = h
+exceeded_at : (refusal : Refusal) (gate : Gate) (f f' : FilesState) → IsExceededStatus (status_of refusal)
+    → IsRefusedAt refusal gate f f' → MayExceedAt gate
+exceeded_at (Exceeded excess) (File name (legal_split g allowed)) f f' is refused = tt
+exceeded_at (Exceeded excess) (File name _) f f' is refused = refused.0
+exceeded_at (Exceeded excess) (Choice s l true) f f' is (m, allowed, found, (over, never, told)) = never
+exceeded_at (Exceeded excess) (Choice s l false) f f' is refused = tt
+exceeded_at (Exceeded excess) (SplitFile s l p) f f' is refused = tt
+exceeded_at (Exceeded excess) (ReportFile s t r) f f' is (m, packets, found, refused) = refused.0
+exceeded_at (Exceeded excess) (Composed w) f f' is (chain, wired, inl first) =
+    first_at _ _ ⊥ (λ name never. never) (class_files chain.elements) first
+exceeded_at (Exceeded excess) (Composed w) f f' is (chain, wired, inr (ms, are, never)) = never
+exceeded_at _ gate f f' is refused = absurd is
 
--- no choice among these gates is of a split that may not shrink, and none is given
-abbrev AllMayShrink : List Gate → Type 0
-AllMayShrink [] = Unit {0}
-AllMayShrink (File name role ∷ gates) = IsNoSplit role × AllMayShrink gates
-AllMayShrink (Choice s l true ∷ gates) = AllMayShrink gates
-AllMayShrink (Choice s l false ∷ gates) = ⊥
-AllMayShrink (SplitFile s l p ∷ gates) = ⊥
-AllMayShrink (ReportFile s t r ∷ gates) = AllMayShrink gates
-AllMayShrink (Composed w ∷ gates) = AllMayShrink gates
-
-no_excess_class : (excess : Excess) (names : List (List ℕ)) (f f' : FilesState)
-    → IsFirstClassRefused (Exceeded excess) names f f' → ⊥
-no_excess_class excess [] f f' h = h
-no_excess_class excess (name ∷ names) f f' (inl h) = h
-no_excess_class excess (name ∷ names) f f' (inr later) = no_excess_class excess names f f' later.1
-
-shrunk_unexceeded : (refusal : Refusal) (gates : List Gate) (f f' : FilesState) → AllMayShrink gates
-    → IsExceededStatus (status_of refusal) → IsFirstRefused refusal gates f f' → ⊥
-shrunk_unexceeded (Exceeded excess) [] f f' may is h = h
-shrunk_unexceeded (Exceeded excess) (File name role ∷ gates) f f' may is (inl h) =
-    unsplit_unexceeded excess role name f f' may.0 h
-shrunk_unexceeded (Exceeded excess) (File name role ∷ gates) f f' may is (inr later) =
-    shrunk_unexceeded (Exceeded excess) gates f f' may.1 is later.1
-shrunk_unexceeded (Exceeded excess) (Choice s l true ∷ gates) f f' may is (inl (m, allowed, found, (over, never, told))) =
-    never
-shrunk_unexceeded (Exceeded excess) (Choice s l true ∷ gates) f f' may is (inr later) =
-    shrunk_unexceeded (Exceeded excess) gates f f' may is later.1
-shrunk_unexceeded (Exceeded excess) (Choice s l false ∷ gates) f f' may is h = may
-shrunk_unexceeded (Exceeded excess) (SplitFile s l p ∷ gates) f f' may is h = may
-shrunk_unexceeded (Exceeded excess) (ReportFile s t r ∷ gates) f f' may is (inl (m, packets, found, never)) = never
-shrunk_unexceeded (Exceeded excess) (ReportFile s t r ∷ gates) f f' may is (inr later) =
-    shrunk_unexceeded (Exceeded excess) gates f f' may is later.1
-shrunk_unexceeded (Exceeded excess) (Composed w ∷ gates) f f' may is (inl (chain, wired, inl first)) =
-    no_excess_class excess (class_files chain.elements) f f' first
-shrunk_unexceeded (Exceeded excess) (Composed w ∷ gates) f f' may is (inl (chain, wired, inr (ms, are, never))) = never
-shrunk_unexceeded (Exceeded excess) (Composed w ∷ gates) f f' may is (inr later) =
-    shrunk_unexceeded (Exceeded excess) gates f f' may is later.1
-shrunk_unexceeded _ gates f f' may is h = is
-
-may_exceed : (refusal : Refusal) (request : Request) (f f' : FilesState) → IsExceededStatus (status_of refusal)
-    → IsFirstRefused refusal (gates_of request) f f' → MayExceed (Some request)
-may_exceed refusal (Run s t) f f' is first = shrunk_unexceeded refusal (gates_of (Run s t)) f f' (tt, (tt, tt)) is first
-may_exceed refusal (Compile s l false) f f' is first = tt
-may_exceed refusal (Compile s l true) f f' is first =
-    shrunk_unexceeded refusal (gates_of (Compile s l true)) f f' (tt, (tt, tt)) is first
-may_exceed refusal (Replay s t c ServerAlone) f f' is first =
-    shrunk_unexceeded refusal (gates_of (Replay s t c ServerAlone)) f f' (tt, (tt, (tt, tt))) is first
-may_exceed refusal (Replay s t c (Within l false)) f f' is first = tt
-may_exceed refusal (Replay s t c (Within l true)) f f' is first =
-    shrunk_unexceeded refusal (gates_of (Replay s t c (Within l true))) f f' (tt, (tt, (tt, (tt, tt)))) is first
-may_exceed refusal (Replay s t c (Spelled l p)) f f' is first = tt
-may_exceed refusal (Lossy s t c l) f f' is first = tt
-may_exceed refusal (Check s l p) f f' is first = tt
-may_exceed refusal (Audited s t r) f f' is first =
-    shrunk_unexceeded refusal (gates_of (Audited s t r)) f f' (tt, (tt, tt)) is first
-may_exceed refusal (Chained w) f f' is first =
-    shrunk_unexceeded refusal (gates_of (Chained w)) f f' (tt, tt) is first
-may_exceed refusal (Gen seed count) f f' is first = absurd first
-may_exceed refusal (PcapIn c port) f f' is first =
-    shrunk_unexceeded refusal (gates_of (PcapIn c port)) f f' (tt, tt) is first
-may_exceed refusal (PcapOut t big nano) f f' is first =
-    shrunk_unexceeded refusal (gates_of (PcapOut t big nano)) f f' (tt, tt) is first
+may_exceed : (request : Request) (told : List ℕ → Option (List ℕ))
+    → IsFirst (λ gate. IsPassed gate told) MayExceedAt (gates_of request) → MayExceed (Some request)
+may_exceed (Compile s l false) told first = tt
+may_exceed (Replay s t c (Within l false)) told first = tt
+may_exceed (Replay s t c (Spelled l p)) told first = tt
+may_exceed (Replay s t c _) told first = grind arith
+may_exceed (Lossy s t c l) told first = tt
+may_exceed (Check s l p) told first = tt
+may_exceed _ told first = grind arith
 
 exceeded_ends : (request : Option Request) (status : Status) (call : Call)
     → EndsFor request status call → IsExceededStatus status → MayExceed request
@@ -436,7 +240,10 @@ exceeded_ends None status call (inr (refusal, cause, counts, (end, is, written))
     (told_of IsExceededStatus refusal end status exceeded_gates is exceeded)
 exceeded_ends (Some request) status call end exceeded =
     let out = shut_out IsExceededStatus request status call exceeded_gates end exceeded in
-    may_exceed out.refusal request call.work.files call.work.files_after out.is out.first
+    may_exceed request call.work.files.told
+    (at_gates (λ gate. IsPassed gate call.work.files.told)
+    (λ gate. IsRefusedAt out.refusal gate call.work.files call.work.files_after) MayExceedAt
+    (λ gate here. exceeded_at out.refusal gate call.work.files call.work.files_after out.is here) (gates_of request) out.first)
 
 -- ## What is counted
 
@@ -488,7 +295,7 @@ switch_rose : (refusal : Refusal) (request : Option Request) (work : Work)
     → IsSwitchStatus (status_of refusal) → HasCause refusal request work → IsFailedOnSwitch request work
 switch_rose SwitchFault None work is cause = let usage : SwitchFault ≡ Usage = cause.0 in cc
 switch_rose SwitchFault (Some request) work is (inl first, few, aside) =
-    absurd (no_switch_fault (gates_of request) work.files work.files_after first.0)
+    absurd (no_gate SwitchFault (gates_of request) work.files work.files_after tt first.0)
 switch_rose SwitchFault (Some request) work is (inr (inl faulty), few, aside) = faulty.0
 switch_rose SwitchFault (Some request) work is (inr (inr unput), few, aside) = absurd unput
 switch_rose _ request work is cause = absurd is
@@ -556,53 +363,38 @@ BlamesReport _ = ⊥
 report_gates : IsOfGates BlamesReport
 report_gates = record { done = λ h. h; write = λ h. h; switch = λ h. h; memory = λ h. h }
 
--- a report that is told and tells a serial run isn't refused for what it holds
-told_unrefused : (refusal : Refusal) (m : Tree) (packets : List Packet) (r : List ℕ) (f f' : FilesState)
-    → BlamesReport (status_of refusal) → IsSomeAnd (f.told r) (IsSpelled (true_report m packets))
-    → IsFileRefused refusal (true_report m packets) r f f' → ⊥
-told_unrefused (Report number) m packets r f f' is spelled refused =
-    not_both (f.told r) (IsSpelled (true_report m packets)) (IsBadReport (Report number) m packets)
-    (λ text good bad. bad.0.1 good) spelled refused
-told_unrefused (Audit untruth) m packets r f f' is spelled refused =
-    not_both (f.told r) (IsSpelled (true_report m packets)) (IsBadReport (Audit untruth) m packets)
-    (λ text good bad. bad.0.1 good) spelled refused
-told_unrefused _ m packets r f f' is spelled refused = is
+-- a report that is told and tells a serial run isn't refused for what it holds, and no other file of an audit is
+blamed_file : (refusal : Refusal) (role : Role) (name : List ℕ) (f f' : FilesState) → BlamesReport (status_of refusal)
+    → IsSomeAnd (f.told name) (IsSpelled role) → IsFileRefused refusal role name f f' → ⊥
+blamed_file (Report number) role name f f' is spelled refused =
+    let (text, good, held) = meet _ _ (f.told name) spelled refused.1 in unspelled (Report number) role text held.1.0 good
+blamed_file (Audit untruth) role name f f' is spelled refused =
+    let (text, good, held) = meet _ _ (f.told name) spelled refused.1 in unspelled (Audit untruth) role text held.1.0 good
+blamed_file _ role name f f' is spelled refused = is
 
--- no other file of an audit is refused so
-unblamed_source : (refusal : Refusal) (name : List ℕ) (f f' : FilesState) → BlamesReport (status_of refusal)
-    → IsFileRefused refusal source name f f' → ⊥
-unblamed_source (Report number) name f f' is refused = refused
-unblamed_source (Audit untruth) name f f' is refused = refused
-unblamed_source _ name f f' is refused = is
-
-unblamed_trace : (refusal : Refusal) (name : List ℕ) (f f' : FilesState) → BlamesReport (status_of refusal)
-    → IsFileRefused refusal trace name f f' → ⊥
-unblamed_trace (Report number) name f f' is refused = refused
-unblamed_trace (Audit untruth) name f f' is refused = refused
-unblamed_trace _ name f f' is refused = is
-
-replay_unrefused : AreTrueReports → (refusal : Refusal) (s t r : List ℕ) (f f' : FilesState)
+replay_unrefused : (refusal : Refusal) (s t r : List ℕ) (f f' : FilesState)
     → BlamesReport (status_of refusal) → IsReplayReport f.told s t r
     → IsFirstRefused refusal (gates_of (Audited s t r)) f f' → ⊥
-replay_unrefused law refusal s t r f f' is replay (inl refused) = unblamed_source refusal s f f' is refused
-replay_unrefused law refusal s t r f f' is replay (inr (passed, inl refused)) = unblamed_trace refusal t f f' is refused
-replay_unrefused law refusal s t r f f' is replay (inr (passed, inr (also, inl (m, packets, found, refused)))) =
+replay_unrefused refusal s t r f f' is replay (inl refused) =
+    blamed_file refusal source s f f' is (some_then _ (IsSpelled source) (f.told s) replay.source (λ text h. (replay.m, h))) refused
+replay_unrefused refusal s t r f f' is replay (inr (passed, inl refused)) =
+    blamed_file refusal trace t f f' is (some_then _ (IsSpelled trace) (f.told t) replay.trace (λ text h. (replay.packets, h))) refused
+replay_unrefused refusal s t r f f' is replay (inr (passed, inr (also, inl (m, packets, found, refused)))) =
     let same = same_input f.told s t replay.m m replay.packets packets replay.source replay.trace found.input in
-    told_unrefused refusal m packets r f f' is (replay_told law f.told s t r m packets found replay same) refused
-replay_unrefused law refusal s t r f f' is replay (inr (passed, inr (also, inr (last, never)))) = never
+    blamed_file refusal (true_report m packets) r f f' is (replay_told f.told s t r m packets found replay same) refused
+replay_unrefused refusal s t r f f' is replay (inr (passed, inr (also, inr (last, never)))) = never
 
-replayed_ends : AreTrueReports → (request : Option Request) (status : Status) (call : Call) → EndsFor request status call
+replayed_ends : (request : Option Request) (status : Status) (call : Call) → EndsFor request status call
     → (s t r : List ℕ) → request ≡ Some (Audited s t r) → IsReplayReport call.work.files.told s t r
     → BlamesReport status → ⊥
-replayed_ends law request status call end s t r is replay blamed =
+replayed_ends request status call end s t r is replay blamed =
     let out = shut_out BlamesReport (Audited s t r) status call report_gates
     (subst (λ (asked : Option Request). EndsFor asked status call) is end) blamed in
-    replay_unrefused law out.refusal s t r call.work.files call.work.files_after out.is replay out.first
+    replay_unrefused out.refusal s t r call.work.files call.work.files_after out.is replay out.first
 
 -- all that is promised follows from how a call ends
-pub promised : (status : Status) (call : Call) → Laws → AreTrueReports → Ends status call
-    → Promises status call
-promised status call laws reports end =
+pub promised : (status : Status) (call : Call) → Ends status call → Promises status call
+promised status call end =
     let request = request_of call.words in
     record {
       serial = λ is replay tells. serial_done request call.work replay tells (done_ends request status call end is).0;
@@ -616,14 +408,14 @@ promised status call laws reports end =
       same_files = same_files_ends request status call end;
       once = once_ends request status call end;
       usage = usage_ends request status call end;
-      exact = exact_ends request status call laws end;
-      cause = cause_told request status call laws end;
-      complete = complete_ends request status call laws end;
+      exact = exact_ends request status call end;
+      cause = cause_told request status call end;
+      complete = complete_ends request status call end;
       exceeded = λ is. exceeded_ends request status call end (subst IsExceededStatus (sym is) tt);
-      compiled = λ s l p asked text. compiled_ends request status call laws end s l p asked text;
+      compiled = λ s l p asked text. compiled_ends request status call end s l p asked text;
       replayed = λ s t r asked replay. (
-        λ is. replayed_ends reports request status call end s t r asked replay (subst BlamesReport (sym is) tt),
-        λ is. replayed_ends reports request status call end s t r asked replay (subst BlamesReport (sym is) tt),
+        λ is. replayed_ends request status call end s t r asked replay (subst BlamesReport (sym is) tt),
+        λ is. replayed_ends request status call end s t r asked replay (subst BlamesReport (sym is) tt),
       );
       too_long = λ is. too_long_ends request status call end (subst IsTooLong (sym is) tt);
       read_fault = λ is. read_fault_ends request status call end (subst IsReadFault (sym is) tt);

@@ -1,25 +1,22 @@
 -- The report of a replay is a report, and it is true.
-use Rattle.std.proofs.Common.{◌≡◌, ◌≤◌, ◌<◌, ◌^◌, ◌+◌, ◌*◌, ℕ, zero, suc, Bool, true, false, ◌&&◌, ◌||◌, List, [], ◌∷◌}
-use Rattle.std.proofs.Common.{length, Option, Some, None, replicate}
-use Rattle.std.proofs.Common.{IfSome, IsSomeAnd, refl, sym, ap, subst, ◌∙◌, inl, inr, arith}
+use Rattle.std.proofs.Common.{◌≡◌, ◌≤◌, ◌<◌, ◌^◌, ◌+◌, ℕ, zero, suc, Bool, true, false, ◌&&◌, ◌||◌, List, [], ◌∷◌}
+use Rattle.std.proofs.Common.{length, Option, Some, None}
+use Rattle.std.proofs.Common.{IsSomeAnd, refl, sym, ap, subst, ◌∙◌, inl, inr, arith}
 use Rattle.std.specs.Prelude.{IsTrue, is_some, slice_index_or}
 use Rattle.std.specs.List.{AllByRecursion as Each}
 use Rattle.std.proofs.lemmas.Bool.{cases_Bool, cases_lt, true≢false}
 use Rattle.std.proofs.lemmas.List.{length-append}
 use Rattle.packet_fields.specs.declared.packet.Packet.{Packet}
-use Rattle.state_store.specs.declared.object.ObjectDecl.{ObjectDecl}
 use Rattle.state_store.specs.Kept.{IsKept}
 use Rattle.state_store.specs.Store.{start_store}
 use Rattle.element_lang.specs.Accepted.{IsSource}
-use Rattle.element_lang.specs.Rules.{is_good}
 use Rattle.element_lang.specs.Tree.{Tree}
 use Rattle.flat_ir.specs.Arrivals.{IsArrival}
 use Rattle.flat_ir.specs.Program.{Program, step_at}
-use Rattle.flat_ir.specs.WellFormed.{IsWellFormed}
 use Rattle.flatten.specs.Flatten.{flat_of}
 use Rattle.split_model.specs.declared.split.Part.{Part}
 use Rattle.split_model.specs.Bounds.{HasFewStages, IsBounded}
-use Rattle.split_model.specs.Counts.{highest_below, stage_or_zero, writes}
+use Rattle.split_model.specs.Counts.{stage_or_zero, writes}
 use Rattle.split_model.specs.Greatest.{IsGreatestSplit, post_marks, pre_marks}
 use Rattle.split_model.specs.Shown.{is_shown, looks_at}
 use Rattle.split_model.specs.Split.{any_below, is_pre, part_at, post_stage, pre_stage, stage_after}
@@ -27,32 +24,40 @@ use Rattle.resource_limits.specs.declared.limits.Limits.{Limits}
 use Rattle.resource_limits.specs.Kept.{KeepsLimits}
 use Rattle.resource_limits.specs.Limits.{AreInRange}
 use Rattle.run_model.specs.declared.event.Event.{Event}
-use Rattle.run_model.specs.declared.run.Run.{Run}
 use Rattle.run_model.specs.Serialises.{Serialises}
 use Rattle.run_model.specs.Sizes.{most_events, most_packets}
-use Rattle.run_text.specs.Report.{report_of}
 use Rattle.replay_state.specs.Answers.{Answers, Setup}
 use Rattle.replay_state.specs.Drain.{drain_bound, drain_events, plan_events}
-use Rattle.replay_state.specs.Program.{Manner, manner_of, plain, setup_of}
+use Rattle.replay_state.specs.Program.{manner_of}
 use Rattle.replay_state.specs.Run.{job_run}
 use Rattle.replay_state.specs.State.{State}
 use Rattle.replay_state.specs.Step.{state_of}
-use Rattle.split_answers.specs.Whole.{IsSplit, whole_of}
-use Rattle.replay_contracts.specs.Given.{Given, IsReady, setup_for, whole_runs}
-use Rattle.replay_contracts.specs.Promise.{Promises}
-use Rattle.replay_course.specs.Going.{IsPrepared, most_commands}
+use Rattle.split_answers.specs.Whole.{IsSplit}
+use Rattle.replay_contracts.specs.Given.{IsReady, setup_for, whole_runs}
+use Rattle.replay_course.specs.Going.{IsPrepared}
 use Rattle.report_text.specs.Form.{InForm, are_declared}
 use Rattle.report_text.specs.Lines.{IsReport}
 use Rattle.run_audit.specs.Counts.{CountsAgree}
 use Rattle.run_audit.specs.Source.{source_of}
-use Rattle.run_audit.specs.Told.{IsTrueReport}
+use Rattle.element_interp.proofs.Laws.{stores_are_kept-start}
+use Rattle.flatten.proofs.Laws.{flattened_is_well_formed}
+use Rattle.replay_contracts.proofs.Laws.{a_run_keeps_its_promises}
+use Rattle.replay_course.proofs.Laws.{few_events_are_left-bound, few_events_are_left-commands}
+use Rattle.replay_reports.proofs.Laws.{replayed_runs_are_in_form}
+use Rattle.replay_state.proofs.Laws.{drain_ends-bound}
+use Rattle.report_text.proofs.Laws.{printed_runs_are_read}
+use Rattle.run_audit.proofs.Laws.{true_reports_serialise-true_report}
+use Rattle.run_model.proofs.Laws.{meanings_that_agree-serialises}
 use Rattle.gallium_cli.specs.Answers.{IsAuditInput, IsReplayOf, MayReplay, events_of, given}
 use Rattle.gallium_cli.specs.Promises.{IsReplayReport}
 use Rattle.gallium_cli.specs.Roles.{IsSpelled, true_report}
 use Rattle.gallium_cli.proofs.Bounds.{bounded_program}
-use Rattle.gallium_cli.proofs.Reported.{CarriesOver, KeepsStores, MeansTheSame, split_is_source}
+use Rattle.gallium_cli.proofs.Reported.{split_is_source}
 use Rattle.gallium_cli.proofs.Runnable.{few_writes, no_writes, served_part}
+use Rattle.gallium_cli.proofs.Told.{meet, some_then}
 use Rattle.gallium_cli.proofs.Untrue.{IsSameInput}
+use Rattle.lemmas.proofs.Lists.{replicate_false}
+use Rattle.partition.proofs.Chosen.{post_low, pre_low}
 
 -- ## Splits
 
@@ -101,29 +106,6 @@ split_is m split writeback bounded kept (inr (choice, rows)) = record {
 
 -- ## Stages
 
--- within limits no stage is above the one that they allow
-pre_low : (split : List Part) (n i : ℕ) → i < n → stage_or_zero (pre_stage split i) ≤ highest_below split n
-pre_low split zero i low = absurd (omega arith)
-pre_low split (suc n) i low = elim (cases_lt i n) [
-  | inl less ↦ let before = pre_low split n i less in omega arith
-  | inr not_less ↦ (
-      let last : i ≡ n = omega arith in
-      let same = ap (λ j. stage_or_zero (pre_stage split j)) last in
-      omega arith
-      )
-]
-
-post_low : (split : List Part) (n i : ℕ) → i < n → stage_or_zero (post_stage split i) ≤ highest_below split n
-post_low split zero i low = absurd (omega arith)
-post_low split (suc n) i low = elim (cases_lt i n) [
-  | inl less ↦ let before = post_low split n i less in omega arith
-  | inr not_less ↦ (
-      let last : i ≡ n = omega arith in
-      let same = ap (λ j. stage_or_zero (post_stage split j)) last in
-      omega arith
-      )
-]
-
 -- behind the last part nothing is computed in either pass
 past_parts : (split : List Part) (i : ℕ) → length split ≤ i → part_at split i ≡ served_part
 past_parts [] i past = refl
@@ -170,17 +152,12 @@ post_marked [] i = refl
 post_marked (part ∷ split) zero = refl
 post_marked (part ∷ split) (suc i) = post_marked split i
 
-all_false : (n i : ℕ) → slice_index_or (replicate n false) i false ≡ false
-all_false zero i = refl
-all_false (suc n) zero = refl
-all_false (suc n) (suc i) = all_false n i
-
 few_served : (f : Program) (split : List Part) → IsGreatestSplit f 0 false split → HasFewStages split
 few_served f split least = record {
   pre = λ i stage is. let low = least.pre.closed.below i (marked split i (ap is_some is)) in absurd (omega arith);
   post = λ i stage is.
       let none : slice_index_or (post_marks split) i false ≡ false =
-      ap (λ (marks : List Bool). slice_index_or marks i false) least.post ∙ all_false (length f.code) i in
+      ap (λ (marks : List Bool). slice_index_or marks i false) least.post ∙ replicate_false (length f.code) i in
       absurd (true≢false (sym (ap is_some is) ∙ sym (post_marked split i) ∙ none));
 }
 
@@ -203,29 +180,6 @@ all_events setup a events true bound few =
     omega (arith, length-append events (drain_events setup a st))
 all_events setup a events false bound few = omega arith
 
--- ## The laws that this rests on
-
-pub record Laws : Type 0 where
-  pub keeps : KeepsStores
-  pub same : MeansTheSame
-  pub over : CarriesOver
-  pub formed : (m : Tree) → IsTrue (is_good m) → IsWellFormed (flat_of m)
-  pub promises : (x : Given) (events : List Event) → IsReady x
-      → Promises x events (job_run (setup_for x) (whole_runs x) events)
-  pub bound : (setup : Setup) (a : Answers) (st : State) → length (drain_events setup a st) ≤ drain_bound setup
-  pub commands : (x : Given) → IsSplit x.program x.split x.writeback → length x.packets ≤ most_packets
-      → length x.packets * most_commands x < 2 ^ 32
-  pub few : (x : Given) → IsPrepared x → length x.packets ≤ most_packets → drain_bound (setup_for x) < 2 ^ 30
-  pub in_form : (f : Program) (split : List Part) (writeback : ℕ) (packets : List Packet) (manner : Manner)
-      (events : List Event)
-      → IsSplit f split writeback → Each IsArrival packets → length packets < 2 ^ 32 → length events < 2 ^ 32
-      → (let s = whole_of f split writeback in
-      InForm f.objects (job_run (setup_of s packets manner) (plain s packets) events))
-  pub read : (declared : List ObjectDecl) (run : Run) → IsTrue (are_declared declared) → InForm declared run
-      → IsReport declared (report_of declared run) run
-  pub true_report : (m : Tree) (packets : List Packet) (run : Run)
-      → CountsAgree packets run → Serialises (source_of m packets) run → IsTrueReport m packets run
-
 -- ## Reports
 
 few_in_all : (n events bound : ℕ) → n ≤ events + bound → events ≤ most_events → bound < 2 ^ 30 → n < 2 ^ 32
@@ -237,10 +191,10 @@ low_count n few = omega arith
 count_within : (n : ℕ) → n ≤ most_packets → n ≤ 2 ^ 32
 count_within n few = omega arith
 
-pub replay_is_true : Laws → (text : List ℕ) (m : Tree) (packets : List Packet) (report : List ℕ) → IsSource text m
+pub replay_is_true : (text : List ℕ) (m : Tree) (packets : List Packet) (report : List ℕ) → IsSource text m
     → IsTrue (are_declared m.objects) → Each IsArrival packets → length packets ≤ most_packets
     → IsReplayOf m packets report → IsSpelled (true_report m packets) report
-replay_is_true laws text m packets report is declared arrivals few replay =
+replay_is_true text m packets report is declared arrivals few replay =
     let f = flat_of m in
     let split = replay.split in
     let writeback = replay.writeback in
@@ -249,66 +203,42 @@ replay_is_true laws text m packets report is declared arrivals few replay =
     let events = events_of x plan in
     let run = job_run (setup_for x) (whole_runs x) events in
     let good = is.spelling.good in
-    let bounded = bounded_program text m f is refl (laws.formed m good) replay.short in
-    let one = split_is m split writeback bounded (laws.keeps.start m good) replay.by in
+    let bounded = bounded_program text m f is refl (flattened_is_well_formed m good) replay.short in
+    let one = split_is m split writeback bounded (stores_are_kept-start m good) replay.by in
     let ready : IsReady x = record { split = one; arrivals = arrivals; few = count_within (length packets) few } in
     let prepared : IsPrepared x =
     record {
       ready = ready;
       stages = few_stages f split writeback one.legal.count replay.by;
       manner = refl;
-      few = laws.commands x one few;
+      few = few_events_are_left-commands x one few;
     } in
     let count =
     few_in_all (length events) (length plan.events) (drain_bound (setup_for x))
     (all_events (setup_for x) (whole_runs x) plan.events plan.drain (drain_bound (setup_for x))
-    (laws.bound (setup_for x) (whole_runs x)))
-    replay.few (laws.few x prepared few) in
-    let alike = split_is_source m split writeback (length packets) packets plan.fine laws.keeps laws.same good arrivals in
+    (drain_ends-bound (setup_for x) (whole_runs x)))
+    replay.few (few_events_are_left-bound x prepared few) in
+    let alike = split_is_source m split writeback (length packets) packets plan.fine good arrivals in
     let serial : Serialises (source_of m packets) run =
-    laws.over.serialises _ (source_of m packets) run alike (laws.promises x events ready).serialises in
+    meanings_that_agree-serialises _ (source_of m packets) run alike (a_run_keeps_its_promises x events ready).serialises in
     let counts : CountsAgree packets run =
     record { total = refl; admitted = serial.admitted; decided = refl; released = refl } in
     let form : InForm m.objects run =
-    laws.in_form f split writeback packets (manner_of plan.fine) events one arrivals (low_count (length packets) few) count in (
+    replayed_runs_are_in_form f split writeback packets (manner_of plan.fine) events one arrivals (low_count (length packets) few) count in (
       run,
-      subst (λ (t : List ℕ). IsReport m.objects t run) (sym replay.report) (laws.read m.objects run declared form),
-      laws.true_report m packets run counts serial,
+      subst (λ (t : List ℕ). IsReport m.objects t run) (sym replay.report) (printed_runs_are_read m.objects run declared form),
+      true_reports_serialise-true_report m packets run counts serial,
     )
 
 -- ## Told contents
 
--- what is promised of it
-abbrev pub AreTrueReports : Type 0
-AreTrueReports =
-    (text : List ℕ) (m : Tree) (packets : List Packet) (report : List ℕ) → IsSource text m
-    → IsTrue (are_declared m.objects) → Each IsArrival packets → length packets ≤ most_packets
-    → IsReplayOf m packets report → IsSpelled (true_report m packets) report
-
-pub not_both : (told : Option (List ℕ)) (P Q : List ℕ → Type 0) → ((text : List ℕ) → P text → Q text → ⊥)
-    → IsSomeAnd told P → IfSome told Q → ⊥
-not_both None P Q never one two = one
-not_both (Some text) P Q never one two = never text one two
-
-pub some_follows : (told : Option (List ℕ)) (P Q : List ℕ → Type 0) → ((text : List ℕ) → P text → Q text)
-    → IsSomeAnd told P → IsSomeAnd told Q
-some_follows None P Q follows h = h
-some_follows (Some text) P Q follows h = follows text h
-
-some_source : (told : Option (List ℕ)) (m : Tree) → IsSomeAnd told (λ text. IsSource text m)
-    → (text : List ℕ) × IsSource text m
-some_source None m h = absurd h
-some_source (Some text) m h = (text, h)
-
 -- the report of a replay, of the middlebox and the packets that a call found
-pub replay_told : AreTrueReports → (told : List ℕ → Option (List ℕ)) (s t r : List ℕ) (m : Tree) (packets : List Packet)
+pub replay_told : (told : List ℕ → Option (List ℕ)) (s t r : List ℕ) (m : Tree) (packets : List Packet)
     → IsAuditInput told s t m packets → (replay : IsReplayReport told s t r)
     → IsSameInput replay.m m replay.packets packets → IsSomeAnd (told r) (IsSpelled (true_report m packets))
-replay_told law told s t r m packets found replay same =
-    let of = some_source (told s) replay.m replay.source in
-    let is = subst (λ (n : Tree). IsSource of.0 n) same.middlebox of.1 in
-    some_follows (told r) (IsReplayOf replay.m replay.packets) (IsSpelled (true_report m packets))
-    (λ report told_so. law of.0 m packets report is found.declared found.arrivals found.few
+replay_told told s t r m packets found replay same =
+    let (source, is, own) = meet _ _ (told s) replay.source found.input.source in
+    some_then _ (IsSpelled (true_report m packets)) (told r) replay.replay
+    (λ report told_so. replay_is_true source m packets report own.1.source found.declared found.arrivals found.few
     (subst (λ (n : Tree). IsReplayOf n packets report) same.middlebox
     (subst (λ (ps : List Packet). IsReplayOf replay.m ps report) same.arrived told_so)))
-    replay.replay

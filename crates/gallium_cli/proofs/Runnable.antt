@@ -4,7 +4,7 @@ use Rattle.std.proofs.Common.{refl, sym, ap, subst, ◌∙◌, inl, inr, arith, 
 use Rattle.std.specs.Prelude.{All, slice_get, if◌then◌else◌, IsTrue}
 use Rattle.std.proofs.lemmas.Bool.{cases_lt, eqb-true, true≢false}
 use Rattle.std.proofs.lemmas.List.{get_or-replicate, get_or_past, length-replicate}
-use Rattle.std.proofs.lemmas.List.Elements.{All-nil, All-cons, All-head, All-tail}
+use Rattle.std.proofs.lemmas.List.Elements.{All-head, All-tail}
 use Rattle.std.proofs.lemmas.Option.{slice_get_past}
 use Rattle.state_store.specs.declared.object.ObjectDecl.{ObjectDecl}
 use Rattle.state_store.specs.Kept.{IsKept}
@@ -30,13 +30,10 @@ use Rattle.resource_limits.specs.Counts.{first_numbers}
 use Rattle.resource_limits.specs.Kept.{KeepsLimits}
 use Rattle.resource_limits.specs.Limits.{AreInRange}
 use Rattle.gallium_cli.specs.Runnable.{IsRunnable}
+use Rattle.lemmas.proofs.Lists.{all_front}
+use Rattle.lemmas.proofs.Tests.{and_first}
 
 -- ## Few writes, within limits
-
-front_all : {X : Type 0} (P : X → Type 0) (xs ys : List X) → All P (xs ++ ys) → All P xs
-front_all P [] ys all = All-nil P
-front_all P (x ∷ xs) ys all =
-    All-cons P x xs (All-head P x (xs ++ ys) all) (front_all P xs ys (All-tail P x (xs ++ ys) all))
 
 back_all : {X : Type 0} (P : X → Type 0) (xs ys : List X) → All P (xs ++ ys) → All P ys
 back_all P [] ys all = all
@@ -47,18 +44,13 @@ each_number : (P : ℕ → Type 0) (number : ℕ → ℕ) (n o : ℕ) → All P 
 each_number P number zero o all low = absurd (omega arith)
 each_number P number (suc n) o all low =
     elim (cases_lt o n) [
-      | inl before ↦ each_number P number n o (front_all P (first_numbers n number) (number n ∷ []) all) before
+      | inl before ↦ each_number P number n o (all_front P (first_numbers n number) (number n ∷ []) all) before
       | inr last ↦ (
           let here = All-head P (number n) [] (back_all P (first_numbers n number) (number n ∷ []) all) in
           let same : n ≡ o = omega arith in
           subst (λ k. P (number k)) same here
           )
     ]
-
--- a program changes no object that isn't declared
-left : (a b : Bool) → (a && b) ≡ true → a ≡ true
-left true b h = refl
-left false b h = h
 
 unwritten : (f : Program) (o : ℕ) (work : Work) → length f.objects ≤ o → fits f work ≡ true → writes_to o work ≡ false
 unwritten f o (put object keys values) past fit = by_test (object == o) refl
@@ -71,8 +63,8 @@ unwritten f o (put object keys values) past fit = by_test (object == o) refl
     by_test true is =
         let same = eqb-true object o is in
         let none = ap (slice_get f.objects) same ∙ slice_get_past f.objects o past in
-        let can = left (can_put declared) (fits_keys declared (widths_of f keys))
-        (left (can_put declared && fits_keys declared (widths_of f keys)) (fits_values declared (widths_of f values)) fit) in
+        let can = and_first (can_put declared) (fits_keys declared (widths_of f keys))
+        (and_first (can_put declared && fits_keys declared (widths_of f keys)) (fits_values declared (widths_of f values)) fit) in
         absurd (true≢false (sym can ∙ ap can_put none))
 unwritten f o (del object keys) past fit = by_test (object == o) refl
   where
@@ -84,7 +76,7 @@ unwritten f o (del object keys) past fit = by_test (object == o) refl
     by_test true is =
         let same = eqb-true object o is in
         let none = ap (slice_get f.objects) same ∙ slice_get_past f.objects o past in
-        let can = left (can_del declared) (fits_keys declared (widths_of f keys)) fit in
+        let can = and_first (can_del declared) (fits_keys declared (widths_of f keys)) fit in
         absurd (true≢false (sym can ∙ ap can_del none))
 unwritten f o (const width number) past fit = refl
 unwritten f o (field name) past fit = refl

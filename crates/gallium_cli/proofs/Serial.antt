@@ -2,6 +2,7 @@
 use Rattle.std.proofs.Common.{ℕ, false, List, Option, Some, None, IfSome, refl}
 use Rattle.std.specs.Prelude.{IsSome}
 use Rattle.std.proofs.lemmas.Bool.{false≢true}
+use Rattle.std.proofs.lemmas.Option.{IfSome_then}
 use Rattle.element_lang.specs.Accepted.{IsSource}
 use Rattle.element_lang.specs.Tree.{Tree}
 use Rattle.split_model.specs.declared.split.Part.{Part}
@@ -10,16 +11,12 @@ use Rattle.gallium_cli.specs.Call.{Work}
 use Rattle.gallium_cli.specs.Causes.{IsDone}
 use Rattle.gallium_cli.specs.Promises.{IsReplay}
 use Rattle.gallium_cli.specs.Serial.{IsSerial}
-use Rattle.gallium_cli.specs.Words.{Request, Run, Compile, Replay, Lossy, Check, Audit, Chain, Gen, PcapIn, PcapOut}
+use Rattle.gallium_cli.specs.Words.{Request, Replay, Lossy, Gen}
 use Rattle.gallium_cli.specs.Words.{Splitting, ServerAlone, Within, Spelled}
-
-kept_some : {A : Type 0} {P Q : A → Type 0} (x : Option A) → ((a : A) → P a → Q a) → IfSome x P → IfSome x Q
-kept_some None f h = tt
-kept_some (Some a) f h = f a h
 
 program_source : (told : List ℕ → Option (List ℕ)) (s : List ℕ) (m : Tree) → IsProgram told s m
     → IfSome (told s) (λ text. IsSource text m)
-program_source told s m program = kept_some (told s) (λ text h. h.1.source) program.source
+program_source told s m program = IfSome_then (told s) program.source (λ text h. h.1.source)
 
 -- whatever split it goes by, the source is spelled
 split_program : (by : Splitting) (told : List ℕ → Option (List ℕ)) (s : List ℕ) (m : Tree) (split : List Part)
@@ -31,8 +28,6 @@ split_program (Spelled l p) told s m split writeback (allowed, plan, given, rows
 pub serial_done : (request : Option Request) (work : Work) → IsReplay request → IsSome work.port.told → IsDone request work
     → IsSerial request work
 serial_done None work replay tells done = replay
-serial_done (Some (Run s t)) work replay tells done = absurd (false≢true replay)
-serial_done (Some (Compile s l shrink)) work replay tells done = absurd (false≢true replay)
 serial_done (Some (Replay s t c by)) work replay tells
     (text, (m, split, writeback, packets, plan, replayed, is_split, traffic, (is, what)), taken, read, kept) =
     let serial = what.serial tells in
@@ -43,7 +38,7 @@ serial_done (Some (Replay s t c by)) work replay tells
       text = text;
       replayed = record {
         source = program_source work.files.told s m (split_program by work.files.told s m split writeback is_split);
-        trace = kept_some (work.files.told t) (λ spelled h. h.1) traffic.trace;
+        trace = IfSome_then (work.files.told t) traffic.trace (λ spelled h. h.1);
       };
       told = is;
       taken = taken;
@@ -60,16 +55,13 @@ serial_done (Some (Lossy s t c l)) work replay tells
       text = text;
       replayed = record {
         source = program_source work.files.told s m (split_program (Within l false) work.files.told s m split writeback is_split);
-        trace = kept_some (work.files.told t) (λ spelled h. h.1) traffic.trace_is;
+        trace = IfSome_then (work.files.told t) traffic.trace_is (λ spelled h. h.1);
       };
       told = (_, is);
       taken = taken;
       serialises = serial.serialises;
       drained = serial.drained;
     }
-serial_done (Some (Check s l p)) work replay tells done = absurd (false≢true replay)
-serial_done (Some (Audit s t r)) work replay tells done = absurd (false≢true replay)
-serial_done (Some (Chain w)) work replay tells done = absurd (false≢true replay)
 serial_done (Some (Gen seed count)) work replay tells (text, summary, taken, read, kept) =
     let serial = summary.replay.serial tells in
     record {
@@ -83,5 +75,4 @@ serial_done (Some (Gen seed count)) work replay tells (text, summary, taken, rea
       serialises = serial.serialises;
       drained = serial.drained;
     }
-serial_done (Some (PcapIn c port)) work replay tells done = absurd (false≢true replay)
-serial_done (Some (PcapOut t big nano)) work replay tells done = absurd (false≢true replay)
+serial_done (Some _) work replay tells done = absurd (false≢true replay)

@@ -21,3 +21,10 @@ at_gates IsBefore IsAt IsThere follows [] first = absurd first
 at_gates IsBefore IsAt IsThere follows (gate ∷ gates) (inl here) = inl (follows gate here)
 at_gates IsBefore IsAt IsThere follows (gate ∷ gates) (inr later) =
     inr (later.0, at_gates IsBefore IsAt IsThere follows gates later.1)
+
+-- what each gate at which a walk ends comes to
+pub first_at : {A : Type 0} (IsBefore IsAt : A → Type 0) (P : Type 0) → ((gate : A) → IsAt gate → P)
+    → (gates : List A) → IsFirst IsBefore IsAt gates → P
+first_at IsBefore IsAt P follows [] first = absurd first
+first_at IsBefore IsAt P follows (gate ∷ gates) (inl here) = follows gate here
+first_at IsBefore IsAt P follows (gate ∷ gates) (inr later) = first_at IsBefore IsAt P follows gates later.1

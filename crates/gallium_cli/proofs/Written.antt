@@ -39,8 +39,8 @@ use Rattle.traffic_generator.specs.Packets.{packets_of as made_packets}
 use Rattle.traffic_generator.specs.Summary.{summary_of}
 use Rattle.traffic_generator.specs.Translator.{translator_limits, translator_text}
 use Rattle.gallium_cli.specs.Words.{Splitting, ServerAlone, Within, Spelled, is_replay}
-use Rattle.gallium_cli.specs.Words.{Request, Run, Compile, Replay, Lossy, Check, Audit, Chain, Gen, PcapIn, PcapOut}
-use Rattle.gallium_cli.specs.Roles.{gates_of, split_gates, event_gates, names_of, split_reads}
+use Rattle.gallium_cli.specs.Words.{Request, Replay, Lossy, Chain}
+use Rattle.gallium_cli.specs.Roles.{Gate, gates_of, split_gates, event_gates, link_gates, split_reads}
 use Rattle.gallium_cli.specs.Answers.{IsAnswer, IsProgram, IsPlan, IsTraffic, IsChoice, IsNoChoice, IsGivenSplit}
 use Rattle.gallium_cli.specs.Answers.{IsSplitBy, IsReport, IsReplayed, given, heading_text, compiled_text, checked_text}
 use Rattle.gallium_cli.specs.Roles.{IsOnlySource}
@@ -48,70 +48,61 @@ use Rattle.gallium_cli.specs.Answers.{IsMadeSplit, IsSummary, made_plan}
 use Rattle.gallium_cli.specs.Broken.{IsBroken, IsBrokenOn, IsMadeBroken}
 use Rattle.gallium_cli.specs.Loads.{GoesOn, raised_by}
 use Rattle.gallium_cli.specs.Puts.{IsPut, IsNotPut}
-use Rattle.gallium_cli.specs.Causes.{IsFirstRefused, IsAllRead, IsNotWritten, IsSwitchKept, IsDone, HasCause}
-use Rattle.gallium_cli.specs.Causes.{ReadsAll, ReadsSome, reads_after}
-use Rattle.gallium_cli.proofs.Files.{first_before, passed_both, refused_behind, refused_of_more, split_passed, traffic_before}
-use Rattle.gallium_cli.proofs.Files.{traffic_passed}
-
-pub at_most : (n m : ℕ) → n ≡ m → n ≤ m
-at_most n m same = omega arith
+use Rattle.gallium_cli.specs.Causes.{IsFirstRefused, IsAllRead, IsSwitchKept, HasCause}
+use Rattle.gallium_cli.specs.Causes.{CountsFaults, HasEnded, ReadsAll, ReadsSome}
+use Rattle.gallium_cli.specs.Lines.{status_of}
+use Rattle.gallium_cli.proofs.Counted.{gate_counts, goes_further, goes_still}
+use Rattle.gallium_cli.proofs.Files.{first_before, refused_behind, refused_of_more, replay_passed, split_passed, told_before}
+use Rattle.lemmas.proofs.Numbers.{same_within}
 
 -- a file that was read once was read at most once
 pub all_some : (request : Request) (f f' : FilesState) → ReadsAll request f f' → ReadsSome request f f'
-all_some (Run s t) f f' read = at_most _ _ read
-all_some (Compile s l shrink) f f' read = at_most _ _ read
-all_some (Replay s t c by) f f' read = at_most _ _ read
-all_some (Lossy s t c l) f f' read = at_most _ _ read
-all_some (Check s l p) f f' read = at_most _ _ read
-all_some (Audit s t r) f f' read = at_most _ _ read
-all_some (Chain w) f f' (names, are, read) = (names, inr are, at_most _ _ read)
-all_some (Gen seed count) f f' read = at_most _ _ read
-all_some (PcapIn c port) f f' read = at_most _ _ read
-all_some (PcapOut t big nano) f f' read = at_most _ _ read
+all_some (Chain w) f f' (names, are, read) = (names, inr are, same_within _ _ read)
+all_some _ f f' read = same_within _ _ read
 
--- ## Causes
+-- ## How a request ends that came to no answer
 
 -- a switch that isn't called is kept
-pub switch_kept : (replays : Bool) (p : PortState) → IsSwitchKept replays p p
+switch_kept : (replays : Bool) (p : PortState) → IsSwitchKept replays p p
 switch_kept true p = refl
 switch_kept false p = refl
 
--- a request that isn't let through a gate is refused there
+-- it isn't let through a gate
 pub gate_cause : (refusal : Refusal) (request : Request) (f f' : FilesState) (p : PortState) (o : SinkState)
     → IsFirstRefused refusal (gates_of request) f f' → ReadsSome request f f'
     → HasCause refusal (Some request) (work_of f f' p p o o)
 gate_cause refusal request f f' p o first few =
     (inl (first, record { out = refl; port = refl }), few, switch_kept (is_replay request) p)
 
--- without memory nothing is written
-pub memory_cause : (refusal : Refusal) (request : Request) (f f' : FilesState) (p p' : PortState) (o : SinkState)
-    → refusal ≡ NoMemory → ReadsSome request f f' → IsSwitchKept (is_replay request) p p'
-    → HasCause refusal (Some request) (work_of f f' p p' o o)
-memory_cause NoMemory request f f' p p' o is few kept = (inr (inr refl), few, kept)
-memory_cause _ request f f' p p' o is few kept = cc
+pub gate_ended : (refusal : Refusal) (request : Request) (f f' : FilesState) (p : PortState) (o : SinkState)
+    → IsFirstRefused refusal (gates_of request) f f' → ReadsSome request f f' → GoesOn (status_of refusal) f f'
+    → HasCause refusal (Some request) (work_of f f' p p o o) × CountsFaults (status_of refusal) (work_of f f' p p o o)
+gate_ended refusal request f f' p o first few goes =
+    (gate_cause refusal request f f' p o first few, gate_counts refusal (gates_of request) f f f' p o first goes)
 
--- a switch that failed
-pub switch_cause : (refusal : Refusal) (request : Request) (f f' : FilesState) (p p' : PortState) (o : SinkState)
-    → refusal ≡ SwitchFault → is_replay request ≡ true → Rose p.faults p'.faults
-    → IsAllRead request (work_of f f' p p' o o) → IsBroken request f.told p p' → IsSwitchKept (is_replay request) p p'
-    → HasCause refusal (Some request) (work_of f f' p p' o o)
-switch_cause SwitchFault request f f' p p' o is replays rose all broken kept = (
-  inr (inl (record { replays = replays; rose = rose; all = all; broken = broken }, refl)),
-  all_some request f f' all.reads,
-  kept,
-)
-switch_cause _ request f f' p p' o is replays rose all broken kept = cc
-
--- a replay that came to no report
-pub replay_cause : (refusal : Refusal) (request : Request) (f f' : FilesState) (p p' : PortState) (o : SinkState)
+-- it is a replay that came to no report: no memory was found, or the switch failed
+pub replay_ended : (refusal : Refusal) (request : Request) (f f' : FilesState) (p p' : PortState) (o : SinkState)
     → ((refusal ≡ NoMemory) × (p'.faults ≡ p.faults)) ⊎ ((refusal ≡ SwitchFault) × Rose p.faults p'.faults)
     → is_replay request ≡ true → IsAllRead request (work_of f f' p p' o o)
     → (refusal ≡ SwitchFault → IsBroken request f.told p p') → IsSwitchKept (is_replay request) p p'
-    → HasCause refusal (Some request) (work_of f f' p p' o o)
-replay_cause refusal request f f' p p' o (inl memory) replays all broken kept =
-    memory_cause refusal request f f' p p' o memory.0 (all_some request f f' all.reads) kept
-replay_cause refusal request f f' p p' o (inr switch) replays all broken kept =
-    switch_cause refusal request f f' p p' o switch.0 replays switch.1 all (broken switch.0) kept
+    → GoesOn statuses.Done f f'
+    → HasCause refusal (Some request) (work_of f f' p p' o o) × CountsFaults (status_of refusal) (work_of f f' p p' o o)
+replay_ended refusal request f f' p p' o (inl (is, same)) replays all broken kept goes =
+    subst (λ (x : Refusal). HasCause x (Some request) (work_of f f' p p' o o)
+    × CountsFaults (status_of x) (work_of f f' p p' o o)) (sym is) (
+      (inr (inr refl), all_some request f f' all.reads, kept),
+      record { files = goes_still statuses.NoMemory f f' (refl, refl) goes; out = refl; switch = same },
+    )
+replay_ended refusal request f f' p p' o (inr (is, rose)) replays all broken kept goes =
+    subst (λ (x : Refusal). HasCause x (Some request) (work_of f f' p p' o o)
+    × CountsFaults (status_of x) (work_of f f' p p' o o)) (sym is) (
+      (
+        inr (inl (record { replays = replays; rose = rose; all = all; broken = broken is }, refl)),
+        all_some request f f' all.reads,
+        kept,
+      ),
+      record { files = goes_still statuses.SwitchFault f f' (refl, refl) goes; out = refl; switch = rose },
+    )
 
 -- what a switch that failed is left with, by the flat program of a middlebox
 pub broken_on : (m : Tree) (f : Program) (split : List Part) (writeback : ℕ) (packets : List Packet) (fine : Bool)
@@ -125,31 +116,28 @@ broken_on m f split writeback packets fine e p p' is fault broken =
     subst (λ (g : Program). HasBroken (at g) PortFault p p') is
     (subst (λ (end : ReplayError). HasBroken (at f) end p p') fault broken)
 
--- ## Answers
+-- ## How one ends whose answer is put on out
 
-not_written : (refusal : Refusal) (request : Request) (text : List ℕ) (f f' : FilesState) (p p' : PortState)
-    (o o' : SinkState) → IsAnswer text request f.told p p' → ReadsAll request f f'
-    → IsNotPut refusal text o o' → IsNotWritten refusal request (work_of f f' p p' o o')
-not_written WriteFault request text f f' p p' o o' answer read put = (put.0, read, text, answer, put.1, put.2)
-not_written NoMemory request text f f' p p' o o' answer read put = put
-not_written _ request text f f' p p' o o' answer read put = absurd put
-
--- an answer that was put on out is done
-pub put_answer : {A : Type 0} {E : Type 0} (result : Result A E) (request : Request) (text : List ℕ) (f f' : FilesState)
+pub put_ended : {A : Type 0} (result : Result A Refusal) (request : Request) (text : List ℕ) (f f' : FilesState)
     (p p' : PortState) (o o' : SinkState) → IsAnswer text request f.told p p' → ReadsAll request f f'
-    → IsSwitchKept (is_replay request) p p' → OnOk result (IsPut text o o')
-    → OnOk result (IsDone (Some request) (work_of f f' p p' o o'))
-put_answer (Ok x) request text f f' p p' o o' answer read kept put = (text, answer, put.0, read, kept)
-put_answer (Err e) request text f f' p p' o o' answer read kept put = tt
-
--- an answer that wasn't put on out is the cause of its refusal
-pub unput_answer : {A : Type 0} (result : Result A Refusal) (request : Request) (text : List ℕ) (f f' : FilesState)
-    (p p' : PortState) (o o' : SinkState) → IsAnswer text request f.told p p' → ReadsAll request f f'
-    → IsSwitchKept (is_replay request) p p' → IfErr result (λ refusal. IsNotPut refusal text o o')
-    → IfErr result (λ refusal. HasCause refusal (Some request) (work_of f f' p p' o o'))
-unput_answer (Ok x) request text f f' p p' o o' answer read kept put = tt
-unput_answer (Err refusal) request text f f' p p' o o' answer read kept put =
-    (inr (inr (not_written refusal request text f f' p p' o o' answer read put)), all_some request f f' read, kept)
+    → GoesOn statuses.Done f f' → IsSwitchKept (is_replay request) p p' → p'.faults ≡ p.faults
+    → OnOk result (IsPut text o o') → IfErr result (λ refusal. IsNotPut refusal text o o')
+    → HasEnded result (Some request) (work_of f f' p p' o o')
+put_ended (Ok x) request text f f' p p' o o' answer read goes kept same put unput =
+    ((text, answer, put.0, read, kept), record { files = goes; out = put.1; switch = same })
+put_ended (Err WriteFault) request text f f' p p' o o' answer read goes kept same put (rose, n, taken) = (
+  (inr (inr (rose, read, text, answer, n, taken)), all_some request f f' read, kept),
+  record { files = goes_still statuses.WriteFault f f' (refl, refl) goes; out = rose; switch = same },
+)
+put_ended (Err NoMemory) request text f f' p p' o o' answer read goes kept same put is = (
+  (inr (inr is), all_some request f f' read, kept),
+  record {
+    files = goes_still statuses.NoMemory f f' (refl, refl) goes;
+    out = ap (λ (s : SinkState). s.faults) is;
+    switch = same;
+  },
+)
+put_ended (Err _) request text f f' p p' o o' answer read goes kept same put unput = absurd unput
 
 -- ## Splits
 
@@ -176,11 +164,10 @@ pub given_split : (told : List ℕ → Option (List ℕ)) (s l p : List ℕ) (m 
 given_split told s l p m allowed q split found same given =
     (allowed, found, subst (λ (x : Program). IsGivenSplit told p x allowed split) same given, refl)
 
--- the line of a split of the flat program of a middlebox
-pub check_printed : (p q : Program) (split : List Part) (writeback : ℕ) (text sent : List ℕ) → p ≡ q
-    → text ≡ checked_text p split writeback → sent ≡ text → sent ≡ checked_text q split writeback
-check_printed p q split writeback text sent same printed put =
-    put ∙ printed ∙ ap (λ (x : Program). checked_text x split writeback) same
+-- what is printed of the flat program of a middlebox
+pub printed : (print : Program → List ℕ) (p q : Program) (text sent : List ℕ) → p ≡ q → text ≡ print p → sent ≡ text
+    → sent ≡ print q
+printed print p q text sent same told put = put ∙ told ∙ ap print same
 
 -- the parts of a line, one after the other, are the line of a split
 pub told_check : (f : Program) (split : List Part) (writeback : ℕ) (counts : Counts) (words sent head some all : List ℕ)
@@ -190,12 +177,6 @@ told_check f split writeback counts words sent head some all counted worded same
     two ∙ ap (λ x. x ++ line_end) one ∙ append_assoc head sent line_end
     ∙ ap (λ x. x ++ (sent ++ line_end)) headed
     ∙ ap (λ x. codes "ok " ++ (x ++ line_end)) (same ∙ worded ∙ ap counts_text counted)
-
--- the text that tells a split of the flat program of a middlebox
-pub split_printed : (p q : Program) (split : List Part) (writeback : ℕ) (text sent : List ℕ) → p ≡ q
-    → text ≡ compiled_text p split writeback → sent ≡ text → sent ≡ compiled_text q split writeback
-split_printed p q split writeback text sent same printed put =
-    put ∙ printed ∙ ap (λ (x : Program). compiled_text x split writeback) same
 
 -- the parts of a text, one after the other, are the text that tells a split
 pub told_split : (f : Program) (split : List Part) (writeback n : ℕ) (counts : Counts)
@@ -223,19 +204,26 @@ more_reads a b x y few = omega arith
 pub reads_in_all : (a b x y z : ℕ) → y ≡ raised_by a x → z ≡ raised_by b y → z ≡ raised_by (a + b) x
 reads_in_all a b x y z one two = omega arith
 
--- the files of a replay are those of its split, and two more
-replay_names : (s t c : List ℕ) (by : Splitting) (count : ℕ)
-    → reads_after (names_of (Replay s t c by)) count ≡ raised_by (split_reads s by + 2) count
-replay_names s t c ServerAlone count = refl
-replay_names s t c (Within l shrink) count = refl
-replay_names s t c (Spelled l p) count = refl
+-- a request that goes through a split and then through these gates, at which it reads two files
+pub record GoesBy (request : Request) (s : List ℕ) (by : Splitting) (more : List Gate) : Type 0 where
+  pub gates : gates_of request ≡ split_gates s by ++ more
+  pub all : (f h : FilesState) → h.reads ≡ raised_by (split_reads s by + 2) f.reads → ReadsAll request f h
+  pub some : (f h : FilesState) → h.reads ≤ raised_by (split_reads s by + 2) f.reads → ReadsSome request f h
 
--- all reads of a replay
-pub replay_reads : (s t c : List ℕ) (by : Splitting) (f g h : FilesState) → g.reads ≡ raised_by (split_reads s by) f.reads
-    → h.reads ≡ raised_by 2 g.reads → ReadsAll (Replay s t c by) f h
-replay_reads s t c by f g h one two =
-    subst (λ n. h.reads ≡ n) (sym (replay_names s t c by f.reads))
-    (reads_in_all (split_reads s by) 2 f.reads g.reads h.reads one two)
+pub replay_goes : (s t c : List ℕ) (by : Splitting) → GoesBy (Replay s t c by) s by (event_gates t c)
+replay_goes s t c ServerAlone = record { gates = refl; all = λ f h read. read; some = λ f h few. few }
+replay_goes s t c (Within l shrink) = record { gates = refl; all = λ f h read. read; some = λ f h few. few }
+replay_goes s t c (Spelled l p) = record { gates = refl; all = λ f h read. read; some = λ f h few. few }
+
+pub link_goes : (s t c l : List ℕ) → GoesBy (Lossy s t c l) s (Within l false) (link_gates t c)
+link_goes s t c l = record { gates = refl; all = λ f h read. read; some = λ f h few. few }
+
+-- all its files
+pub all_reads : (request : Request) (s : List ℕ) (by : Splitting) (more : List Gate) (f g h : FilesState)
+    → GoesBy request s by more → g.reads ≡ raised_by (split_reads s by) f.reads → h.reads ≡ raised_by 2 g.reads
+    → ReadsAll request f h
+all_reads request s by more f g h goes one two =
+    goes.all f h (reads_in_all (split_reads s by) 2 f.reads g.reads h.reads one two)
 
 -- a replay whose split, packets and plan are there has passed all gates
 pub replay_read : (s t c : List ℕ) (by : Splitting) (m : Tree) (split : List Part) (writeback : ℕ) (packets : List Packet)
@@ -243,34 +231,36 @@ pub replay_read : (s t c : List ℕ) (by : Splitting) (m : Tree) (split : List P
     → GoesOn statuses.Done f g → IsTraffic g.told t c packets plan → g.reads ≡ raised_by (split_reads s by) f.reads
     → h.reads ≡ raised_by 2 g.reads → IsAllRead (Replay s t c by) (work_of f h p p' o o)
 replay_read s t c by m split writeback packets plan f g h p p' o found goes traffic one two = record {
-  passed = passed_both (split_gates s by) (event_gates t c) f (split_passed by s f m split writeback found)
-      (traffic_passed f t c packets plan (traffic_before t c f g packets plan goes traffic));
-  reads = replay_reads s t c by f g h one two;
+  passed = replay_passed by s t c f.told m split writeback packets plan found
+      (told_before (λ told. IsTraffic told t c packets plan) f g goes traffic);
+  reads = all_reads (Replay s t c by) s by (event_gates t c) f g h (replay_goes s t c by) one two;
 }
 
--- what a refusal at the split comes to
-pub split_refused : (refusal : Refusal) (s t c : List ℕ) (by : Splitting) (f g : FilesState) (p : PortState) (o : SinkState)
+-- it isn't let through the split
+pub split_ended : (refusal : Refusal) (request : Request) (s : List ℕ) (by : Splitting) (more : List Gate)
+    (f g : FilesState) (p : PortState) (o : SinkState) → GoesBy request s by more
     → IsFirstRefused refusal (split_gates s by) f g → g.reads ≤ raised_by (split_reads s by) f.reads
-    → HasCause refusal (Some (Replay s t c by)) (work_of f g p p o o)
-split_refused refusal s t c by f g p o first few =
-    gate_cause refusal (Replay s t c by) f g p o
-    (refused_of_more refusal (split_gates s by) (event_gates t c) f g first)
-    (subst (λ n. g.reads ≤ n) (sym (replay_names s t c by f.reads))
-    (more_reads (split_reads s by) 2 f.reads g.reads few))
+    → GoesOn (status_of refusal) f g
+    → HasCause refusal (Some request) (work_of f g p p o o) × CountsFaults (status_of refusal) (work_of f g p p o o)
+split_ended refusal request s by more f g p o goes first few counts =
+    gate_ended refusal request f g p o
+    (subst (λ (gates : List Gate). IsFirstRefused refusal gates f g) (sym goes.gates)
+    (refused_of_more refusal (split_gates s by) more f g first))
+    (goes.some f g (more_reads (split_reads s by) 2 f.reads g.reads few)) counts
 
--- what a refusal at the trace or the schedule comes to, behind a split that is found
-pub traffic_refused : (refusal : Refusal) (s t c : List ℕ) (by : Splitting) (m : Tree) (split : List Part) (writeback : ℕ)
-    (f g h : FilesState) (p : PortState) (o : SinkState) → IsSplitBy by f.told s m split writeback
-    → GoesOn statuses.Done f g → g.reads ≡ raised_by (split_reads s by) f.reads
-    → IsFirstRefused refusal (event_gates t c) g h → h.reads ≤ raised_by 2 g.reads
-    → HasCause refusal (Some (Replay s t c by)) (work_of f h p p o o)
-traffic_refused refusal s t c by m split writeback f g h p o found goes one first two =
-    let before = first_before refusal (event_gates t c) f g h goes first in
-    let passed = split_passed by s f m split writeback found in
-    gate_cause refusal (Replay s t c by) f h p o
-    (refused_behind refusal (split_gates s by) (event_gates t c) f h passed before)
-    (subst (λ n. h.reads ≤ n) (sym (replay_names s t c by f.reads))
-    (reads_at_most (split_reads s by) 2 f.reads g.reads h.reads one two))
+-- or through the gates behind it
+pub more_ended : (refusal : Refusal) (request : Request) (s : List ℕ) (by : Splitting) (more : List Gate) (m : Tree)
+    (split : List Part) (writeback : ℕ) (f g h : FilesState) (p : PortState) (o : SinkState) → GoesBy request s by more
+    → IsSplitBy by f.told s m split writeback → GoesOn statuses.Done f g → g.reads ≡ raised_by (split_reads s by) f.reads
+    → IsFirstRefused refusal more g h → h.reads ≤ raised_by 2 g.reads → GoesOn (status_of refusal) g h
+    → HasCause refusal (Some request) (work_of f h p p o o) × CountsFaults (status_of refusal) (work_of f h p p o o)
+more_ended refusal request s by more m split writeback f g h p o goes found stays one first two counts =
+    gate_ended refusal request f h p o
+    (subst (λ (gates : List Gate). IsFirstRefused refusal gates f h) (sym goes.gates)
+    (refused_behind refusal (split_gates s by) more f h (split_passed by s f.told m split writeback found)
+    (first_before refusal more f g h stays first)))
+    (goes.some f h (reads_at_most (split_reads s by) 2 f.reads g.reads h.reads one two))
+    (goes_further (status_of refusal) f g h stays counts)
 
 -- the report of a replay that was put on out is an answer
 pub replay_answer : (s t c : List ℕ) (by : Splitting) (m : Tree) (split : List Part) (writeback : ℕ)
@@ -286,7 +276,7 @@ replay_answer s t c by m split writeback packets plan text sent f g p p' goes fo
   plan,
   report.0,
   found,
-  traffic_before t c f g packets plan goes traffic,
+  told_before (λ told. IsTraffic told t c packets plan) f g goes traffic,
   subst (λ x. IsReport x m (given m split writeback packets plan.fine) plan report.0 p p') (sym put) report.1,
 )
 
@@ -296,7 +286,7 @@ pub replay_broken : (s t c : List ℕ) (by : Splitting) (m : Tree) (split : List
     → IsSplitBy by f.told s m split writeback → IsTraffic g.told t c packets plan
     → IsBrokenOn (given m split writeback packets plan.fine) p p' → IsBroken (Replay s t c by) f.told p p'
 replay_broken s t c by m split writeback packets plan f g p p' goes found traffic broken =
-    (m, split, writeback, packets, plan, found, traffic_before t c f g packets plan goes traffic, broken)
+    (m, split, writeback, packets, plan, found, told_before (λ told. IsTraffic told t c packets plan) f g goes traffic, broken)
 
 -- ## Made work
 
@@ -358,20 +348,3 @@ pub summary_put : (text sent : List ℕ) (seed count : ℕ) (p p' : PortState) �
     → sent ≡ text → IsSummary sent seed count p p'
 summary_put text sent seed count p p' summary put =
     subst (λ (x : List ℕ). IsSummary x seed count p p') (sym put) summary
-
--- ## What the words ask for
-
--- how a request ends is how a call ends whose words ask for it
-pub asked_ok : {A : Type 0} {E : Type 0} (result : Result A E) (asked : Option Request) (form request : Request)
-    (f f' : FilesState) (p p' : PortState) (o o' : SinkState) → asked ≡ Some form → form ≡ request
-    → OnOk result (IsDone (Some request) (work_of f f' p p' o o')) → OnOk result (IsDone asked (work_of f f' p p' o o'))
-asked_ok result asked form request f f' p p' o o' is same done =
-    subst (λ (x : Option Request). OnOk result (IsDone x (work_of f f' p p' o o'))) (sym (is ∙ ap Some same)) done
-
-pub asked_err : {A : Type 0} (result : Result A Refusal) (asked : Option Request) (form request : Request)
-    (f f' : FilesState) (p p' : PortState) (o o' : SinkState) → asked ≡ Some form → form ≡ request
-    → IfErr result (λ refusal. HasCause refusal (Some request) (work_of f f' p p' o o'))
-    → IfErr result (λ refusal. HasCause refusal asked (work_of f f' p p' o o'))
-asked_err result asked form request f f' p p' o o' is same cause =
-    subst (λ (x : Option Request). IfErr result (λ refusal. HasCause refusal x (work_of f f' p p' o o')))
-    (sym (is ∙ ap Some same)) cause

@@ -1,6 +1,6 @@
 -- How a call ends: why each refusal comes, and what it leaves on out and err.
 use Rattle.std.specs.Prelude.{◌≡◌, ◌≤◌, ◌⊎◌, ℕ, Bool, true, false, List, [], ◌∷◌, length, take}
-use Rattle.std.specs.Prelude.{Option, Some, None, IfSome, is_some}
+use Rattle.std.specs.Prelude.{Option, Some, None, IfSome, is_some, Result, Ok, Err}
 use Rattle.std.specs.Io.KnownBytes.{append_known}
 use Rattle.gal_io.specs.Count.{Rose, IsCountedIf}
 use Rattle.gal_io.specs.Files.{FilesState}
@@ -60,27 +60,35 @@ IsRefusedAt refusal (ReportFile s t r) f f' =
 IsRefusedAt refusal (Composed w) f f' = IsChainRefused refusal w f f'
 
 -- a file is good, where it is told, and a split is chosen, or taken, or a report is, or a chain is composed
-abbrev pub IsPassed : Gate → FilesState → Type 0
-IsPassed (File name role) f = IfSome (f.told name) (IsGood role)
-IsPassed (Choice s l shrink) f =
+abbrev pub IsPassed : Gate → (List ℕ → Option (List ℕ)) → Type 0
+IsPassed (File name role) told = IfSome (told name) (IsGood role)
+IsPassed (Choice s l shrink) told =
     (m : Tree) × (allowed : Limits) × (split : List Part)
-    × IsPlan f.told s l m allowed × IsChosen (flat_of m) allowed shrink split
-IsPassed (SplitFile s l p) f =
+    × IsPlan told s l m allowed × IsChosen (flat_of m) allowed shrink split
+IsPassed (SplitFile s l p) told =
     (m : Tree) × (allowed : Limits)
-    × IsPlan f.told s l m allowed × IfSome (f.told p) (IsGood (legal_split (flat_of m) allowed))
-IsPassed (ReportFile s t r) f =
+    × IsPlan told s l m allowed × IfSome (told p) (IsGood (legal_split (flat_of m) allowed))
+IsPassed (ReportFile s t r) told =
     (m : Tree) × (packets : List Packet)
-    × IsAuditInput f.told s t m packets × IfSome (f.told r) (IsGood (true_report m packets))
-IsPassed (Composed w) f = IsChainPassed w f
+    × IsAuditInput told s t m packets × IfSome (told r) (IsGood (true_report m packets))
+IsPassed (Composed w) told = IsChainPassed w told
 
 -- each of these gates is passed
-abbrev pub AllPassed : List Gate → FilesState → Type 0
-AllPassed [] f = Unit {0}
-AllPassed (gate ∷ gates) f = IsPassed gate f × AllPassed gates f
+abbrev pub AllPassed : List Gate → (List ℕ → Option (List ℕ)) → Type 0
+AllPassed [] told = Unit {0}
+AllPassed (gate ∷ gates) told = IsPassed gate told × AllPassed gates told
 
 -- the gates before one are passed, and that one isn't
 abbrev pub IsFirstRefused : Refusal → List Gate → FilesState → FilesState → Type 0
-IsFirstRefused refusal gates f f' = IsFirst (λ gate. IsPassed gate f) (λ gate. IsRefusedAt refusal gate f f') gates
+IsFirstRefused refusal gates f f' =
+    IsFirst (λ gate. IsPassed gate f.told) (λ gate. IsRefusedAt refusal gate f f') gates
+
+-- what the reads of this many files, which go through these gates, left: no fault, where the result is there; or else the
+-- first gate that isn't passed, and its fault, if it is for one
+abbrev pub HasRead : {A : Type 0} → Result A Refusal → List Gate → ℕ → FilesState → FilesState → Type 0
+HasRead (Ok x) gates count f f' = GoesOn statuses.Done f f' × (f'.reads ≡ raised_by count f.reads)
+HasRead (Err refusal) gates count f f' =
+    IsFirstRefused refusal gates f f' × GoesOn (status_of refusal) f f' × (f'.reads ≤ raised_by count f.reads)
 
 -- ## How a request ends
 
@@ -108,7 +116,7 @@ IsSwitchKept false port port_after = port_after ≡ port
 
 -- every gate of a request is passed, and there was one read for each of its files
 pub record IsAllRead (request : Request) (work : Work) : Type 0 where
-  pub passed : AllPassed (gates_of request) work.files
+  pub passed : AllPassed (gates_of request) work.files.told
   pub reads : ReadsAll request work.files work.files_after
 
 -- the answer to a request was taken whole by out, and there was one read for each of its files
@@ -174,6 +182,11 @@ pub record CountsFaults (status : Status) (work : Work) : Type 0 where
   pub files : GoesOn status work.files work.files_after
   pub out : IsCountedIf (is_write_fault status) work.out.faults work.out_after.faults
   pub switch : IsCountedIf (is_switch_fault status) work.port.faults work.port_after.faults
+
+-- how a request ends whose work came to this result, and what it counts
+abbrev pub HasEnded : {A : Type 0} → Result A Refusal → Option Request → Work → Type 0
+HasEnded (Ok x) request work = IsDone request work × CountsFaults statuses.Done work
+HasEnded (Err refusal) request work = HasCause refusal request work × CountsFaults (status_of refusal) work
 
 -- the status that is answered where the line of a refusal ends so
 abbrev pub after_line : Refusal → SinkEnd → Status

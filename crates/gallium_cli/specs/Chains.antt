@@ -166,7 +166,7 @@ IsChainRefused refusal w f f' =
     ⊎ ((ms : List Tree) × AreClasses f.told chain.elements ms × IsUncomposed refusal chain ms))
 
 -- the chain of a file is composed
-abbrev pub IsChainPassed : List ℕ → FilesState → Type 0
-IsChainPassed w f =
+abbrev pub IsChainPassed : List ℕ → (List ℕ → Option (List ℕ)) → Type 0
+IsChainPassed w told =
     (chain : Chain) × (ms : List Tree)
-    × IsWired f.told w chain × AreClasses f.told chain.elements ms × composing.IsUnrefused (connected chain ms)
+    × IsWired told w chain × AreClasses told chain.elements ms × composing.IsUnrefused (connected chain ms)

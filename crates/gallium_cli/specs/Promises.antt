@@ -13,16 +13,10 @@ use Rattle.resource_limits.specs.declared.exceeding.Over.{Over}
 use Rattle.partition.specs.Choice as choice
 use Rattle.element_chain.specs.declared.chain.Chain.{Chain as ChainTold}
 use Rattle.element_chain.specs.declared.chain.Element.{Element}
-use Rattle.chain_text.specs.Reads as reads
 use Rattle.chain_text.specs.Reads.{IsChainText}
-use Rattle.chain_text.specs.declared.error.ChainTextError.TheVariants as chains
 use Rattle.chain_compose.specs.Refusals as composing
 use Rattle.chain_compose.specs.declared.error.ComposeError.{ComposeError}
 use Rattle.chain_compose.specs.declared.error.ComposeError.TheVariants as composed
-use Rattle.element_text.specs.Refused.{IsRefused}
-use Rattle.element_text.specs.declared.error.TextError.TheVariants as errors
-use Rattle.pcap_trace.specs.Refused as pcap
-use Rattle.pcap_trace.specs.declared.refusal.PcapError.TheVariants as pcaps
 use Rattle.gallium_cli.specs.declared.status.Status.{Status}
 use Rattle.gallium_cli.specs.declared.status.Status.TheVariants.{Done, Usage, Source, Limits as BadLimits, Exceeded, Split}
 use Rattle.gallium_cli.specs.declared.status.Status.TheVariants.{Trace, Schedule, TooLong, ReadFault, WriteFault}
@@ -37,9 +31,9 @@ use Rattle.gallium_cli.specs.Roles.{Role, source, program, limits, legal_split, 
 use Rattle.gallium_cli.specs.Roles.{capture, link_schedule}
 use Rattle.gallium_cli.specs.Roles.{Gate, File, Choice, SplitFile, ReportFile, Composed, IsFirst, gates_of, names_of}
 use Rattle.gallium_cli.specs.Roles.{size_of, IsGood, IsBad, IsShort, AreLimits}
-use Rattle.gallium_cli.specs.Loads.{IsLongProgram, AreBadLimits, IsBadTrace, IsBadSchedule, IsBadLinkSchedule}
-use Rattle.gallium_cli.specs.Splits.{SpellsLegal, IsBadSplit, excess_of}
-use Rattle.gallium_cli.specs.Reports.{TellsRun, IsUntrue}
+use Rattle.gallium_cli.specs.Loads.{IsCauseOf}
+use Rattle.gallium_cli.specs.Splits.{SpellsLegal, excess_of}
+use Rattle.gallium_cli.specs.Reports.{TellsRun}
 use Rattle.gallium_cli.specs.Chains.{AreNames, class_files, file_of, connected, uncomposed_of}
 use Rattle.gallium_cli.specs.Answers.{IsCompiled, IsReplayOf}
 use Rattle.run_text.specs.Trace.{trace_of}
@@ -215,25 +209,9 @@ IsExact None result call = Unit {0}
 IsExact (Some request) result call =
     (status : Status) → IsFirstShut call.work.files.told (gates_of request) status → IsUnlessEarlyFault status result
 
--- why a text of this role is refused for what it holds
+-- why a text of this role is refused for what it holds, within its size
 abbrev pub IsCause : Refusal → Role → List ℕ → Type 0
-IsCause (refusals.Source fault) source text = (fault ≢ errors.NoMemory) × IsBad source text × IsRefused text fault
-IsCause (refusals.Source fault) program text = (fault ≢ errors.NoMemory) × IsBad source text × IsRefused text fault
-IsCause refusals.LongProgram program text = IsLongProgram text
-IsCause (refusals.Limits fault) limits text = AreBadLimits fault text
-IsCause (refusals.Split fault) (legal_split f allowed) text = IsBadSplit (refusals.Split fault) f allowed text
-IsCause (refusals.Exceeded excess) (legal_split f allowed) text = IsBadSplit (refusals.Exceeded excess) f allowed text
-IsCause (refusals.Trace fault) trace text = IsBadTrace fault text
-IsCause (refusals.Schedule fault) schedule text = IsBadSchedule fault text
-IsCause (refusals.Schedule fault) link_schedule text = IsBadLinkSchedule fault text
-IsCause (refusals.Pcap fault) capture text = (fault ≢ pcaps.NoMemory) × IsBad capture text × pcap.IsRefused text fault
-IsCause (refusals.Report number) (true_report m packets) text =
-    IsBad (true_report m packets) text × IsUntrue (refusals.Report number) m packets text
-IsCause (refusals.Audit untruth) (true_report m packets) text =
-    IsBad (true_report m packets) text × IsUntrue (refusals.Audit untruth) m packets text
-IsCause (refusals.Chain fault) wiring text =
-    (fault ≢ chains.NoMemory) × IsBad wiring text × reads.IsRefused text fault
-IsCause _ role text = ⊥
+IsCause cause role text = (length text ≤ size_of role) × IsCauseOf cause role text
 
 -- why the text of this file is refused as the source of a class
 abbrev pub IsClassCause : Refusal → List ℕ → List ℕ → Type 0

@@ -14,7 +14,6 @@ use Rattle.run_audit.specs.declared.error.AuditError.TheVariants as audits
 use Rattle.gallium_cli.specs.declared.refusal.Untruth.{Untruth}
 use Rattle.gallium_cli.specs.declared.refusal.Refusal.{Refusal}
 use Rattle.gallium_cli.specs.declared.refusal.Refusal.TheVariants.{Report, Audit}
-use Rattle.gallium_cli.specs.Roles.{true_report, IsBad}
 
 -- the object that is to blame, by its number
 abbrev pub blamed_object : AuditError → Option ℕ
@@ -37,13 +36,3 @@ IsUntrue (Audit untruth) m packets text =
     (run : RunTold) × (error : AuditError) × reports.IsReport m.objects text run × (error ≢ audits.NoMemory)
     × audit.IsRefused m packets run error × (untruth ≡ untruth_of m.objects error)
 IsUntrue _ m packets text = ⊥
-
--- so it is for this cause, and for no other
-pub record IsOnlyUntrue (refusal : Refusal) (m : Tree) (packets : List Packet) (text : List ℕ) : Type 0 where
-  pub cause : IsUntrue refusal m packets text
-  pub only : (other : Refusal) → IsUntrue other m packets text → other ≡ refusal
-
--- it is a bad report, for this cause
-abbrev pub IsBadReport : Refusal → Tree → List Packet → List ℕ → Type 0
-IsBadReport refusal m packets text =
-    IsBad (true_report m packets) text × IsOnlyUntrue refusal m packets text

@@ -47,14 +47,7 @@ pub data Role : Type 0 where
 abbrev pub size_of : Role → ℕ
 size_of source = 262144
 size_of program = 262144
-size_of limits = 67108864
-size_of (legal_split f allowed) = 67108864
-size_of (true_report m packets) = 67108864
-size_of wiring = 67108864
-size_of trace = 67108864
-size_of schedule = 67108864
-size_of link_schedule = 67108864
-size_of capture = 67108864
+size_of _ = 67108864
 
 -- the text is a source of this middlebox, and of no other
 pub record IsOnlySource (text : List ℕ) (m : Tree) : Type 0 where

@@ -1,5 +1,5 @@
 -- Why the split that a file spells isn't taken.
-use Rattle.std.specs.Prelude.{◌≡◌, ◌≤◌, List, ℕ, length}
+use Rattle.std.specs.Prelude.{◌≡◌, List, ℕ, length}
 use Rattle.std.specs.Option.{option_map}
 use Rattle.state_store.specs.declared.object.ObjectDecl.{ObjectDecl}
 use Rattle.flat_ir.specs.Listing.{name_of}
@@ -15,7 +15,6 @@ use Rattle.gallium_cli.specs.declared.refusal.Excess.{Excess}
 use Rattle.gallium_cli.specs.declared.refusal.SplitFault.TheVariants.{Line, Rule}
 use Rattle.gallium_cli.specs.declared.refusal.Refusal.{Refusal}
 use Rattle.gallium_cli.specs.declared.refusal.Refusal.TheVariants.{Split, Exceeded}
-use Rattle.gallium_cli.specs.Roles.{size_of, legal_split}
 
 -- what is told of a limit that is exceeded
 abbrev pub excess_of : List ObjectDecl → Over → Excess
@@ -40,9 +39,3 @@ IsUnkept (Exceeded excess) f allowed text =
     (split : List Part) × (over : Over) × IsSplitText (length f.code) text split × IsExceeding f split allowed over
     × (excess ≡ excess_of f.objects over)
 IsUnkept _ f allowed text = ⊥
-
--- so it is for this cause, of a program that is short enough to be split; and it is within its size
-pub record IsBadSplit (refusal : Refusal) (f : Program) (allowed : Limits) (text : List ℕ) : Type 0 where
-  pub few : length f.code ≤ 4096
-  pub size : length text ≤ size_of (legal_split f allowed)
-  pub cause : IsUnkept refusal f allowed text

@@ -126,13 +126,7 @@ asked_by (forms.PcapOut trace big nano) = PcapOut trace.now big nano
 
 -- a replay, which is what calls the switch
 abbrev pub is_replay : Request → Bool
-is_replay (Run s t) = false
-is_replay (Compile s l shrink) = false
 is_replay (Replay s t c by) = true
 is_replay (Lossy s t c l) = true
-is_replay (Check s l p) = false
-is_replay (Audit s t r) = false
-is_replay (Chain w) = false
 is_replay (Gen seed count) = true
-is_replay (PcapIn c port) = false
-is_replay (PcapOut t big nano) = false
+is_replay _ = false

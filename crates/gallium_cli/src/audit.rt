@@ -1,5 +1,5 @@
 //! Whether a report is true.
-ghost use Rattle.std.specs.Prelude.{◌≡◌, ◌≤◌, ◌<◌, ◌^◌, Some, IsTrue, IfOk, IfErr, List, OnOk, length};
+ghost use Rattle.std.specs.Prelude.{◌≡◌, ◌<◌, ◌^◌, Some, IsTrue, IfOk, IfErr, List, OnOk, length};
 ghost use Rattle.packet_fields.specs.declared.packet.Packet.{Packet};
 ghost use Rattle.element_lang.specs.View.{tree};
 ghost use Rattle.element_lang.specs.Rules.{is_good};
@@ -16,25 +16,22 @@ ghost use Rattle.gallium_cli.specs.Roles.{gates_of, true_report};
 ghost use Rattle.gallium_cli.specs.Reports.{untruth_of};
 ghost use Rattle.gallium_cli.specs.Answers.{IsAuditInput, IsTrueFile, audited_text};
 ghost use Rattle.gallium_cli.specs.Loads.{GoesOn, IsFileRefused, IsUnread, raised_by};
-ghost use Rattle.gallium_cli.specs.Causes.{CountsFaults, HasCause, IsDone, IsFirstRefused};
+ghost use Rattle.gallium_cli.specs.Causes.{HasEnded, HasRead};
 
 use crate::exceeding::owner;
 use crate::input::load_input;
-use crate::load::{Format, load};
+use crate::load::{Format, MAX_TEXT, load};
 use crate::output::put;
 use crate::refusal::{Refusal, Untruth};
 use crate::status::Status;
 use element_lang::Middlebox;
 use gal_io::{Files, NoMemory, Sink, Text};
 use packet_fields::Packets;
-use report_text::{RunTextError, one_line_is_first_wrong, read_run};
-use run_audit::{AuditError, audit, reports_are_refused_for_one_cause};
+use report_text::{RunTextError, read_run};
+use run_audit::{AuditError, audit};
 use run_model::Run;
 use state_store::ObjectDecl;
 use std::alloc::Global;
-
-/// The most bytes of a report.
-const MAX_REPORT: usize = 67_108_864;
 
 /// A report of a serial run of this middlebox over these packets.
 #[derive(Drop)]
@@ -51,7 +48,6 @@ fn read(alloc: Global, m: &Middlebox, text: &[u8]) -> Result<Run, Refusal<'stati
     ensures err { (packets : List Packet) → IfErr result (λ refusal.
         IsUnread refusal (true_report (tree m.now) packets) text.now) }
 {
-    one_line_is_first_wrong();
     match read_run(alloc, &m.objects, text) {
         Ok(run) => Ok(run),
         Err(RunTextError::Line(number)) => Err(Refusal::Report(number)),
@@ -85,7 +81,6 @@ fn told(
     requires refused { IsRefused (tree m.now) packets.now run.now error }
     ensures { IsUnread result (true_report (tree m.now) packets.now) text.now }
 {
-    reports_are_refused_for_one_cause();
     match error {
         AuditError::NoMemory => Refusal::NoMemory,
         _ => match untruth(alloc, m.objects.as_slice(), error) {
@@ -129,7 +124,7 @@ impl<'f> Format for ReportFormat<'f> {
         × IsTrue (is_good (tree format.middlebox.now)) × (length format.middlebox.now.objects < 2 ^ 32) };
 
     fn size(&self) -> usize {
-        MAX_REPORT
+        MAX_TEXT
     }
 
     fn read(&self, alloc: Global, text: &[u8]) -> Result<Run, Refusal<'static>> {
@@ -184,13 +179,8 @@ fn load_audited<'a, F: Files>(
         IsAuditInput (F.seen files.old).told source.now trace.now (tree x.middlebox) x.packets) }
     ensures told { IfOk result (λ x.
         IsTrueFile (F.seen files.old).told report.now (tree x.middlebox) x.packets x.run) }
-    ensures err { IfErr result (λ refusal. IsFirstRefused refusal (gates_of (Audit source.now trace.now report.now))
-        (F.seen files.old) (F.seen files.new)) }
-    ensures stays { OnOk result (GoesOn Status.Done (F.seen files.old) (F.seen files.new)) }
-    ensures fault { IfErr result (λ refusal.
-        GoesOn (status_of refusal) (F.seen files.old) (F.seen files.new)) }
-    ensures read { OnOk result ((F.seen files.new).reads ≡ raised_by 3 (F.seen files.old).reads) }
-    ensures few_reads { (F.seen files.new).reads ≤ raised_by 3 (F.seen files.old).reads }
+    ensures reads { HasRead result (gates_of (Audit source.now trace.now report.now)) 3
+        (F.seen files.old) (F.seen files.new) }
 {
     let (middlebox, packets) = load_input(alloc, source, trace, files)?;
     let run = load_report(alloc, &middlebox, &packets, report, files)?;
@@ -221,15 +211,8 @@ pub fn perform_audit<'a, F: Files, O: Sink>(
     files: &mut F,
     out: &mut O,
 ) -> Result<(), Refusal<'a>>
-    ensures ok { (port : PortState) → OnOk result (IsDone (Some (Audit source.now trace.now report.now))
-        (work_of (F.seen files.old) (F.seen files.new) port port (O.seen out.old) (O.seen out.new))) }
-    ensures err { (port : PortState) → IfErr result (λ refusal.
-        HasCause refusal (Some (Audit source.now trace.now report.now))
-        (work_of (F.seen files.old) (F.seen files.new) port port (O.seen out.old) (O.seen out.new))) }
-    ensures no_fault { (port : PortState) → OnOk result (CountsFaults Status.Done
-        (work_of (F.seen files.old) (F.seen files.new) port port (O.seen out.old) (O.seen out.new))) }
-    ensures fault { (port : PortState) → IfErr result (λ refusal. CountsFaults (status_of refusal)
-        (work_of (F.seen files.old) (F.seen files.new) port port (O.seen out.old) (O.seen out.new))) }
+    ensures { (port : PortState) → HasEnded result (Some (Audit source.now trace.now report.now))
+        (work_of (F.seen files.old) (F.seen files.new) port port (O.seen out.old) (O.seen out.new)) }
 {
     let found = load_audited(alloc, source, trace, report, files)?;
     let Ok(text) = audited(alloc, &found.run) else {

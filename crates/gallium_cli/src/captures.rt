@@ -1,5 +1,5 @@
 //! Packets out of a capture, and into one.
-ghost use Rattle.std.specs.Prelude.{◌≡◌, ◌≤◌, Some, IfOk, IfErr, OnOk, length};
+ghost use Rattle.std.specs.Prelude.{◌≡◌, ◌≤◌, Some, IfOk, length};
 ghost use Rattle.pcap_trace.specs.Format.{pcap_bytes};
 ghost use Rattle.pcap_trace.specs.Packets.{packets_of, pcap_of};
 ghost use Rattle.pcap_trace.specs.Records.{most_records};
@@ -7,14 +7,12 @@ ghost use Rattle.run_text.specs.Printed.{trace_text};
 ghost use Rattle.switch_ir.specs.Port.{PortState};
 ghost use Rattle.gallium_cli.specs.Words.{PcapIn, PcapOut};
 ghost use Rattle.gallium_cli.specs.Call.{work_of};
-ghost use Rattle.gallium_cli.specs.Lines.{status_of};
-ghost use Rattle.gallium_cli.specs.Causes.{CountsFaults, HasCause, IsDone};
+ghost use Rattle.gallium_cli.specs.Causes.{HasEnded};
 
 use crate::formats::{CaptureFormat, TraceFormat};
 use crate::load::load;
 use crate::output::put;
 use crate::refusal::Refusal;
-use crate::status::Status;
 use gal_io::{Bytes, Files, NoMemory, Sink, Text};
 use packet_fields::Packets;
 use pcap_trace::{Pcap, packets_of, pcap_of, print_pcap};
@@ -46,14 +44,8 @@ pub fn perform_pcap_in<'a, F: Files, O: Sink>(
     files: &mut F,
     out: &mut O,
 ) -> Result<(), Refusal<'a>>
-    ensures ok { (switch : PortState) → OnOk result (IsDone (Some (PcapIn capture.now port))
-        (work_of (F.seen files.old) (F.seen files.new) switch switch (O.seen out.old) (O.seen out.new))) }
-    ensures err { (switch : PortState) → IfErr result (λ refusal. HasCause refusal (Some (PcapIn capture.now port))
-        (work_of (F.seen files.old) (F.seen files.new) switch switch (O.seen out.old) (O.seen out.new))) }
-    ensures no_fault { (switch : PortState) → OnOk result (CountsFaults Status.Done
-        (work_of (F.seen files.old) (F.seen files.new) switch switch (O.seen out.old) (O.seen out.new))) }
-    ensures fault { (switch : PortState) → IfErr result (λ refusal. CountsFaults (status_of refusal)
-        (work_of (F.seen files.old) (F.seen files.new) switch switch (O.seen out.old) (O.seen out.new))) }
+    ensures { (switch : PortState) → HasEnded result (Some (PcapIn capture.now port))
+        (work_of (F.seen files.old) (F.seen files.new) switch switch (O.seen out.old) (O.seen out.new)) }
 {
     let p = load(alloc, files, &CaptureFormat, capture)?;
     let Ok(text) = trace_of(alloc, &p, port) else {
@@ -72,14 +64,8 @@ pub fn perform_pcap_out<'a, F: Files, O: Sink>(
     files: &mut F,
     out: &mut O,
 ) -> Result<(), Refusal<'a>>
-    ensures ok { (switch : PortState) → OnOk result (IsDone (Some (PcapOut trace.now big nano))
-        (work_of (F.seen files.old) (F.seen files.new) switch switch (O.seen out.old) (O.seen out.new))) }
-    ensures err { (switch : PortState) → IfErr result (λ refusal. HasCause refusal (Some (PcapOut trace.now big nano))
-        (work_of (F.seen files.old) (F.seen files.new) switch switch (O.seen out.old) (O.seen out.new))) }
-    ensures no_fault { (switch : PortState) → OnOk result (CountsFaults Status.Done
-        (work_of (F.seen files.old) (F.seen files.new) switch switch (O.seen out.old) (O.seen out.new))) }
-    ensures fault { (switch : PortState) → IfErr result (λ refusal. CountsFaults (status_of refusal)
-        (work_of (F.seen files.old) (F.seen files.new) switch switch (O.seen out.old) (O.seen out.new))) }
+    ensures { (switch : PortState) → HasEnded result (Some (PcapOut trace.now big nano))
+        (work_of (F.seen files.old) (F.seen files.new) switch switch (O.seen out.old) (O.seen out.new)) }
 {
     let packets = load(alloc, files, &TraceFormat, trace)?;
     let Ok(bytes) = capture_of(alloc, &packets, big, nano) else {

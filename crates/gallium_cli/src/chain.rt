@@ -18,10 +18,10 @@ ghost use Rattle.gallium_cli.specs.Loads.{GoesOn, IsUnread, raised_by};
 ghost use Rattle.gallium_cli.specs.Chains.{AreClasses, IsPlaceOf, MayReadNext, ReadsNext, class_files, class_refusal, file_of};
 ghost use Rattle.gallium_cli.specs.Chains.{IsClassRefused, IsFirstClassRefused, IsNextRefused, IsUncomposed, IsOneSource};
 ghost use Rattle.gallium_cli.specs.Chains.{connected, element_of};
-ghost use Rattle.gallium_cli.specs.Causes.{CountsFaults, HasCause, IsDone, reads_after};
+ghost use Rattle.gallium_cli.specs.Causes.{HasEnded, reads_after};
 
 use crate::formats::SourceFormat;
-use crate::load::{Format, load};
+use crate::load::{Format, MAX_TEXT, load};
 use crate::output::put;
 use crate::refusal::{Refusal, Uncomposed};
 use crate::status::Status;
@@ -32,9 +32,6 @@ use element_lang::Middlebox;
 use element_print::print;
 use gal_io::{Files, NoMemory, Sink, Text};
 use std::alloc::Global;
-
-/// The most bytes of the text of a chain.
-const MAX_CHAIN: usize = 67_108_864;
 
 /// The elements of a chain and the wires between them.
 pub struct ChainFormat;
@@ -64,7 +61,7 @@ impl Format for ChainFormat {
     ghost ready = { λ _. Unit {0} };
 
     fn size(&self) -> usize {
-        MAX_CHAIN
+        MAX_TEXT
     }
 
     fn read(&self, alloc: Global, text: &[u8]) -> Result<Chain, Refusal<'static>> {
@@ -266,14 +263,8 @@ pub fn perform_chain<'a, F: Files, O: Sink>(
     files: &mut F,
     out: &mut O,
 ) -> Result<(), Refusal<'a>>
-    ensures ok { (port : PortState) → OnOk result (IsDone (Some (ChainOf wiring.now))
-        (work_of (F.seen files.old) (F.seen files.new) port port (O.seen out.old) (O.seen out.new))) }
-    ensures err { (port : PortState) → IfErr result (λ refusal. HasCause refusal (Some (ChainOf wiring.now))
-        (work_of (F.seen files.old) (F.seen files.new) port port (O.seen out.old) (O.seen out.new))) }
-    ensures no_fault { (port : PortState) → OnOk result (CountsFaults Status.Done
-        (work_of (F.seen files.old) (F.seen files.new) port port (O.seen out.old) (O.seen out.new))) }
-    ensures fault { (port : PortState) → IfErr result (λ refusal. CountsFaults (status_of refusal)
-        (work_of (F.seen files.old) (F.seen files.new) port port (O.seen out.old) (O.seen out.new))) }
+    ensures { (port : PortState) → HasEnded result (Some (ChainOf wiring.now))
+        (work_of (F.seen files.old) (F.seen files.new) port port (O.seen out.old) (O.seen out.new)) }
 {
     let chain = load(alloc, files, &ChainFormat, wiring)?;
     let classes = match load_classes(alloc, chain.elements.as_slice(), files) {

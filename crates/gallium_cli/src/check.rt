@@ -1,18 +1,16 @@
 //! What a split takes that a file spells.
-ghost use Rattle.std.specs.Prelude.{◌≡◌, Some, IfOk, IfErr, OnOk};
+ghost use Rattle.std.specs.Prelude.{◌≡◌, Some, IfOk};
 ghost use Rattle.flat_ir.specs.Program.{program_of};
 ghost use Rattle.split_model.specs.Bounds.{IsBounded};
 ghost use Rattle.switch_ir.specs.Port.{PortState};
 ghost use Rattle.gallium_cli.specs.Words.{Check};
 ghost use Rattle.gallium_cli.specs.Call.{work_of};
-ghost use Rattle.gallium_cli.specs.Lines.{status_of};
 ghost use Rattle.gallium_cli.specs.Answers.{checked_text};
-ghost use Rattle.gallium_cli.specs.Causes.{CountsFaults, HasCause, IsDone};
+ghost use Rattle.gallium_cli.specs.Causes.{HasEnded};
 
 use crate::output::put;
 use crate::refusal::Refusal;
 use crate::splitting::load_given;
-use crate::status::Status;
 use flat_ir::Flat;
 use gal_io::{Files, NoMemory, Sink, Text};
 use resource_limits::count;
@@ -43,15 +41,8 @@ pub fn perform_check<'a, F: Files, O: Sink>(
     files: &mut F,
     out: &mut O,
 ) -> Result<(), Refusal<'a>>
-    ensures ok { (port : PortState) → OnOk result (IsDone (Some (Check source.now limits.now split.now))
-        (work_of (F.seen files.old) (F.seen files.new) port port (O.seen out.old) (O.seen out.new))) }
-    ensures err { (port : PortState) → IfErr result (λ refusal.
-        HasCause refusal (Some (Check source.now limits.now split.now))
-        (work_of (F.seen files.old) (F.seen files.new) port port (O.seen out.old) (O.seen out.new))) }
-    ensures no_fault { (port : PortState) → OnOk result (CountsFaults Status.Done
-        (work_of (F.seen files.old) (F.seen files.new) port port (O.seen out.old) (O.seen out.new))) }
-    ensures fault { (port : PortState) → IfErr result (λ refusal. CountsFaults (status_of refusal)
-        (work_of (F.seen files.old) (F.seen files.new) port port (O.seen out.old) (O.seen out.new))) }
+    ensures { (port : PortState) → HasEnded result (Some (Check source.now limits.now split.now))
+        (work_of (F.seen files.old) (F.seen files.new) port port (O.seen out.old) (O.seen out.new)) }
 {
     let middlebox = load_given(alloc, source, limits, split, files)?;
     let flat = &middlebox.program.flat;

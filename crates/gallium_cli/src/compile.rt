@@ -1,18 +1,16 @@
 //! The text that tells the split of a middlebox.
-ghost use Rattle.std.specs.Prelude.{◌≡◌, Some, IfOk, IfErr, OnOk, length};
+ghost use Rattle.std.specs.Prelude.{◌≡◌, Some, IfOk, length};
 ghost use Rattle.flat_ir.specs.Program.{program_of};
 ghost use Rattle.split_model.specs.Bounds.{IsBounded};
 ghost use Rattle.switch_ir.specs.Port.{PortState};
 ghost use Rattle.gallium_cli.specs.Words.{Compile};
 ghost use Rattle.gallium_cli.specs.Call.{work_of};
-ghost use Rattle.gallium_cli.specs.Lines.{status_of};
 ghost use Rattle.gallium_cli.specs.Answers.{heading_text, compiled_text};
-ghost use Rattle.gallium_cli.specs.Causes.{CountsFaults, HasCause, IsDone};
+ghost use Rattle.gallium_cli.specs.Causes.{HasEnded};
 
 use crate::output::put;
 use crate::refusal::Refusal;
 use crate::splitting::load_within;
-use crate::status::Status;
 use flat_ir::{Flat, print_flat};
 use gal_io::{Files, NoMemory, Sink, Text};
 use resource_limits::count;
@@ -56,15 +54,8 @@ pub fn perform_compile<'a, F: Files, O: Sink>(
     files: &mut F,
     out: &mut O,
 ) -> Result<(), Refusal<'a>>
-    ensures ok { (port : PortState) → OnOk result (IsDone (Some (Compile source.now limits.now shrink))
-        (work_of (F.seen files.old) (F.seen files.new) port port (O.seen out.old) (O.seen out.new))) }
-    ensures err { (port : PortState) → IfErr result (λ refusal.
-        HasCause refusal (Some (Compile source.now limits.now shrink))
-        (work_of (F.seen files.old) (F.seen files.new) port port (O.seen out.old) (O.seen out.new))) }
-    ensures no_fault { (port : PortState) → OnOk result (CountsFaults Status.Done
-        (work_of (F.seen files.old) (F.seen files.new) port port (O.seen out.old) (O.seen out.new))) }
-    ensures fault { (port : PortState) → IfErr result (λ refusal. CountsFaults (status_of refusal)
-        (work_of (F.seen files.old) (F.seen files.new) port port (O.seen out.old) (O.seen out.new))) }
+    ensures { (port : PortState) → HasEnded result (Some (Compile source.now limits.now shrink))
+        (work_of (F.seen files.old) (F.seen files.new) port port (O.seen out.old) (O.seen out.new)) }
 {
     let middlebox = load_within(alloc, source, limits, shrink, files)?;
     let flat = &middlebox.program.flat;

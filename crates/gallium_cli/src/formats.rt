@@ -17,7 +17,7 @@ ghost use Rattle.gallium_cli.specs.Roles.{source, program, limits, trace, schedu
 ghost use Rattle.gallium_cli.specs.Roles.{IsOnlySource};
 ghost use Rattle.gallium_cli.specs.Loads.{refusal_of, IsUnread};
 
-use crate::load::Format;
+use crate::load::{Format, MAX_SOURCE, MAX_TEXT};
 use crate::refusal::Refusal;
 use element_lang::Middlebox;
 use element_text::TextError;
@@ -29,12 +29,6 @@ use resource_limits::{Limits, LimitsError, read_limits};
 use run_model::LinkEvents;
 use run_text::{LinesError, Plan, read_link_schedule, read_schedule, read_trace};
 use std::alloc::Global;
-
-/// The most bytes of a source.
-const MAX_SOURCE: usize = 262_144;
-
-/// The most bytes of any other file.
-const MAX_TEXT: usize = 67_108_864;
 
 /// The source of a middlebox.
 pub struct SourceFormat;

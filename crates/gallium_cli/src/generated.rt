@@ -18,8 +18,7 @@ ghost use Rattle.gallium_cli.specs.Roles.{IsOnlySource};
 ghost use Rattle.gallium_cli.specs.Answers.{IsMadeSplit, IsSummary, made_plan};
 ghost use Rattle.gallium_cli.specs.Broken.{IsMadeBroken};
 ghost use Rattle.gallium_cli.specs.Call.{work_of};
-ghost use Rattle.gallium_cli.specs.Causes.{CountsFaults, HasCause, IsDone};
-ghost use Rattle.gallium_cli.specs.Lines.{status_of};
+ghost use Rattle.gallium_cli.specs.Causes.{HasEnded};
 ghost use Rattle.gallium_cli.specs.Runnable.{IsRunnable};
 ghost use Rattle.gallium_cli.specs.Words.{Gen};
 
@@ -29,8 +28,6 @@ use crate::output::put;
 use crate::refusal::Refusal;
 use crate::replay::replayed;
 use crate::splitting::{SplitMiddlebox, choose};
-use crate::status::Status;
-use element_interp::stores_are_kept;
 use flat_ir::Flat;
 use gal_io::{NoMemory, Sink, Text};
 use packet_fields::Packets;
@@ -77,7 +74,6 @@ fn made_split(alloc: Global) -> Result<SplitMiddlebox, NoMemory>
     ensures runnable { IfOk result (λ x.
         IsRunnable (tree x.program.middlebox) (program_of x.program.flat) x.split x.writeback) }
 {
-    stores_are_kept();
     let allowed = translator_limits();
     let flattened = made_program(alloc)?;
     let parts = made_parts(alloc, &flattened.flat, &allowed)?;
@@ -138,14 +134,8 @@ pub fn perform_gen<S: SwitchPort, O: Sink>(
     port: &mut S,
     out: &mut O,
 ) -> Result<(), Refusal<'static>>
-    ensures ok { (files : FilesState) → OnOk result (IsDone (Some (Gen seed count.packets))
-        (work_of files files (S.seen port.old) (S.seen port.new) (O.seen out.old) (O.seen out.new))) }
-    ensures err { (files : FilesState) → IfErr result (λ refusal. HasCause refusal (Some (Gen seed count.packets))
-        (work_of files files (S.seen port.old) (S.seen port.new) (O.seen out.old) (O.seen out.new))) }
-    ensures no_fault { (files : FilesState) → OnOk result (CountsFaults Status.Done
-        (work_of files files (S.seen port.old) (S.seen port.new) (O.seen out.old) (O.seen out.new))) }
-    ensures fault { (files : FilesState) → IfErr result (λ refusal. CountsFaults (status_of refusal)
-        (work_of files files (S.seen port.old) (S.seen port.new) (O.seen out.old) (O.seen out.new))) }
+    ensures { (files : FilesState) → HasEnded result (Some (Gen seed count.packets))
+        (work_of files files (S.seen port.old) (S.seen port.new) (O.seen out.old) (O.seen out.new)) }
 {
     let text = summary(alloc, seed, count, port)?;
     put(out, text.as_slice())

@@ -11,7 +11,7 @@ ghost use Rattle.gallium_cli.specs.Answers.{IsGivenSplit};
 ghost use Rattle.gallium_cli.specs.Loads.{GoesOn, IsFileRefused, IsUnread, raised_by};
 
 use crate::exceeding::excess;
-use crate::load::{Format, load};
+use crate::load::{Format, MAX_TEXT, load};
 use crate::refusal::{Refusal, SplitFault};
 use crate::status::Status;
 use flat_ir::Flat;
@@ -20,9 +20,6 @@ use resource_limits::Limits;
 use split_model::Split;
 use split_validate::{Illegal, SplitTextError, read_split, validate};
 use std::alloc::Global;
-
-/// The most bytes of a split text.
-const MAX_SPLIT: usize = 67_108_864;
 
 /// The text of a legal split of this program that keeps these limits.
 #[derive(Drop)]
@@ -107,7 +104,7 @@ impl<'f> Format for SplitFormat<'f> {
     ghost ready = { λ format. IsBounded (program_of format.flat.now) };
 
     fn size(&self) -> usize {
-        MAX_SPLIT
+        MAX_TEXT
     }
 
     fn read(&self, alloc: Global, text: &[u8]) -> Result<Split, Refusal<'static>> {

@@ -1,21 +1,18 @@
 //! A middlebox and the packets of a trace.
-ghost use Rattle.std.specs.Prelude.{◌≡◌, ◌≤◌, ◌<◌, ◌^◌, IsTrue, IfOk, IfErr, OnOk, length};
+ghost use Rattle.std.specs.Prelude.{◌≤◌, ◌<◌, ◌^◌, IsTrue, IfOk, length};
 ghost use Rattle.packet_fields.specs.Arrivals.{AreArrivals};
 ghost use Rattle.element_lang.specs.View.{tree};
 ghost use Rattle.element_lang.specs.Rules.{is_good};
 ghost use Rattle.report_text.specs.Form.{are_declared};
 ghost use Rattle.run_model.specs.Sizes.{most_packets};
 ghost use Rattle.gallium_cli.specs.Words.{Run};
-ghost use Rattle.gallium_cli.specs.Lines.{status_of};
 ghost use Rattle.gallium_cli.specs.Roles.{gates_of};
 ghost use Rattle.gallium_cli.specs.Answers.{IsInput};
-ghost use Rattle.gallium_cli.specs.Loads.{GoesOn, raised_by};
-ghost use Rattle.gallium_cli.specs.Causes.{IsFirstRefused};
+ghost use Rattle.gallium_cli.specs.Causes.{HasRead};
 
 use crate::formats::{SourceFormat, TraceFormat};
 use crate::load::load;
 use crate::refusal::Refusal;
-use crate::status::Status;
 use element_lang::Middlebox;
 use gal_io::Files;
 use packet_fields::Packets;
@@ -34,13 +31,8 @@ pub fn load_input<'a, F: Files>(
     ensures declared { IfOk result (λ x. IsTrue (are_declared (tree x.0).objects)) }
     ensures few_packets { IfOk result (λ x. length x.1 ≤ most_packets) }
     ensures arrivals { IfOk result (λ x. AreArrivals x.1) }
-    ensures err { IfErr result (λ refusal. IsFirstRefused refusal (gates_of (Run source.now trace.now))
-        (F.seen files.old) (F.seen files.new)) }
-    ensures stays { OnOk result (GoesOn Status.Done (F.seen files.old) (F.seen files.new)) }
-    ensures fault { IfErr result (λ refusal.
-        GoesOn (status_of refusal) (F.seen files.old) (F.seen files.new)) }
-    ensures read { OnOk result ((F.seen files.new).reads ≡ raised_by 2 (F.seen files.old).reads) }
-    ensures few_reads { (F.seen files.new).reads ≤ raised_by 2 (F.seen files.old).reads }
+    ensures reads { HasRead result (gates_of (Run source.now trace.now)) 2
+        (F.seen files.old) (F.seen files.new) }
 {
     let middlebox = load(alloc, files, &SourceFormat, source)?;
     match load(alloc, files, &TraceFormat, trace) {

@@ -15,7 +15,6 @@ mod formats;
 mod generated;
 mod given;
 mod input;
-mod laws;
 mod load;
 mod lossy;
 mod output;

@@ -9,6 +9,12 @@ use crate::status::Status;
 use gal_io::{Files, ReadEnd};
 use std::alloc::Global;
 
+/// The most bytes of a source.
+pub const MAX_SOURCE: usize = 262_144;
+
+/// The most bytes of any other file.
+pub const MAX_TEXT: usize = 67_108_864;
+
 /// What a file is read as: how many bytes it may have, and what its text spells.
 pub trait Format {
     /// What such a text spells.

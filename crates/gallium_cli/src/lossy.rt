@@ -10,10 +10,8 @@ ghost use Rattle.lossy_replay.specs.declared.run.LossyRun.{LossyRun};
 ghost use Rattle.gallium_cli.specs.Answers.{given};
 ghost use Rattle.gallium_cli.specs.Broken.{IsBrokenOn};
 ghost use Rattle.gallium_cli.specs.Call.{work_of};
-ghost use Rattle.gallium_cli.specs.Causes.{CountsFaults, HasCause, IsDone, IsFirstRefused};
-ghost use Rattle.gallium_cli.specs.Lines.{status_of};
+ghost use Rattle.gallium_cli.specs.Causes.{HasEnded, HasRead};
 ghost use Rattle.gallium_cli.specs.Links.{IsLinkReplayed, IsLinkReport, IsLinkTraffic, count_text, link_line, link_lines};
-ghost use Rattle.gallium_cli.specs.Loads.{GoesOn, raised_by};
 ghost use Rattle.gallium_cli.specs.Roles.{link_gates};
 ghost use Rattle.gallium_cli.specs.Runnable.{IsRunnable};
 ghost use Rattle.gallium_cli.specs.Words.{Lossy};
@@ -23,15 +21,11 @@ use crate::load::load;
 use crate::output::put;
 use crate::refusal::Refusal;
 use crate::splitting::{SplitMiddlebox, load_within};
-use crate::status::Status;
-use element_interp::stores_are_kept;
 use element_lang::Middlebox;
-use flatten::flattening_keeps_the_meaning;
 use gal_io::{Files, NoMemory, Sink, Text};
 use lossy_replay::{LossyRun, Tally4, replay_lossy};
 use packet_fields::Packets;
-use replay_state::a_packet_is_fast_by_what_is_seen;
-use run_model::{Events, LinkEvents, meanings_that_agree};
+use run_model::{Events, LinkEvents};
 use run_text::print_run;
 use schedule_replay::{Job, ReplayError};
 use std::alloc::Global;
@@ -47,13 +41,7 @@ fn load_link_traffic<'a, F: Files>(
     ensures ok { IfOk result (λ x. IsLinkTraffic (F.seen files.old).told trace.now schedule.now x.0 x.1) }
     ensures few_packets { IfOk result (λ x. length x.0 ≤ most_packets) }
     ensures fits { IfOk result (λ x. IsLinkSchedule x.1) }
-    ensures err { IfErr result (λ refusal. IsFirstRefused refusal (link_gates trace.now schedule.now)
-        (F.seen files.old) (F.seen files.new)) }
-    ensures stays { OnOk result (GoesOn Status.Done (F.seen files.old) (F.seen files.new)) }
-    ensures fault { IfErr result (λ refusal.
-        GoesOn (status_of refusal) (F.seen files.old) (F.seen files.new)) }
-    ensures read { OnOk result ((F.seen files.new).reads ≡ raised_by 2 (F.seen files.old).reads) }
-    ensures few_reads { (F.seen files.new).reads ≤ raised_by 2 (F.seen files.old).reads }
+    ensures reads { HasRead result (link_gates trace.now schedule.now) 2 (F.seen files.old) (F.seen files.new) }
 {
     let packets = load(alloc, files, &TraceFormat, trace)?;
     match load(alloc, files, &LinkScheduleFormat, schedule) {
@@ -87,10 +75,6 @@ fn replayed<S: SwitchPort>(
         (given (tree split_middlebox.program.middlebox) split_middlebox.split split_middlebox.writeback packets false)
         (S.seen port.old) (S.seen port.new)) }
 {
-    a_packet_is_fast_by_what_is_seen();
-    stores_are_kept();
-    flattening_keeps_the_meaning();
-    meanings_that_agree();
     let _ = packets.as_slice();
     let SplitMiddlebox {
         program,
@@ -200,19 +184,9 @@ pub fn perform_lossy<'a, F: Files, S: SwitchPort, O: Sink>(
     port: &mut S,
     out: &mut O,
 ) -> Result<(), Refusal<'a>>
-    ensures ok { OnOk result (IsDone (Some (Lossy source.now trace.now schedule.now limits.now))
+    ensures { HasEnded result (Some (Lossy source.now trace.now schedule.now limits.now))
         (work_of (F.seen files.old) (F.seen files.new) (S.seen port.old) (S.seen port.new)
-        (O.seen out.old) (O.seen out.new))) }
-    ensures err { IfErr result (λ refusal. HasCause refusal
-        (Some (Lossy source.now trace.now schedule.now limits.now))
-        (work_of (F.seen files.old) (F.seen files.new) (S.seen port.old) (S.seen port.new)
-        (O.seen out.old) (O.seen out.new))) }
-    ensures no_fault { OnOk result (CountsFaults Status.Done
-        (work_of (F.seen files.old) (F.seen files.new) (S.seen port.old) (S.seen port.new)
-        (O.seen out.old) (O.seen out.new))) }
-    ensures fault { IfErr result (λ refusal. CountsFaults (status_of refusal)
-        (work_of (F.seen files.old) (F.seen files.new) (S.seen port.old) (S.seen port.new)
-        (O.seen out.old) (O.seen out.new))) }
+        (O.seen out.old) (O.seen out.new)) }
 {
     let middlebox = load_within(alloc, source, limits, false, files)?;
     let (packets, events) = load_link_traffic(alloc, trace, schedule, files)?;

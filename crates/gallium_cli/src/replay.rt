@@ -8,9 +8,7 @@ ghost use Rattle.replay_contracts.specs.declared.job.Replayed.{Replayed};
 ghost use Rattle.gallium_cli.specs.Answers.{IsReplayed, IsReport, IsTraffic, given};
 ghost use Rattle.gallium_cli.specs.Broken.{IsBrokenOn};
 ghost use Rattle.gallium_cli.specs.Call.{work_of};
-ghost use Rattle.gallium_cli.specs.Causes.{CountsFaults, HasCause, IsDone, IsFirstRefused};
-ghost use Rattle.gallium_cli.specs.Lines.{status_of};
-ghost use Rattle.gallium_cli.specs.Loads.{GoesOn, raised_by};
+ghost use Rattle.gallium_cli.specs.Causes.{HasEnded, HasRead};
 ghost use Rattle.gallium_cli.specs.Roles.{event_gates};
 ghost use Rattle.gallium_cli.specs.Runnable.{IsRunnable};
 ghost use Rattle.gallium_cli.specs.Words.{Replay, split_asked};
@@ -20,15 +18,10 @@ use crate::load::load;
 use crate::output::put;
 use crate::refusal::Refusal;
 use crate::splitting::{SplitMiddlebox, load_split};
-use crate::status::Status;
 use crate::words::SplitForm;
-use element_interp::stores_are_kept;
 use element_lang::Middlebox;
-use flatten::flattening_keeps_the_meaning;
 use gal_io::{Files, Sink, Text};
 use packet_fields::Packets;
-use replay_state::a_packet_is_fast_by_what_is_seen;
-use run_model::meanings_that_agree;
 use run_text::{Plan, print_run};
 use schedule_replay::{Job, ReplayError, Replayed, replay};
 use std::alloc::Global;
@@ -44,13 +37,8 @@ fn load_traffic<'a, F: Files>(
     ensures ok { IfOk result (λ x. IsTraffic (F.seen files.old).told trace.now schedule.now x.0 x.1) }
     ensures few_packets { IfOk result (λ x. length x.0 ≤ most_packets) }
     ensures few_events { IfOk result (λ x. length x.1.events ≤ most_events) }
-    ensures err { IfErr result (λ refusal. IsFirstRefused refusal (event_gates trace.now schedule.now)
-        (F.seen files.old) (F.seen files.new)) }
-    ensures stays { OnOk result (GoesOn Status.Done (F.seen files.old) (F.seen files.new)) }
-    ensures fault { IfErr result (λ refusal.
-        GoesOn (status_of refusal) (F.seen files.old) (F.seen files.new)) }
-    ensures read { OnOk result ((F.seen files.new).reads ≡ raised_by 2 (F.seen files.old).reads) }
-    ensures few_reads { (F.seen files.new).reads ≤ raised_by 2 (F.seen files.old).reads }
+    ensures reads { HasRead result (event_gates trace.now schedule.now) 2
+        (F.seen files.old) (F.seen files.new) }
 {
     let packets = load(alloc, files, &TraceFormat, trace)?;
     match load(alloc, files, &ScheduleFormat, schedule) {
@@ -84,10 +72,6 @@ pub fn replayed<S: SwitchPort>(
         (given (tree split_middlebox.program.middlebox) split_middlebox.split split_middlebox.writeback packets plan.fine)
         (S.seen port.old) (S.seen port.new)) }
 {
-    a_packet_is_fast_by_what_is_seen();
-    stores_are_kept();
-    flattening_keeps_the_meaning();
-    meanings_that_agree();
     let _ = packets.as_slice();
     let SplitMiddlebox {
         program,
@@ -160,20 +144,9 @@ pub fn perform_replay<'a, F: Files, S: SwitchPort, O: Sink>(
     port: &mut S,
     out: &mut O,
 ) -> Result<(), Refusal<'a>>
-    ensures ok { OnOk result (IsDone
-        (Some (Replay source.now trace.now schedule.now (split_asked split.entry)))
+    ensures { HasEnded result (Some (Replay source.now trace.now schedule.now (split_asked split.entry)))
         (work_of (F.seen files.old) (F.seen files.new) (S.seen port.old) (S.seen port.new)
-        (O.seen out.old) (O.seen out.new))) }
-    ensures err { IfErr result (λ refusal. HasCause refusal
-        (Some (Replay source.now trace.now schedule.now (split_asked split.entry)))
-        (work_of (F.seen files.old) (F.seen files.new) (S.seen port.old) (S.seen port.new)
-        (O.seen out.old) (O.seen out.new))) }
-    ensures no_fault { OnOk result (CountsFaults Status.Done
-        (work_of (F.seen files.old) (F.seen files.new) (S.seen port.old) (S.seen port.new)
-        (O.seen out.old) (O.seen out.new))) }
-    ensures fault { IfErr result (λ refusal. CountsFaults (status_of refusal)
-        (work_of (F.seen files.old) (F.seen files.new) (S.seen port.old) (S.seen port.new)
-        (O.seen out.old) (O.seen out.new))) }
+        (O.seen out.old) (O.seen out.new)) }
 {
     let middlebox = load_split(alloc, source, split, files)?;
     let (packets, plan) = load_traffic(alloc, trace, schedule, files)?;

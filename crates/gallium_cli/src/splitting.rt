@@ -1,5 +1,5 @@
 //! The split of a middlebox, as it is asked for.
-ghost use Rattle.std.specs.Prelude.{◌≡◌, ◌≤◌, IfOk, IfErr, IsTrue, OnOk};
+ghost use Rattle.std.specs.Prelude.{◌≡◌, IfOk, IfErr, IsTrue};
 ghost use Rattle.element_lang.specs.View.{tree};
 ghost use Rattle.element_lang.specs.Rules.{is_good};
 ghost use Rattle.flat_ir.specs.Program.{program_of};
@@ -10,21 +10,17 @@ ghost use Rattle.partition.specs.Choice.{IsChosen};
 ghost use Rattle.split_model.specs.Bounds.{HasFewStages, IsBounded};
 ghost use Rattle.split_model.specs.Legal.{IsLegal};
 ghost use Rattle.gallium_cli.specs.Words.{ServerAlone, Within, Spelled, split_asked};
-ghost use Rattle.gallium_cli.specs.Lines.{status_of};
 ghost use Rattle.gallium_cli.specs.Roles.{plan_files, plan_gates, given_gates, split_gates, split_reads};
 ghost use Rattle.gallium_cli.specs.Answers.{IsPlan, IsSplitBy};
-ghost use Rattle.gallium_cli.specs.Loads.{GoesOn, raised_by};
 ghost use Rattle.gallium_cli.specs.Runnable.{IsRunnable};
-ghost use Rattle.gallium_cli.specs.Causes.{IsFirstRefused, IsUnchosen};
+ghost use Rattle.gallium_cli.specs.Causes.{HasRead, IsUnchosen};
 
 use crate::exceeding::excess;
 use crate::formats::{Flattened, LimitsFormat, ProgramFormat};
 use crate::given::load_parts;
 use crate::load::load;
 use crate::refusal::Refusal;
-use crate::status::Status;
 use crate::words::SplitForm;
-use element_interp::stores_are_kept;
 use flat_ir::Flat;
 use gal_io::Files;
 use partition::{PartError, all_on_server, partition};
@@ -51,13 +47,7 @@ fn load_plan<'a, F: Files>(
     ensures program { IfOk result (λ x. program_of x.0.flat ≡ flat_of (tree x.0.middlebox)) }
     ensures good { IfOk result (λ x. IsTrue (is_good (tree x.0.middlebox))) }
     ensures in_range { IfOk result (λ x. AreInRange x.1) }
-    ensures err { IfErr result (λ refusal. IsFirstRefused refusal
-        (plan_files source.now limits.now) (F.seen files.old) (F.seen files.new)) }
-    ensures stays { OnOk result (GoesOn Status.Done (F.seen files.old) (F.seen files.new)) }
-    ensures fault { IfErr result (λ refusal.
-        GoesOn (status_of refusal) (F.seen files.old) (F.seen files.new)) }
-    ensures read { OnOk result ((F.seen files.new).reads ≡ raised_by 2 (F.seen files.old).reads) }
-    ensures few_reads { (F.seen files.new).reads ≤ raised_by 2 (F.seen files.old).reads }
+    ensures reads { HasRead result (plan_files source.now limits.now) 2 (F.seen files.old) (F.seen files.new) }
 {
     let program = load(alloc, files, &ProgramFormat, source)?;
     match load(alloc, files, &LimitsFormat, limits) {
@@ -103,15 +93,9 @@ pub fn load_within<'a, F: Files>(
         (tree x.program.middlebox) x.split x.writeback) }
     ensures runnable { IfOk result (λ x.
         IsRunnable (tree x.program.middlebox) (program_of x.program.flat) x.split x.writeback) }
-    ensures err { IfErr result (λ refusal. IsFirstRefused refusal (plan_gates source.now limits.now shrink)
-        (F.seen files.old) (F.seen files.new)) }
-    ensures stays { OnOk result (GoesOn Status.Done (F.seen files.old) (F.seen files.new)) }
-    ensures fault { IfErr result (λ refusal.
-        GoesOn (status_of refusal) (F.seen files.old) (F.seen files.new)) }
-    ensures read { OnOk result ((F.seen files.new).reads ≡ raised_by 2 (F.seen files.old).reads) }
-    ensures few_reads { (F.seen files.new).reads ≤ raised_by 2 (F.seen files.old).reads }
+    ensures reads { HasRead result (plan_gates source.now limits.now shrink) 2
+        (F.seen files.old) (F.seen files.new) }
 {
-    stores_are_kept();
     let (program, allowed) = load_plan(alloc, source, limits, files)?;
     let split = choose(alloc, &program.flat, &allowed, shrink)?;
     Ok(SplitMiddlebox {
@@ -133,15 +117,9 @@ pub fn load_given<'a, F: Files>(
         (tree x.program.middlebox) x.split x.writeback) }
     ensures runnable { IfOk result (λ x.
         IsRunnable (tree x.program.middlebox) (program_of x.program.flat) x.split x.writeback) }
-    ensures err { IfErr result (λ refusal. IsFirstRefused refusal (given_gates source.now limits.now split.now)
-        (F.seen files.old) (F.seen files.new)) }
-    ensures stays { OnOk result (GoesOn Status.Done (F.seen files.old) (F.seen files.new)) }
-    ensures fault { IfErr result (λ refusal.
-        GoesOn (status_of refusal) (F.seen files.old) (F.seen files.new)) }
-    ensures read { OnOk result ((F.seen files.new).reads ≡ raised_by 3 (F.seen files.old).reads) }
-    ensures few_reads { (F.seen files.new).reads ≤ raised_by 3 (F.seen files.old).reads }
+    ensures reads { HasRead result (given_gates source.now limits.now split.now) 3
+        (F.seen files.old) (F.seen files.new) }
 {
-    stores_are_kept();
     let (flattened, allowed) = load_plan(alloc, source, limits, files)?;
     let parts = load_parts(alloc, &flattened.flat, &allowed, split, files)?;
     Ok(SplitMiddlebox {
@@ -161,15 +139,9 @@ fn load_served<'a, F: Files>(
         (tree x.program.middlebox) x.split x.writeback) }
     ensures runnable { IfOk result (λ x.
         IsRunnable (tree x.program.middlebox) (program_of x.program.flat) x.split x.writeback) }
-    ensures err { IfErr result (λ refusal. IsFirstRefused refusal (split_gates source.now ServerAlone)
-        (F.seen files.old) (F.seen files.new)) }
-    ensures stays { OnOk result (GoesOn Status.Done (F.seen files.old) (F.seen files.new)) }
-    ensures fault { IfErr result (λ refusal.
-        GoesOn (status_of refusal) (F.seen files.old) (F.seen files.new)) }
-    ensures read { OnOk result ((F.seen files.new).reads ≡ raised_by 1 (F.seen files.old).reads) }
-    ensures few_reads { (F.seen files.new).reads ≤ raised_by 1 (F.seen files.old).reads }
+    ensures reads { HasRead result (split_gates source.now ServerAlone) 1
+        (F.seen files.old) (F.seen files.new) }
 {
-    stores_are_kept();
     let program = load(alloc, files, &ProgramFormat, source)?;
     match all_on_server(alloc, &program.flat) {
         Ok(split) => Ok(SplitMiddlebox {
@@ -192,15 +164,8 @@ pub fn load_split<'a, F: Files>(
         (tree x.program.middlebox) x.split x.writeback) }
     ensures runnable { IfOk result (λ x.
         IsRunnable (tree x.program.middlebox) (program_of x.program.flat) x.split x.writeback) }
-    ensures err { IfErr result (λ refusal. IsFirstRefused refusal (split_gates source.now (split_asked split.entry))
-        (F.seen files.old) (F.seen files.new)) }
-    ensures stays { OnOk result (GoesOn Status.Done (F.seen files.old) (F.seen files.new)) }
-    ensures fault { IfErr result (λ refusal.
-        GoesOn (status_of refusal) (F.seen files.old) (F.seen files.new)) }
-    ensures read { OnOk result ((F.seen files.new).reads
-        ≡ raised_by (split_reads source.now (split_asked split.entry)) (F.seen files.old).reads) }
-    ensures few_reads { (F.seen files.new).reads
-        ≤ raised_by (split_reads source.now (split_asked split.entry)) (F.seen files.old).reads }
+    ensures reads { HasRead result (split_gates source.now (split_asked split.entry))
+        (split_reads source.now (split_asked split.entry)) (F.seen files.old) (F.seen files.new) }
 {
     match split {
         SplitForm::ServerAlone => load_served(alloc, source, files),

@@ -1,14 +1,13 @@
 //! The whole program.
-ghost use Rattle.std.specs.Prelude.{◌≡◌, ◌<◌, ◌^◌, Some, IsTrue, IfOk, IfErr, OnOk};
+ghost use Rattle.std.specs.Prelude.{◌≡◌, ◌<◌, ◌^◌, Some, IsTrue, IfOk};
 ghost use Rattle.std.specs.Prelude.{map, length, string_bytes};
 ghost use Rattle.packet_fields.specs.Arrivals.{AreArrivals};
 ghost use Rattle.element_lang.specs.View.{tree};
 ghost use Rattle.element_lang.specs.Rules.{is_good};
-ghost use Rattle.gallium_cli.specs.Words.{request_of, Run};
-ghost use Rattle.gallium_cli.specs.Lines.{status_of};
+ghost use Rattle.gallium_cli.specs.Words.{asked_by, request_of, Run};
 ghost use Rattle.gallium_cli.specs.Answers.{serial_answer};
 ghost use Rattle.switch_ir.specs.Port.{PortState};
-ghost use Rattle.gallium_cli.specs.Causes.{CountsFaults, HasCause, IsDone};
+ghost use Rattle.gallium_cli.specs.Causes.{HasEnded};
 ghost use Rattle.gallium_cli.specs.Call.{Call, work_of};
 ghost use Rattle.gallium_cli.specs.Promises.{Promises};
 
@@ -19,24 +18,18 @@ use crate::check::perform_check;
 use crate::compile::perform_compile;
 use crate::generated::perform_gen;
 use crate::input::load_input;
-use crate::laws::reports_of_replays_are_true;
 use crate::lossy::perform_lossy;
 use crate::output::put;
 use crate::refusal::{Refusal, tell};
 use crate::replay::perform_replay;
 use crate::status::Status;
 use crate::words::{Form, form_of};
-use chain_compose::one_composition_or_one_reason;
-use chain_text::one_chain_or_one_reason;
 use element_interp::run_all;
 use element_lang::Middlebox;
 use gal_io::{Files, NoMemory, Sink, Text};
 use packet_fields::Packet;
-use partition::greatest_split_is_one;
-use resource_limits::kept_limits_are_not_exceeded;
 use run_model::StoreRows;
 use run_text::print_answer;
-use split_validate::{a_text_is_of_one_split, one_line_is_first_wrong};
 use std::alloc::Global;
 use switch_ir::SwitchPort;
 
@@ -60,20 +53,62 @@ fn perform_run<'a, F: Files, O: Sink>(
     files: &mut F,
     out: &mut O,
 ) -> Result<(), Refusal<'a>>
-    ensures ok { (port : PortState) → OnOk result (IsDone (Some (Run source.now trace.now))
-        (work_of (F.seen files.old) (F.seen files.new) port port (O.seen out.old) (O.seen out.new))) }
-    ensures err { (port : PortState) → IfErr result (λ refusal. HasCause refusal (Some (Run source.now trace.now))
-        (work_of (F.seen files.old) (F.seen files.new) port port (O.seen out.old) (O.seen out.new))) }
-    ensures no_fault { (port : PortState) → OnOk result (CountsFaults Status.Done
-        (work_of (F.seen files.old) (F.seen files.new) port port (O.seen out.old) (O.seen out.new))) }
-    ensures fault { (port : PortState) → IfErr result (λ refusal. CountsFaults (status_of refusal)
-        (work_of (F.seen files.old) (F.seen files.new) port port (O.seen out.old) (O.seen out.new))) }
+    ensures { (port : PortState) → HasEnded result (Some (Run source.now trace.now))
+        (work_of (F.seen files.old) (F.seen files.new) port port (O.seen out.old) (O.seen out.new)) }
 {
     let (middlebox, packets) = load_input(alloc, source, trace, files)?;
     let Ok(told) = answer(alloc, &middlebox, packets.as_slice()) else {
         return Err(Refusal::NoMemory);
     };
     put(out, told.as_slice())
+}
+
+// Does what a form asks for.
+fn perform_form<'a, F: Files, S: SwitchPort, O: Sink>(
+    alloc: Global,
+    form: Form<'a>,
+    files: &mut F,
+    port: &mut S,
+    out: &mut O,
+) -> Result<(), Refusal<'a>>
+    ensures { HasEnded result (Some (asked_by form.entry))
+        (work_of (F.seen files.old) (F.seen files.new) (S.seen port.old) (S.seen port.new)
+        (O.seen out.old) (O.seen out.new)) }
+{
+    match form {
+        Form::Run { source, trace } => perform_run(alloc, source, trace, files, out),
+        Form::Compile {
+            source,
+            limits,
+            shrink,
+        } => perform_compile(alloc, source, limits, shrink, files, out),
+        Form::Replay {
+            source,
+            trace,
+            schedule,
+            split,
+        } => perform_replay(alloc, source, trace, schedule, split, files, port, out),
+        Form::Lossy {
+            source,
+            trace,
+            schedule,
+            limits,
+        } => perform_lossy(alloc, source, trace, schedule, limits, files, port, out),
+        Form::Check {
+            source,
+            limits,
+            split,
+        } => perform_check(alloc, source, limits, split, files, out),
+        Form::Audit {
+            source,
+            trace,
+            report,
+        } => perform_audit(alloc, source, trace, report, files, out),
+        Form::Chain { wiring } => perform_chain(alloc, wiring, files, out),
+        Form::Gen { seed, count } => perform_gen(alloc, seed, count, port, out),
+        Form::PcapIn { capture, port: by } => perform_pcap_in(alloc, capture, by, files, out),
+        Form::PcapOut { trace, big, nano } => perform_pcap_out(alloc, trace, big, nano, files, out),
+    }
 }
 
 // Does what the words ask for.
@@ -84,64 +119,12 @@ fn perform<'a, F: Files, S: SwitchPort, O: Sink>(
     port: &mut S,
     out: &mut O,
 ) -> Result<(), Refusal<'a>>
-    ensures ok { OnOk result (IsDone (request_of (map string_bytes words.now))
+    ensures { HasEnded result (request_of (map string_bytes words.now))
         (work_of (F.seen files.old) (F.seen files.new) (S.seen port.old) (S.seen port.new)
-        (O.seen out.old) (O.seen out.new))) }
-    ensures err { IfErr result (λ refusal. HasCause refusal (request_of (map string_bytes words.now))
-        (work_of (F.seen files.old) (F.seen files.new) (S.seen port.old) (S.seen port.new)
-        (O.seen out.old) (O.seen out.new))) }
-    ensures no_fault { OnOk result (CountsFaults Status.Done
-        (work_of (F.seen files.old) (F.seen files.new) (S.seen port.old) (S.seen port.new)
-        (O.seen out.old) (O.seen out.new))) }
-    ensures fault { IfErr result (λ refusal. CountsFaults (status_of refusal)
-        (work_of (F.seen files.old) (F.seen files.new) (S.seen port.old) (S.seen port.new)
-        (O.seen out.old) (O.seen out.new))) }
+        (O.seen out.old) (O.seen out.new)) }
 {
     match form_of(words) {
-        Some(Form::Run { source, trace }) => perform_run(alloc, source, trace, files, out),
-        Some(
-            Form::Compile {
-                source,
-                limits,
-                shrink,
-            },
-        ) => perform_compile(alloc, source, limits, shrink, files, out),
-        Some(
-            Form::Replay {
-                source,
-                trace,
-                schedule,
-                split,
-            },
-        ) => perform_replay(alloc, source, trace, schedule, split, files, port, out),
-        Some(
-            Form::Lossy {
-                source,
-                trace,
-                schedule,
-                limits,
-            },
-        ) => perform_lossy(alloc, source, trace, schedule, limits, files, port, out),
-        Some(
-            Form::Check {
-                source,
-                limits,
-                split,
-            },
-        ) => perform_check(alloc, source, limits, split, files, out),
-        Some(
-            Form::Audit {
-                source,
-                trace,
-                report,
-            },
-        ) => perform_audit(alloc, source, trace, report, files, out),
-        Some(Form::Chain { wiring }) => perform_chain(alloc, wiring, files, out),
-        Some(Form::Gen { seed, count }) => perform_gen(alloc, seed, count, port, out),
-        Some(Form::PcapIn { capture, port: by }) => perform_pcap_in(alloc, capture, by, files, out),
-        Some(Form::PcapOut { trace, big, nano }) => {
-            perform_pcap_out(alloc, trace, big, nano, files, out)
-        }
+        Some(form) => perform_form(alloc, form, files, port, out),
         None => Err(Refusal::Usage),
     }
 }
@@ -166,13 +149,6 @@ pub fn gallium<F: Files, S: SwitchPort, O: Sink, E: Sink>(
       err_after = E.seen err.new;
     } in Promises result call }
 {
-    greatest_split_is_one();
-    kept_limits_are_not_exceeded();
-    one_line_is_first_wrong();
-    a_text_is_of_one_split();
-    one_chain_or_one_reason();
-    one_composition_or_one_reason();
-    reports_of_replays_are_true();
     match perform(alloc, words, files, port, out) {
         Ok(()) => Status::Done,
         Err(refusal) => tell(alloc, refusal, err),

@@ -1,32 +1,22 @@
 -- Numbers among others, and the numbers below a count.
-use Rattle.std.proofs.Common.{◌≡◌, ◌≢◌, ◌<◌, ◌≤◌, ◌+◌, ℕ, zero, suc, Bool, true, false, ◌||◌, ◌&&◌, List, [], ◌∷◌, ◌++◌, length, get_or, map, refl, sym, ap, ◌∙◌, subst, inl, inr, cond, Some, arith, add-zero, true≢false}
+use Rattle.std.proofs.Common.{◌≡◌, ◌≢◌, ◌<◌, ◌≤◌, ◌+◌, ℕ, zero, suc, Bool, true, false, ◌||◌, ◌&&◌, List, [], ◌∷◌, ◌++◌, length, get_or, map, refl, sym, ap, ◌∙◌, subst, inl, inr, cond, Some, arith, true≢false}
 use Rattle.std.specs.Prelude.{◌==◌, slice_get}
 use Rattle.std.specs.List.{All, Contains, filter, range_with_len}
 use Rattle.std.proofs.lemmas.Bool.{eq-eqb, eqb-true, ne_eqb, or_cases, or_parts, or_left, or_right, or_from, cases_eq}
 use Rattle.std.proofs.lemmas.List.{length_push}
 use Rattle.std.proofs.lemmas.List.Elements.{All-head, All-tail, All-cons, All-nil, All-weaker}
 use Rattle.lossy_link.specs.Link.{is_among}
+use Rattle.lemmas.proofs.Lists.{range_pushed}
+use Rattle.lemmas.proofs.Tests.{and_false, or_assoc, or_false}
 
 -- ---- tests
-
-pub or_none : (b : Bool) → (b || false) ≡ b
-or_none true = refl
-or_none false = refl
-
-pub or_assoc : (a b c : Bool) → ((a || b) || c) ≡ (a || (b || c))
-or_assoc true b c = refl
-or_assoc false b c = refl
-
-pub and_none : (b : Bool) → (b && false) ≡ false
-and_none true = refl
-and_none false = refl
 
 kept : (a b c : Bool) → (a ≡ true → c ≡ true) → (a || (b && c)) ≡ ((a || b) && c)
 kept true b c h = sym (h refl)
 kept false b c h = refl
 
 left_out : (a b c : Bool) → (a ≡ true → c ≡ false) → (b && c) ≡ ((a || b) && c)
-left_out true b c h = ap (λ d. b && d) (h refl) ∙ (and_none b ∙ sym (h refl))
+left_out true b c h = ap (λ d. b && d) (h refl) ∙ (and_false b ∙ sym (h refl))
 left_out false b c h = refl
 
 -- ---- a place of a list
@@ -68,7 +58,7 @@ contained (x ∷ xs) n holds =
     ]
 
 pub among_push : (xs : List ℕ) (n m : ℕ) → is_among (xs ++ n ∷ []) m ≡ (is_among xs m || (n == m))
-among_push [] n m = or_none (n == m)
+among_push [] n m = or_false (n == m)
 among_push (x ∷ xs) n m = ap (λ b. (x == m) || b) (among_push xs n m) ∙ sym (or_assoc (x == m) (is_among xs m) (n == m))
 
 pub among_pushed : (xs : List ℕ) (n : ℕ) → is_among (xs ++ n ∷ []) n ≡ true
@@ -98,12 +88,6 @@ among_filter p (x ∷ xs) n =
 
 -- ---- the numbers from one on
 
-pub range_push : (a n : ℕ) → range_with_len a (suc n) ≡ range_with_len a n ++ (a + n) ∷ []
-range_push a zero = ap (λ (k : ℕ). k ∷ []) (sym (add-zero a))
-range_push a (suc n) =
-    let last : (a + 1) + n ≡ a + suc n = omega arith in
-    ap (λ (xs : List ℕ). a ∷ xs) (range_push (a + 1) n ∙ ap (λ (k : ℕ). range_with_len (a + 1) n ++ k ∷ []) last)
-
 pub range_within : (a n : ℕ) → All (λ k. (a ≤ k) × (k < a + n)) (range_with_len a n)
 range_within a zero = All-nil (λ k. (a ≤ k) × (k < a + zero))
 range_within a (suc n) =
@@ -129,4 +113,4 @@ pushed_range xs n is next =
     let long : suc (length xs) ≡ length (xs ++ n ∷ []) = omega (arith, length_push xs n) in
     ap (λ (ys : List ℕ). ys ++ n ∷ []) is
     ∙ (ap (λ (k : ℕ). range_with_len 0 (length xs) ++ k ∷ []) place
-    ∙ (sym (range_push 0 (length xs)) ∙ ap (range_with_len 0) long))
+    ∙ (sym (range_pushed 0 (length xs)) ∙ ap (range_with_len 0) long))

@@ -8,10 +8,7 @@ use Rattle.std.proofs.lemmas.Bool.{cond-false}
 use Rattle.lossy_link.specs.Link.{is_among}
 use Rattle.lossy_link.specs.Unknown.{AreRising, known_beside, sender_with}
 use Rattle.lossy_link.proofs.Rising.{moved, rising_apart, rising_filter, rising_lower}
-
-length_range : (a n : ℕ) → length (range_with_len a n) ≡ n
-length_range a zero = refl
-length_range a (suc n) = ap suc (length_range (a + 1) n)
+use Rattle.std.proofs.lemmas.List.FromFn.{length-range_with_len}
 
 -- each number of a list passes a test or doesn't
 both_kinds : (p : ℕ → Bool) (xs : List ℕ) → length (filter (λ k. not (p k)) xs) + length (filter p xs) ≡ length xs
@@ -51,4 +48,4 @@ known_count items xs up =
     let halves : length others + length (filter p (range_with_len 0 count)) ≡ length (range_with_len 0 count) = both_kinds p (range_with_len 0 count) in
     let long : length (filter p (range_with_len 0 count)) ≡ length xs = ap (λ (l : List ℕ). length l) kept in
     let size : set.len (known_beside count xs) ≡ length others = rising_len 0 (0 + count) others (kept_rises (λ k. not (p k)) 0 count) in
-    omega (arith, halves, long, size, length_range 0 count)
+    omega (arith, halves, long, size, length-range_with_len 0 count)

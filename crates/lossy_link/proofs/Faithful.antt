@@ -177,8 +177,8 @@ pub faithful_through : (l : Link) (steps : List LinkStep) → IsFaithful l → I
 faithful_through l [] f = f
 faithful_through l (step ∷ steps) f = faithful_through (link_step l step) steps (step_faithful l step f)
 
-pub links_are_faithful : (ordered : Bool) (steps : List LinkStep) → IsLinkOf ordered steps
-links_are_faithful ordered steps = record {
+pub is_link : (ordered : Bool) (steps : List LinkStep) → IsLinkOf ordered steps
+is_link ordered steps = record {
   given = given_through (first_link ordered) steps;
   faithful = faithful_through (first_link ordered) steps (first_faithful ordered);
 }

@@ -7,3 +7,4 @@ pub mod Kept
 pub mod Performed
 pub mod Rising
 pub mod Spelled
+pub mod Laws

@@ -168,9 +168,7 @@ arrived_pairs l n Malformed is = absurd is
 
 arrived_order : (l : Link) (n : ℕ) (t : Took) → (with_item (receiver_of l) (item_at l.items n) t).ordered ≡ l.ordered
 arrived_order l n (New m) = refl
-arrived_order l n (Again m) = refl
-arrived_order l n (Early m) = refl
-arrived_order l n Malformed = refl
+arrived_order l n _ = refl
 
 confirmed_back : (l : Link) (n m : ℕ) → m ≡ n → is_among (got_after l n) n ≡ true
     → map number_bytes l.back ++ number_bytes m ∷ [] ≡ map number_bytes (back_after l n)
@@ -294,9 +292,9 @@ pairs_there items got below =
     All-map (λ (p : Delivered). slice_get items p.number ≡ Some p.item) (pair_of items) got
     (All-weaker (λ n. n < length items) (λ n. slice_get items n ≡ Some (item_at items n)) (λ n h. item_there items n h) got below)
 
-pub ends_are_those_of_the_link : (ordered : Bool) (steps : List LinkStep) → length (given_in steps) < 2 ^ 32
+pub are_ends : (ordered : Bool) (steps : List LinkStep) → length (given_in steps) < 2 ^ 32
     → AreEndsOf ordered steps
-ends_are_those_of_the_link ordered steps few =
+are_ends ordered steps few =
     let l = link_through (first_link ordered) steps in
     let given = given_through (first_link ordered) steps in
     let f = faithful_through (first_link ordered) steps (first_faithful ordered) in

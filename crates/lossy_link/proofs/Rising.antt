@@ -10,8 +10,10 @@ use Rattle.std.proofs.lemmas.List.Elements.{All-weaker, filter-append}
 use Rattle.lossy_link.specs.Link.{is_among}
 use Rattle.lossy_link.specs.Sender.{unknown}
 use Rattle.lossy_link.specs.Unknown.{AreRising, known_beside}
-use Rattle.lossy_link.proofs.Among.{and_none, among_at, among_filter, among_push, among_pushed, among_range, filter_same, not_among, or_none, range_below, range_push, range_within}
+use Rattle.lossy_link.proofs.Among.{among_at, among_filter, among_push, among_pushed, among_range, filter_same, not_among, range_below, range_within}
 use Rattle.lossy_link.proofs.Faithful.{known_insert}
+use Rattle.lemmas.proofs.Lists.{range_pushed}
+use Rattle.lemmas.proofs.Tests.{and_false, and_true, or_false}
 
 -- ---- tests
 
@@ -19,10 +21,6 @@ first_stays : (a b c : Bool) → (a ≡ true → c ≡ true → ⊥) → (a || (
 first_stays true b true h = absurd (h refl refl)
 first_stays true b false h = refl
 first_stays false b c h = refl
-
-and_all : (b : Bool) → (b && true) ≡ b
-and_all true = refl
-and_all false = refl
 
 not_not : (b : Bool) → not (not b) ≡ b
 not_not true = refl
@@ -104,8 +102,8 @@ among_remove a b [] i n k up inside is = absurd (omega arith)
 among_remove a b (x ∷ xs) zero n k up inside is =
     elim (cases_eq k n) [
       | inl same ↦ rising_apart (suc x) b xs k up.2 (omega (arith, same, is))
-          ∙ sym (ap (λ c. ((x == k) || is_among xs k) && not c) (eq-eqb k n same) ∙ and_none ((x == k) || is_among xs k))
-      | inr other ↦ sym (ap (λ c. ((x == k) || is_among xs k) && not c) (ne_eqb k n other) ∙ (and_all ((x == k) || is_among xs k)
+          ∙ sym (ap (λ c. ((x == k) || is_among xs k) && not c) (eq-eqb k n same) ∙ and_false ((x == k) || is_among xs k))
+      | inr other ↦ sym (ap (λ c. ((x == k) || is_among xs k) && not c) (ne_eqb k n other) ∙ (and_true ((x == k) || is_among xs k)
           ∙ ap (λ c. c || is_among xs k) (ne_eqb x k (λ same. other (sym same ∙ is)))))
     ]
 among_remove a b (x ∷ xs) (suc i) n k up inside is =
@@ -142,13 +140,13 @@ known_given count xs =
     let q : ℕ → Bool = λ k. not (is_among xs k) in
     let one : count + 1 ≡ suc count = omega arith in
     let more : range_with_len 0 (count + 1) ≡ range_with_len 0 count ++ count ∷ [] =
-    ap (range_with_len 0) one ∙ (range_push 0 count ∙ ap (λ (k : ℕ). range_with_len 0 count ++ k ∷ []) (zero_plus count)) in
+    ap (range_with_len 0) one ∙ (range_pushed 0 count ∙ ap (λ (k : ℕ). range_with_len 0 count ++ k ∷ []) (zero_plus count)) in
     let last : filter p (count ∷ []) ≡ [] =
     cond-false (p count) (count ∷ []) [] (not_from_true (is_among (xs ++ count ∷ []) count) (among_pushed xs count)) in
     let front : filter p (range_with_len 0 count) ≡ filter q (range_with_len 0 count) =
     filter_same p q (range_with_len 0 count)
     (All-weaker (λ k. k < count) (λ k. p k ≡ q k)
-    (λ k below. ap not (among_push xs count k ∙ (ap (λ b. is_among xs k || b) (ne_eqb count k (λ same. absurd (omega (arith, same, below)))) ∙ or_none (is_among xs k)))) (range_with_len 0 count) (range_below count)) in
+    (λ k below. ap not (among_push xs count k ∙ (ap (λ b. is_among xs k || b) (ne_eqb count k (λ same. absurd (omega (arith, same, below)))) ∙ or_false (is_among xs k)))) (range_with_len 0 count) (range_below count)) in
     ap (λ (ks : List ℕ). set.from_list {R = nat_cmp} ks)
     (ap (λ (ks : List ℕ). filter p ks) more ∙ (filter-append p (range_with_len 0 count) (count ∷ [])
     ∙ (ap (λ (ks : List ℕ). filter p (range_with_len 0 count) ++ ks) last ∙ (append-nil (filter p (range_with_len 0 count)) ∙ front))))

@@ -1,10 +1,9 @@
 -- Commands and their bytes.
-use Rattle.std.proofs.Common.{◌≡◌, ◌≢◌, ◌<◌, ◌≤◌, ◌+◌, ◌-◌, ◌*◌, ◌/◌, ◌^◌, ℕ, zero, suc, true, false, List, [], ◌∷◌, ◌++◌, length, get_or, take, drop, refl, sym, ap, ◌∙◌, subst, Some, arith, append-nil, add-zero, lit<, pow_mono, true≢false}
-use Rattle.std.specs.Prelude.{nat_eq, nat_lt, slice_get}
+use Rattle.std.proofs.Common.{◌≡◌, ◌≢◌, ◌<◌, ◌≤◌, ◌+◌, ◌-◌, ◌*◌, ◌^◌, ℕ, zero, suc, true, false, List, [], ◌∷◌, ◌++◌, length, get_or, take, drop, refl, sym, ap, ◌∙◌, subst, Some, arith, append-nil, add-zero, lit<, true≢false}
+use Rattle.std.specs.Prelude.{nat_lt, slice_get}
 use Rattle.std.specs.Int.{w64, from_be_bytes}
 use Rattle.std.proofs.Math.Seq.{take-add}
-use Rattle.std.proofs.Math.Nat.{div-lt_iff_lt-mul}
-use Rattle.std.proofs.lemmas.Bool.{and_from, and_parts, eq-eqb, eqb-true, lt-ltb, ltb_from_iff}
+use Rattle.std.proofs.lemmas.Bool.{and_from, and_parts}
 use Rattle.std.proofs.lemmas.List.{drop-drop, drop_at, get_or-drop, length-append, length-drop, take_all, take_at, take_more}
 use Rattle.std.proofs.lemmas.List.Concat.{flat_map-append}
 use Rattle.std.proofs.lemmas.List.Elements.{All-append, All-head, All-push, All-same, All-tail, All-take, All-drop}
@@ -12,13 +11,14 @@ use Rattle.std.proofs.lemmas.Nat.{be_bytes_8, from_be_bytes-to_be_bytes_8}
 use Rattle.state_store.specs.declared.object.ObjectDecl.{ObjectDecl}
 use Rattle.state_store.specs.Kept.{have_widths}
 use Rattle.writeback_table.specs.declared.command.Command.{Command}
-use Rattle.writeback_table.specs.declared.command.Command.TheVariants.{Stage, On, Main, Off, Clear}
+use Rattle.writeback_table.specs.declared.command.Command.TheVariants.{Stage, Main}
 use Rattle.writeback_table.specs.declared.command.To.{To}
 use Rattle.writeback_table.specs.declared.command.To.TheVariants.{Value, Gone}
 use Rattle.writeback_table.specs.declared.command.Update.{Update}
 use Rattle.writeback_table.specs.Widths.{fits_update, has_value_widths}
 use Rattle.lossy_link.specs.CommandBytes.{AreBytesOf, AreWords, eight_bytes, numbers_to, to_bytes, update_bytes, word_bytes}
 use Rattle.lossy_link.specs.Spelling.{SpellTo, SpellUpdate, SpellWords}
+use Rattle.lemmas.proofs.Lists.{first_parts, second_parts}
 
 -- ---- numbers
 
@@ -36,16 +36,6 @@ unfolding eight_bytes
 one_word m n m_fits n_fits same =
     sym (from_be_bytes-to_be_bytes_8 m m_fits)
     ∙ (ap (λ (bytes : List ℕ). from_be_bytes w64 bytes) same ∙ from_be_bytes-to_be_bytes_8 n n_fits)
-
-first_parts : (a b x y : List ℕ) → length a ≡ length b → a ++ x ≡ b ++ y → a ≡ b
-first_parts a b x y long same =
-    sym (take_at a x (length b) long)
-    ∙ (ap (λ (bytes : List ℕ). take (length b) bytes) same ∙ take_at b y (length b) refl)
-
-second_parts : (a b x y : List ℕ) → length a ≡ length b → a ++ x ≡ b ++ y → x ≡ y
-second_parts a b x y long same =
-    sym (drop_at a x (length b) long)
-    ∙ (ap (λ (bytes : List ℕ). drop (length b) bytes) same ∙ drop_at b y (length b) refl)
 
 words_same : (ms ns : List ℕ) → AreWords ms → AreWords ns → word_bytes ms ≡ word_bytes ns → ms ≡ ns
 words_same [] [] ms_fit ns_fit same = refl
@@ -127,20 +117,6 @@ eight_read bytes at n are inside is =
     be_bytes_8 (eight_from bytes at) n refl (eight_are bytes at are) is ∙ eight_at bytes at inside
 
 -- ---- widths
-
--- nothing is left behind a division exactly where the number is below the divisor
-pub quotient_zero : (v n : ℕ) → 0 < n → nat_eq (v / n) 0 ≡ nat_lt v n
-quotient_zero v n some =
-    let below = div-lt_iff_lt-mul {k = n} {x = v} {y = 1} some in
-    ltb_from_iff (
-      λ e. let z : v / n ≡ 0 = eqb-true (v / n) 0 e in let m : v < 1 * n = below.0 (omega arith) in omega arith,
-      λ h. eq-eqb (v / n) 0
-          (let m : v / n < 1 = below.1 (omega arith) in omega arith),
-    )
-
--- a number of 64 bits has no more bits than 64, and no more than any larger number of them
-pub fits_all : (v bits : ℕ) → v < 2 ^ 64 → 64 ≤ bits → nat_lt v (2 ^ bits) ≡ true
-fits_all v bits small many = let more : 2 ^ 64 ≤ 2 ^ bits = pow_mono many in lt-ltb v (2 ^ bits) (omega arith)
 
 widths_length : (ws ns : List ℕ) → have_widths ws ns ≡ true → length ns ≡ length ws
 widths_length [] [] fit = refl
@@ -242,16 +218,6 @@ gone_to d = record { fit = refl; small = λ k e inside. absurd (omega (arith, in
 
 pub value_to : (d : ObjectDecl) (values rest : List ℕ) → SpellWords d.values values rest → SpellTo d (Value values) (1 ∷ rest)
 value_to d values rest s = record { fit = s.fit; small = s.small; spelled = ap (λ (b : List ℕ). 1 ∷ b) s.spelled }
-
--- behind a byte 1 stand the values
-abbrev pub IsValueTo : ObjectDecl → List ℕ → To → Type 0
-IsValueTo d rest Gone = ⊥
-IsValueTo d rest (Value values) = SpellWords d.values values rest
-
-pub to_value : (d : ObjectDecl) (to : To) (rest : List ℕ) → SpellTo d to (1 ∷ rest) → IsValueTo d rest to
-to_value d Gone rest s = absurd (omega (arith, ap (λ (b : List ℕ). get_or b 0 0) s.spelled))
-to_value d (Value values) rest s =
-    record { fit = s.fit; small = s.small; spelled = ap (λ (b : List ℕ). drop 1 b) s.spelled }
 
 pub value_once : (d : ObjectDecl) (values rest : List ℕ) (to : To) → SpellWords d.values values rest → SpellTo d to (1 ∷ rest)
     → Some (Value values) ≡ Some to
@@ -359,20 +325,14 @@ stage_back objects bytes u (Stage v) one back s =
     back v (record { declared = s.declared; small = s.small; spelled = rest_is bytes (update_bytes v) 1 s.spelled }) in
     let same : u ≡ v = cc in
     ap (λ (w : Update). Some (Stage w)) same
-stage_back objects bytes u On one back s = absurd (omega (arith, one, ap (λ (b : List ℕ). get_or b 0 0) s.spelled))
-stage_back objects bytes u (Main v) one back s = absurd (omega (arith, one, ap (λ (b : List ℕ). get_or b 0 0) s.spelled))
-stage_back objects bytes u Off one back s = absurd (omega (arith, one, ap (λ (b : List ℕ). get_or b 0 0) s.spelled))
-stage_back objects bytes u (Clear object key) one back s = absurd (omega (arith, one, ap (λ (b : List ℕ). get_or b 0 0) s.spelled))
+stage_back objects bytes u _ one back s = absurd (omega (arith, one, ap (λ (b : List ℕ). get_or b 0 0) s.spelled))
 
 pub main_back : (objects : List ObjectDecl) (bytes : List ℕ) (u : Update) (command : Command) → get_or bytes 0 0 ≡ 3
     → ((v : Update) → SpellUpdate objects v (take (length bytes - 1) (drop 1 bytes)) → Some u ≡ Some v)
     → AreBytesOf objects command bytes → Some (Main u) ≡ Some command
-main_back objects bytes u (Stage v) three back s = absurd (omega (arith, three, ap (λ (b : List ℕ). get_or b 0 0) s.spelled))
-main_back objects bytes u On three back s = absurd (omega (arith, three, ap (λ (b : List ℕ). get_or b 0 0) s.spelled))
 main_back objects bytes u (Main v) three back s =
     let both : Some u ≡ Some v =
     back v (record { declared = s.declared; small = s.small; spelled = rest_is bytes (update_bytes v) 3 s.spelled }) in
     let same : u ≡ v = cc in
     ap (λ (w : Update). Some (Main w)) same
-main_back objects bytes u Off three back s = absurd (omega (arith, three, ap (λ (b : List ℕ). get_or b 0 0) s.spelled))
-main_back objects bytes u (Clear object key) three back s = absurd (omega (arith, three, ap (λ (b : List ℕ). get_or b 0 0) s.spelled))
+main_back objects bytes u _ three back s = absurd (omega (arith, three, ap (λ (b : List ℕ). get_or b 0 0) s.spelled))

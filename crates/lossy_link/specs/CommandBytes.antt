@@ -42,10 +42,9 @@ bytes_of (Clear object key) = 5 ∷ key_bytes object key
 -- the object that the command names, if it names one, has a number below this
 abbrev pub NamesBelow : ℕ → Command → Type 0
 NamesBelow most (Stage update) = update.object < most
-NamesBelow most On = Unit {0}
 NamesBelow most (Main update) = update.object < most
-NamesBelow most Off = Unit {0}
 NamesBelow most (Clear object key) = object < most
+NamesBelow most _ = Unit {0}
 
 -- ---- the commands that are read
 
@@ -56,10 +55,9 @@ numbers_to (Value values) = values
 -- the numbers of a command's key and values
 abbrev pub numbers_of : Command → List ℕ
 numbers_of (Stage update) = update.key ++ numbers_to update.to
-numbers_of On = []
 numbers_of (Main update) = update.key ++ numbers_to update.to
-numbers_of Off = []
 numbers_of (Clear object key) = key
+numbers_of _ = []
 
 -- eight bytes hold them
 abbrev pub AreWords : List ℕ → Type 0
@@ -69,12 +67,11 @@ AreWords numbers = All (λ n. n < 2 ^ 64) numbers
 abbrev pub IsOfObjects : List ObjectDecl → Command → Type 0
 IsOfObjects objects (Stage u) =
     (d : ObjectDecl) × (slice_get objects u.object ≡ Some d) × IsTrue (fits_update d u)
-IsOfObjects objects On = Unit {0}
 IsOfObjects objects (Main u) =
     (d : ObjectDecl) × (slice_get objects u.object ≡ Some d) × IsTrue (fits_update d u)
-IsOfObjects objects Off = Unit {0}
 IsOfObjects objects (Clear object key) =
     (d : ObjectDecl) × (slice_get objects object ≡ Some d) × IsTrue (have_widths d.keys key)
+IsOfObjects objects _ = Unit {0}
 
 -- the bytes are those of a command of these objects
 pub record AreBytesOf (objects : List ObjectDecl) (command : Command) (bytes : List ℕ) : Type 0 where

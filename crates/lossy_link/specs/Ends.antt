@@ -1,7 +1,7 @@
 -- The two ends of a link at work, and the bytes between them.
 use Rattle.std.specs.Prelude.{ℕ, Bool, List, [], ◌∷◌, ◌++◌, map, Option, Some, None, slice_get}
 use Rattle.lossy_link.specs.declared.answers.Took.{Took}
-use Rattle.lossy_link.specs.declared.answers.Took.TheVariants.{New, Again, Early, Malformed}
+use Rattle.lossy_link.specs.declared.answers.Took.TheVariants.{New, Again}
 use Rattle.lossy_link.specs.declared.receiver.Delivered.{Delivered}
 use Rattle.lossy_link.specs.Datagrams.{datagram, number_bytes}
 use Rattle.lossy_link.specs.Sender.{Sender, first_sender, given, item_at, unknown, datagram_of, after_confirm}
@@ -28,8 +28,7 @@ ends_sent e (Some number) = record e { datagrams = e.datagrams ++ datagram_of e.
 abbrev pub confirmations_of : Took → List (List ℕ)
 confirmations_of (New number) = number_bytes number ∷ []
 confirmations_of (Again number) = number_bytes number ∷ []
-confirmations_of (Early number) = []
-confirmations_of Malformed = []
+confirmations_of _ = []
 
 -- these bytes are taken
 abbrev pub ends_arrived : Ends → Option (List ℕ) → Ends

@@ -39,9 +39,7 @@ with_pair r number item =
 -- a new item is delivered, and nothing else is
 abbrev pub with_item : Receiver → List ℕ → Took → Receiver
 with_item r item (New number) = with_pair r number item
-with_item r item (Again number) = r
-with_item r item (Early number) = r
-with_item r item Malformed = r
+with_item r item _ = r
 
 -- what a datagram leaves
 abbrev pub after_take : Receiver → List ℕ → Receiver

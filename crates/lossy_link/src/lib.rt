@@ -4,7 +4,6 @@
 
 mod answers;
 mod command;
-mod laws;
 mod marks;
 mod number;
 mod numbers;
@@ -13,6 +12,5 @@ mod sender;
 
 pub use answers::{Confirm, Took};
 pub use command::{read_command, write_command};
-pub use laws::{ends_are_those_of_the_link, links_are_faithful, one_step_more};
 pub use receiver::{Delivered, LinkReceiver};
 pub use sender::LinkSender;

@@ -1,37 +1,34 @@
 -- Lists of numbers in which none stands twice.
-use Rattle.std.proofs.Common.{◌≡◌, ℕ, zero, suc, Bool, true, false, not, ◌||◌, cond, List, [], ◌∷◌, ◌++◌, refl, sym, ap, ◌∙◌, subst, Some, true≢false}
+use Rattle.std.proofs.Common.{◌≡◌, ℕ, zero, suc, Bool, true, false, not, ◌&&◌, ◌||◌, cond, List, [], ◌∷◌, ◌++◌, refl, sym, ap, ◌∙◌, subst, Some, true≢false}
 use Rattle.std.specs.Prelude.{◌==◌, slice_get}
 use Rattle.std.specs.List.{filter, remove}
-use Rattle.std.proofs.lemmas.Bool.{cond-false, cond-true, eq-eqb, ne_eqb, or_left, or_parts, or_right}
+use Rattle.std.proofs.lemmas.Bool.{and_right, cond-false, cond-true, eq-eqb, eqb-true, ne_eqb, or_left, or_parts, or_right}
 use Rattle.lossy_link.specs.Link.{is_among}
 use Rattle.lossy_replay.specs.Linked.{without}
-
-or_none : (b : Bool) → (b || false) ≡ b
-or_none true = refl
-or_none false = refl
-
-or_assoc : (a b c : Bool) → ((a || b) || c) ≡ (a || (b || c))
-or_assoc true b c = refl
-or_assoc false b c = refl
-
-pub among_push : (xs : List ℕ) (n m : ℕ) → is_among (xs ++ n ∷ []) m ≡ (is_among xs m || (n == m))
-among_push [] n m = or_none (n == m)
-among_push (x ∷ xs) n m = ap (λ b. (x == m) || b) (among_push xs n m) ∙ sym (or_assoc (x == m) (is_among xs m) (n == m))
+use Rattle.lossy_link.proofs.Among.{among_push}
 
 pub among_there : (xs : List ℕ) (j n : ℕ) → slice_get xs j ≡ Some n → is_among xs n ≡ true
 among_there [] j n is = absurd cc
 among_there (x ∷ xs) zero n is = let same : x ≡ n = cc in or_left (x == n) (is_among xs n) (eq-eqb x n same)
 among_there (x ∷ xs) (suc j) n is = or_right (x == n) (is_among xs n) (among_there xs j n is)
 
-among_kept : (p : ℕ → Bool) (xs : List ℕ) (n : ℕ) → is_among xs n ≡ false → is_among (filter p xs) n ≡ false
-among_kept p [] n fails = refl
-among_kept p (x ∷ xs) n fails =
-    let parts = or_parts (x == n) (is_among xs n) fails in
-    let rest = among_kept p xs n parts.1 in
-    elim (p x) as (λ b. is_among (cond b (x ∷ filter p xs) (filter p xs)) n ≡ false) [
-      | true ↦ ap (λ b. b || is_among (filter p xs) n) parts.0 ∙ rest
-      | false ↦ rest
+kept_case : (keeps passes here there kept : Bool) → (here ≡ true → keeps ≡ passes) → kept ≡ (there && passes)
+    → cond keeps (here || kept) kept ≡ ((here || there) && passes)
+kept_case true passes true there kept same is = same refl
+kept_case false true true there kept same is = absurd (true≢false (sym (same refl)))
+kept_case false false true there kept same is = is ∙ and_right there false refl
+kept_case true passes false there kept same is = is
+kept_case false passes false there kept same is = is
+
+-- what a test keeps is what stands there and passes it
+pub among_filter : (p : ℕ → Bool) (xs : List ℕ) (n : ℕ) → is_among (filter p xs) n ≡ (is_among xs n && p n)
+among_filter p [] n = refl
+among_filter p (x ∷ xs) n =
+    elim (p x) as (λ b. is_among (cond b (x ∷ filter p xs) (filter p xs)) n ≡ cond b ((x == n) || is_among (filter p xs) n) (is_among (filter p xs) n)) [
+      | true ↦ refl
+      | false ↦ refl
     ]
+    ∙ kept_case (p x) (p n) (x == n) (is_among xs n) (is_among (filter p xs) n) (λ here. ap p (eqb-true x n here)) (among_filter p xs n)
 
 -- no number stands twice
 abbrev pub AreApart : List ℕ → Type 0
@@ -42,7 +39,7 @@ pub filter_apart : (p : ℕ → Bool) (xs : List ℕ) → AreApart xs → AreApa
 filter_apart p [] apart = tt
 filter_apart p (x ∷ xs) apart =
     elim (p x) as (λ b. AreApart (cond b (x ∷ filter p xs) (filter p xs))) [
-      | true ↦ (among_kept p xs x apart.0, filter_apart p xs apart.1)
+      | true ↦ (among_filter p xs x ∙ ap (λ b. b && p x) apart.0, filter_apart p xs apart.1)
       | false ↦ filter_apart p xs apart.1
     ]
 

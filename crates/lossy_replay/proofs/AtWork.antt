@@ -11,15 +11,14 @@ use Rattle.lossy_link.specs.declared.answers.Took.TheVariants.{New, Again, Early
 use Rattle.lossy_link.specs.declared.receiver.Delivered.{Delivered}
 use Rattle.lossy_link.specs.Datagrams.{datagram, item_in, number_bytes}
 use Rattle.lossy_link.specs.Ends.{Ends, confirmations_of, ends_arrived, ends_confirmed, ends_of, pair_of, receiver_of, sender_of}
-use Rattle.lossy_link.specs.Laws.{IsFaithful, IsOneStep}
-use Rattle.lossy_link.specs.Link.{Link, LinkStep, arrive, back_after, confirm, give, got_after, is_among, is_due, link_step, send, with_arrived, with_confirmed, with_sent}
+use Rattle.lossy_link.proofs.Laws.{one_step_more}
+use Rattle.lossy_link.specs.Laws.{IsFaithful}
+use Rattle.lossy_link.specs.Link.{Link, arrive, back_after, confirm, give, got_after, is_among, is_due, link_step, send, with_arrived, with_confirmed, with_sent}
 use Rattle.lossy_link.specs.Receiver.{Receiver, after_take, take_answer, with_item}
 use Rattle.lossy_link.specs.Sender.{Sender, after_confirm, datagram_of, given, item_at, unknown}
 use Rattle.lossy_replay.specs.Lines.{IsAtWork, delivered_by, link_of}
 use Rattle.lossy_replay.specs.declared.line.Line.{Line}
-
-abbrev pub StepLaw : Type 0
-StepLaw = (l : Link) (step : LinkStep) → IsFaithful l → length (link_step l step).items < 2 ^ 32 → IsOneStep l step
+use Rattle.lemmas.proofs.Lists.{get_past, get_pushed}
 
 -- what is read at a place
 pub read_at : (xs ys : List ℕ) (j n : ℕ) → ys ≡ xs → true ≡ nat_lt j (length ys) → n ≡ get_or ys j n → slice_get xs j ≡ Some n
@@ -61,14 +60,15 @@ work_of line l sender receiver sent back faithful few =
 
 -- ---- one more item
 
-pub after_give : StepLaw → (line new : Line) (item : List ℕ) → IsAtWork line → length line.sender.items < 2 ^ 32 - 1
-    → new.sender ≡ given line.sender item → new.receiver ≡ line.receiver → new.sent.items ≡ line.sent.items
-    → new.back.items ≡ line.back.items → IsWorkOf new (link_step (link_of line) (give item))
-after_give law line new item w few sender receiver sent back =
+pub after_give : (line new : Line) (item : List ℕ) → IsAtWork line → length line.sender.items < 2 ^ 32 - 1
+    → new ≡ record line { sender = new.sender } → new.sender ≡ given line.sender item → IsWorkOf new (link_step (link_of line) (give item))
+after_give line new item w few is sender =
     let l = link_of line in
     let short : length (l.items ++ item ∷ []) < 2 ^ 32 = omega (arith, few, length_push l.items item) in
-    let one = law l (give item) w.faithful short in
-    work_of new (link_step l (give item)) sender (receiver ∙ (w.receiver ∙ ap (λ (e : Ends). e.receiver) one.ends)) sent back one.faithful short
+    let one = one_step_more l (give item) w.faithful short in
+    subst (λ (m : Line). IsWorkOf m (link_step l (give item))) (sym is)
+    (work_of (record line { sender = new.sender }) (link_step l (give item)) sender (w.receiver ∙ ap (λ (e : Ends). e.receiver) one.ends) refl refl
+    one.faithful short)
 
 -- ---- a datagram is sent
 
@@ -76,19 +76,15 @@ after_give law line new item w few sender receiver sent back =
 abbrev pub unknown_is : Line → ℕ → ℕ → Type 0
 unknown_is line j n = slice_get (unknown line.sender.items line.sender.known) j ≡ Some n
 
-pub after_transmit : StepLaw → (line new : Line) (j n : ℕ) → IsAtWork line → unknown_is line j n
-    → new.sender ≡ line.sender → new.receiver ≡ line.receiver → new.sent.items ≡ line.sent.items ++ n ∷ []
-    → new.back.items ≡ line.back.items → IsWorkOf new (link_step (link_of line) (send j))
-after_transmit law line new j n w is sender receiver sent back =
+pub after_transmit : (line new : Line) (j n : ℕ) → IsAtWork line → unknown_is line j n → new ≡ record line { sent = new.sent }
+    → new.sent.items ≡ line.sent.items ++ n ∷ [] → IsWorkOf new (link_step (link_of line) (send j))
+after_transmit line new j n w is new_is sent =
     let l = link_of line in
     let step : link_step l (send j) ≡ with_sent l (Some n) = ap (with_sent l) is in
     let short : length (link_step l (send j)).items < 2 ^ 32 = subst (λ (m : Link). length m.items < 2 ^ 32) (sym step) w.few in
-    let one = law l (send j) w.faithful short in
-    subst (IsWorkOf new) (sym step) (work_of new (with_sent l (Some n)) sender (receiver ∙ w.receiver) sent back
-    (subst IsFaithful step one.faithful) w.few)
-
-pub after_none : (line : Line) (l : Link) (same : link_of line ≡ l) → IsAtWork line → IsWorkOf line l
-after_none line l same w = record { link = same; at_work = w }
+    let one = one_step_more l (send j) w.faithful short in
+    subst (λ (m : Line). IsWorkOf m (link_step l (send j))) (sym new_is) (subst (IsWorkOf (record line { sent = new.sent })) (sym step)
+    (work_of (record line { sent = new.sent }) (with_sent l (Some n)) refl w.receiver sent refl (subst IsFaithful step one.faithful) w.few))
 
 -- ---- a datagram arrives
 
@@ -118,14 +114,6 @@ too_short back n is =
       length-map back number_bytes,
     ))
 
-pub last_there : (got : List ℕ) (n : ℕ) → slice_get (got ++ n ∷ []) (length got) ≡ Some n
-last_there [] n = refl
-last_there (x ∷ got) n = last_there got n
-
-pub past : (got : List ℕ) → slice_get got (length got) ≡ None
-past [] = refl
-past (x ∷ got) = past got
-
 back_of : (back : List ℕ) (n : ℕ) (b : Bool) (took : Took)
     → map number_bytes back ++ confirmations_of took ≡ map number_bytes (if b then back ++ n ∷ [] else back)
     → back ++ told_back took n ≡ (if b then back ++ n ∷ [] else back)
@@ -142,31 +130,31 @@ back_of back n false Malformed is = append-nil back
 got_of : (got : List ℕ) (n : ℕ) (b : Bool) (took : Took) (r : Receiver) (item : List ℕ) → length r.pairs ≡ length got
     → length (with_item r item took).pairs ≡ length (if b then got ++ n ∷ [] else got)
     → slice_get (if b then got ++ n ∷ [] else got) (length got) ≡ delivered_in took n
-got_of got n true (New m) r item same is = last_there got n
+got_of got n true (New m) r item same is = get_pushed got n
 got_of got n false (New m) r item same is = absurd (omega (arith, same, is, length-append r.pairs (record { number = m; item = item } ∷ [])))
 got_of got n true (Again m) r item same is = absurd (omega (arith, same, is, length_push got n))
-got_of got n false (Again m) r item same is = past got
+got_of got n false (Again m) r item same is = get_past got
 got_of got n true (Early m) r item same is = absurd (omega (arith, same, is, length_push got n))
-got_of got n false (Early m) r item same is = past got
+got_of got n false (Early m) r item same is = get_past got
 got_of got n true Malformed r item same is = absurd (omega (arith, same, is, length_push got n))
-got_of got n false Malformed r item same is = past got
+got_of got n false Malformed r item same is = get_past got
 
 pub record HasArrived (line new : Line) (j n : ℕ) (took : Took) : Type 0 where
   pub work : IsWorkOf new (link_step (link_of line) (arrive j))
   pub delivered : delivered_by (link_of line) (link_of new) ≡ delivered_in took n
 
-pub after_deliver : StepLaw → (line new : Line) (j n : ℕ) (took : Took) (bytes : List ℕ) → IsAtWork line
+pub after_deliver : (line new : Line) (j n : ℕ) (took : Took) (bytes : List ℕ) → IsAtWork line
     → slice_get line.sent.items j ≡ Some n → bytes ≡ datagram_of line.sender n → took ≡ take_answer line.receiver bytes
-    → new.sender ≡ line.sender → new.receiver ≡ after_take line.receiver bytes → new.sent.items ≡ line.sent.items
+    → new ≡ record line { receiver = new.receiver; back = new.back } → new.receiver ≡ after_take line.receiver bytes
     → new.back.items ≡ line.back.items ++ told_back took n → HasArrived line new j n took
-after_deliver law line new j n took bytes w is made answer sender receiver sent back =
+after_deliver line new j n took bytes w is made answer new_is receiver back =
     let l = link_of line in
     let e = ends_of l in
     let l' = with_arrived l (Some n) in
     let sends = datagram n (item_at l.items n) in
     let step : link_step l (arrive j) ≡ l' = ap (with_arrived l) is in
     let short : length (link_step l (arrive j)).items < 2 ^ 32 = subst (λ (m : Link). length m.items < 2 ^ 32) (sym step) w.few in
-    let one = law l (arrive j) w.faithful short in
+    let one = one_step_more l (arrive j) w.faithful short in
     let found : slice_get e.datagrams j ≡ Some sends =
     slice_get-map (λ m. datagram m (item_at l.items m)) l.sent j ∙ ap (option_map (λ m. datagram m (item_at l.items m))) is in
     let ends : ends_arrived e (Some sends) ≡ ends_of l' = sym (ap (ends_arrived e) found) ∙ (one.ends ∙ ap ends_of step) in
@@ -177,7 +165,8 @@ after_deliver law line new j n took bytes w is made answer sender receiver sent 
     let confirmed : map number_bytes l.back ++ confirmations_of took ≡ map number_bytes (back_after l n) =
     ap (λ (t : Took). map number_bytes l.back ++ confirmations_of t) told ∙ ap (λ (x : Ends). x.confirmations) ends in
     let behind : new.back.items ≡ l'.back = back ∙ back_of l.back n (is_among (got_after l n) n) took confirmed in
-    let work = work_of new l' sender (receiver ∙ taken) sent behind (subst IsFaithful step one.faithful) w.few in
+    let work = subst (λ (m : Line). IsWorkOf m l') (sym new_is) (work_of (record line { receiver = new.receiver; back = new.back }) l' refl
+    (receiver ∙ taken) refl behind (subst IsFaithful step one.faithful) w.few) in
     let pairs : length line.receiver.pairs ≡ length l.got = sym (length-map line.receiver.pairs (λ (p : Delivered). p.number)) in
     let grown : length (with_item (receiver_of l) (item_in sends) took).pairs ≡ length l'.got =
     ap (λ (t : Took). length (with_item (receiver_of l) (item_in sends) t).pairs) told
@@ -194,19 +183,20 @@ pub number_told : (n : ℕ) → to_be_bytes w32 n ≡ number_bytes n
 unfolding number_bytes
 number_told n = refl
 
-pub after_known : StepLaw → (line new : Line) (j n : ℕ) → IsAtWork line → slice_get line.back.items j ≡ Some n
-    → new.sender ≡ after_confirm line.sender (number_bytes n) → new.receiver ≡ line.receiver → new.sent.items ≡ line.sent.items
-    → new.back.items ≡ line.back.items → IsWorkOf new (link_step (link_of line) (confirm j))
-after_known law line new j n w is sender receiver sent back =
+pub after_known : (line new : Line) (j n : ℕ) → IsAtWork line → slice_get line.back.items j ≡ Some n
+    → new ≡ record line { sender = new.sender } → new.sender ≡ after_confirm line.sender (number_bytes n)
+    → IsWorkOf new (link_step (link_of line) (confirm j))
+after_known line new j n w is new_is sender =
     let l = link_of line in
     let e = ends_of l in
     let l' = with_confirmed l (Some n) in
     let step : link_step l (confirm j) ≡ l' = ap (with_confirmed l) is in
     let short : length (link_step l (confirm j)).items < 2 ^ 32 = subst (λ (m : Link). length m.items < 2 ^ 32) (sym step) w.few in
-    let one = law l (confirm j) w.faithful short in
+    let one = one_step_more l (confirm j) w.faithful short in
     let found : slice_get e.confirmations j ≡ Some (number_bytes n) =
     slice_get-map number_bytes l.back j ∙ ap (option_map number_bytes) is in
     let ends : ends_confirmed e (Some (number_bytes n)) ≡ ends_of l' =
     sym (ap (ends_confirmed e) found) ∙ (one.ends ∙ ap ends_of step) in
-    subst (IsWorkOf new) (sym step) (work_of new l' (sender ∙ ap (λ (x : Ends). x.sender) ends)
-    (receiver ∙ (w.receiver ∙ ap (λ (x : Ends). x.receiver) ends)) sent back (subst IsFaithful step one.faithful) w.few)
+    subst (λ (m : Line). IsWorkOf m (link_step l (confirm j))) (sym new_is) (subst (IsWorkOf (record line { sender = new.sender })) (sym step)
+    (work_of (record line { sender = new.sender }) l' (sender ∙ ap (λ (x : Ends). x.sender) ends) (w.receiver ∙ ap (λ (x : Ends). x.receiver) ends)
+    refl refl (subst IsFaithful step one.faithful) w.few))

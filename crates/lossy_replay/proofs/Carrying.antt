@@ -11,7 +11,8 @@ use Rattle.lossy_replay.specs.Ways.{IsWay}
 use Rattle.lossy_replay.specs.declared.line.Line.{Line}
 use Rattle.lossy_replay.specs.declared.links.Links.{Links}
 use Rattle.lossy_replay.specs.declared.way.Way.{Way}
-use Rattle.lossy_replay.proofs.OnWays.{arrived_items}
+use Rattle.lossy_link.proofs.Faithful.{arrived_items}
+use Rattle.lossy_replay.proofs.GoingOn.{few_more}
 
 -- how many were delivered, by the link
 got_count : (line : Line) → length (link_of line).got ≡ length line.receiver.pairs
@@ -38,10 +39,6 @@ few_arrived n j l old new few was is =
       sent = omega (arith, few.sent, ap (λ (m : Link). length m.sent) was, ap (λ (m : Link). length m.sent) is, ap (λ (ns : List ℕ). length ns) (arrived_sent l o));
       got = omega (arith, few.got, got_count old, got_count new, ap (λ (m : Link). length m.got) was, ap (λ (m : Link). length m.got) is, got_more l o);
     }
-
--- so it has at most so many of a step more
-pub few_more : (n : ℕ) (line : Line) → HasFew n line → HasFew (n + 1) line
-few_more n line few = record { items = omega (arith, few.items); sent = omega (arith, few.sent); got = omega (arith, few.got) }
 
 pub up_arrived : (n j : ℕ) (l : Linked) (links : Links) (up : Way) → AreLinks n l links → IsWay (link_step l.up (arrive j)) l.ran up
     → AreLinks (n + 1) (record l { up = link_step l.up (arrive j) }) (record links { up = up })

@@ -1,11 +1,10 @@
 -- What an event gives to the links is what the course has then.
-use Rattle.std.proofs.Common.{◌≡◌, ◌≤◌, ◌+◌, ◌-◌, ℕ, suc, List, [], ◌∷◌, ◌++◌, length, map, drop, refl, sym, ap, ◌∙◌, Some, None, arith, append-nil}
-use Rattle.std.specs.Prelude.{Option, nat_lt, slice_get}
+use Rattle.std.proofs.Common.{◌≡◌, ◌≤◌, ◌+◌, ◌-◌, ℕ, suc, List, [], ◌∷◌, ◌++◌, length, map, drop, refl, sym, ap, ◌∙◌, Some, arith, append-nil}
+use Rattle.std.specs.Prelude.{nat_lt, slice_get}
 use Rattle.std.proofs.lemmas.Bool.{cond-false, cond-true, le-ltb, lt-ltb}
 use Rattle.std.proofs.lemmas.List.{drop_at, length-map, length_push}
 use Rattle.run_model.specs.declared.link_event.LinkEvent.{LinkEvent}
 use Rattle.replay_state.specs.Answers.{Setup}
-use Rattle.replay_state.specs.Journal.{Call, UpAnswer, ends_up, or_else, up_answer}
 use Rattle.lossy_replay.specs.Linked.{Course as World, Linked, behind, linked_step, linked_steps}
 use Rattle.lossy_replay.specs.Linking.{newest}
 
@@ -17,19 +16,6 @@ one_event_more setup w l [] event = refl
 one_event_more setup w l (first ∷ schedule) event = one_event_more setup w (linked_step setup w l first) schedule event
 
 -- ---- answers stay
-
-still : {X : Type 0} (o other : Option X) (x : X) → o ≡ Some x → or_else o other ≡ Some x
-still None other x is = absurd cc
-still (Some y) other x is = is
-
-pub up_stays : (calls more : List Call) (n : ℕ) (answer : UpAnswer) → up_answer calls n ≡ Some answer
-    → up_answer (calls ++ more) n ≡ Some answer
-up_stays [] more n answer is = absurd cc
-up_stays (call ∷ calls) more n answer is =
-    elim (ends_up n call) as (λ (o : Option UpAnswer). or_else o (up_answer calls n) ≡ Some answer → or_else o (up_answer (calls ++ more) n) ≡ Some answer) [
-      | None ↦ λ there. up_stays calls more n answer there
-      | Some one ↦ λ here. here
-    ] is
 
 -- ---- the frame that stands last
 

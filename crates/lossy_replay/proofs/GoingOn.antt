@@ -8,12 +8,12 @@ use Rattle.run_model.specs.declared.event.Event.{Event}
 use Rattle.run_model.specs.declared.link_event.Link.{Link as LinkName}
 use Rattle.run_model.specs.declared.link_event.Link.TheVariants as names
 use Rattle.run_model.specs.declared.link_event.LinkEvent.{LinkEvent}
-use Rattle.run_model.specs.declared.link_event.LinkEvent.TheVariants.{Transmit, Deliver, Confirm}
 use Rattle.switch_ir.specs.Port.{PortState}
 use Rattle.switch_ir.specs.Tables.{Told}
+use Rattle.replay_state.proofs.Laws.{a_run_is_answered_by_its_calls-state_stays as state_stays}
 use Rattle.replay_state.specs.Journal.{Call}
 use Rattle.replay_state.specs.State.{State}
-use Rattle.replay_contracts.specs.Given.{Given, setup_for}
+use Rattle.replay_contracts.specs.Given.{Given, setup_for, whole}
 use Rattle.replay_contracts.specs.Replay.{IsReplay}
 use Rattle.replay_course.specs.declared.course.Course.{Course}
 use Rattle.lossy_replay.specs.Linked.{Course as World, Linked, at_link, first_linked, linked_step}
@@ -23,12 +23,9 @@ use Rattle.lossy_replay.specs.declared.line.Line.{Line}
 use Rattle.lossy_replay.specs.declared.links.Links.{Links}
 use Rattle.lossy_replay.proofs.Giving.{one_event_more}
 use Rattle.lossy_replay.proofs.Placed.{placed_still}
-use Rattle.lossy_replay.proofs.OnWays.{arrived_items, confirmed_items, sent_items}
+use Rattle.lossy_link.proofs.Faithful.{arrived_items, confirmed_items, sent_items}
 
-one_longer : (schedule : List LinkEvent) (event : LinkEvent) → length (schedule ++ event ∷ []) ≡ length schedule + 1
-one_longer schedule event = length_push schedule event
-
-few_more : (n : ℕ) (line : Line) → HasFew n line → HasFew (n + 1) line
+pub few_more : (n : ℕ) (line : Line) → HasFew n line → HasFew (n + 1) line
 few_more n line few = record { items = omega (arith, few.items); sent = omega (arith, few.sent); got = omega (arith, few.got) }
 
 -- links that stay as they are
@@ -87,22 +84,28 @@ placed_now x schedule links c port linking more =
     subst (λ (l : Linked). ArePlaced (world_by x (linking.calls ++ more)) l) (linking.stands more)
     (linking.placed more schedule [] (sym (append-nil schedule)))
 
+pub stays_at : (x : Given) (events : List Event) (calls more : List Call) (st : State) (port : PortState)
+    → IsReplay x events calls st port → (world_by x (calls ++ more)).at events ≡ st
+stays_at x events calls more st port replay = sym (state_stays (setup_for x) (whole x) x.packets events calls more st replay.answered)
+
+pub told_at : (x : Given) (events : List Event) (calls : List Call) (st : State) (port : PortState) (tables : Told)
+    → IsReplay x events calls st port → port.told ≡ Some tables → (world_of x).at events ≡ st
+told_at x events calls st port tables replay is = sym (replay.told tables is).tied.same
+
 -- an event that no event of the world comes of
 pub stays_in_world : (x : Given) (schedule : List LinkEvent) (event : LinkEvent) (links next : Links) (c : Course) (port : PortState)
     (linking : IsLinking x schedule links c port) (l' : Linked)
     → ((w : World) → w.at linking.linked.events ≡ linking.st → linked_step (setup_for x) w linking.linked event ≡ l')
     → l'.events ≡ linking.linked.events → HasItems x l' linking.calls linking.st → AreLinks (length schedule + 1) l' next
-    → ((more : List Call) → (world_by x (linking.calls ++ more)).at linking.linked.events ≡ linking.st)
-    → ((tables : Told) → port.told ≡ Some tables → (world_of x).at linking.linked.events ≡ linking.st)
     → ((w : World) → ArePlaced w linking.linked → ArePlaced w l')
     → IsLinking x (schedule ++ event ∷ []) next c port
-stays_in_world x schedule event links next c port linking l' steps events items are stays same placed =
+stays_in_world x schedule event links next c port linking l' steps events items are placed =
     let setup = setup_for x in
-    let long = one_longer schedule event in
+    let long = length_push schedule event in
     let stands : (more : List Call) → linked_by x (linking.calls ++ more) (schedule ++ event ∷ []) ≡ l' = λ more.
     one_event_more setup (world_by x (linking.calls ++ more)) first_linked schedule event
     ∙ (ap (λ (l : Linked). linked_step setup (world_by x (linking.calls ++ more)) l event) (linking.stands more)
-    ∙ steps (world_by x (linking.calls ++ more)) (stays more)) in
+    ∙ steps (world_by x (linking.calls ++ more)) (stays_at x linking.linked.events linking.calls more linking.st port linking.replay)) in
     record {
       plain = linking.plain;
       calls = linking.calls;
@@ -122,7 +125,7 @@ stays_in_world x schedule event links next c port linking l' steps events items 
       told = λ tables is.
           one_event_more setup (world_of x) first_linked schedule event
           ∙ (ap (λ (l : Linked). linked_step setup (world_of x) l event) (linking.told tables is)
-          ∙ steps (world_of x) (same tables is));
+          ∙ steps (world_of x) (told_at x linking.linked.events linking.calls linking.st port tables linking.replay is));
     }
 
 -- ---- an event of a link
@@ -154,41 +157,12 @@ events_stay change l names.Down = refl
 events_stay change l names.Ctl = refl
 events_stay change l names.Ack = refl
 
-abbrev pub Stays : (x : Given) (calls : List Call) (events : List Event) (st : State) → Type 0
-Stays x calls events st = (more : List Call) → (world_by x (calls ++ more)).at events ≡ st
-
-pub transmitted : (x : Given) (schedule : List LinkEvent) (name : LinkName) (j : ℕ) (links next : Links) (c : Course)
-    (port : PortState) (linking : IsLinking x schedule links c port) → Stays x linking.calls linking.linked.events linking.st
-    → ((tables : Told) → port.told ≡ Some tables → (world_of x).at linking.linked.events ≡ linking.st)
-    → AreLinks (length schedule + 1) (at_link (λ one. link_step one (send j)) linking.linked name) next
-    → IsLinking x (schedule ++ Transmit name j ∷ []) next c port
-transmitted x schedule name j links next c port linking stays same are =
-    let change : Link → Link = λ one. link_step one (send j) in
-    stays_in_world x schedule (Transmit name j) links next c port linking (at_link change linking.linked name) (λ w at. refl)
-    (events_stay change linking.linked name)
-    (items_stay change (λ l. send_items l j) x linking.linked name linking.calls linking.st linking.items) are stays same
-    (λ w. placed_still change (λ l. send_items l j) w linking.linked name (length schedule + 1) next are)
-
-pub delivered : (x : Given) (schedule : List LinkEvent) (name : LinkName) (j : ℕ) (links next : Links) (c : Course)
-    (port : PortState) (linking : IsLinking x schedule links c port) → Stays x linking.calls linking.linked.events linking.st
-    → ((tables : Told) → port.told ≡ Some tables → (world_of x).at linking.linked.events ≡ linking.st)
-    → AreLinks (length schedule + 1) (at_link (λ one. link_step one (arrive j)) linking.linked name) next
-    → IsLinking x (schedule ++ Deliver name j ∷ []) next c port
-delivered x schedule name j links next c port linking stays same are =
-    let change : Link → Link = λ one. link_step one (arrive j) in
-    stays_in_world x schedule (Deliver name j) links next c port linking (at_link change linking.linked name) (λ w at. refl)
-    (events_stay change linking.linked name)
-    (items_stay change (λ l. arrive_items l j) x linking.linked name linking.calls linking.st linking.items) are stays same
-    (λ w. placed_still change (λ l. arrive_items l j) w linking.linked name (length schedule + 1) next are)
-
-pub confirmed : (x : Given) (schedule : List LinkEvent) (name : LinkName) (j : ℕ) (links next : Links) (c : Course)
-    (port : PortState) (linking : IsLinking x schedule links c port) → Stays x linking.calls linking.linked.events linking.st
-    → ((tables : Told) → port.told ≡ Some tables → (world_of x).at linking.linked.events ≡ linking.st)
-    → AreLinks (length schedule + 1) (at_link (λ one. link_step one (confirm j)) linking.linked name) next
-    → IsLinking x (schedule ++ Confirm name j ∷ []) next c port
-confirmed x schedule name j links next c port linking stays same are =
-    let change : Link → Link = λ one. link_step one (confirm j) in
-    stays_in_world x schedule (Confirm name j) links next c port linking (at_link change linking.linked name) (λ w at. refl)
-    (events_stay change linking.linked name)
-    (items_stay change (λ l. confirm_items l j) x linking.linked name linking.calls linking.st linking.items) are stays same
-    (λ w. placed_still change (λ l. confirm_items l j) w linking.linked name (length schedule + 1) next are)
+-- a change of one link that leaves its items
+pub link_on : (change : Link → Link) → ((l : Link) → (change l).items ≡ l.items) → (x : Given) (schedule : List LinkEvent) (event : LinkEvent)
+    (name : LinkName) (links next : Links) (c : Course) (port : PortState) (linking : IsLinking x schedule links c port)
+    → ((w : World) → linked_step (setup_for x) w linking.linked event ≡ at_link change linking.linked name)
+    → AreLinks (length schedule + 1) (at_link change linking.linked name) next → IsLinking x (schedule ++ event ∷ []) next c port
+link_on change stays x schedule event name links next c port linking steps are =
+    stays_in_world x schedule event links next c port linking (at_link change linking.linked name) (λ w at. steps w)
+    (events_stay change linking.linked name) (items_stay change stays x linking.linked name linking.calls linking.st linking.items) are
+    (λ w. placed_still change stays w linking.linked name (length schedule + 1) next are)

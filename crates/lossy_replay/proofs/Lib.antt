@@ -4,7 +4,7 @@ mod AtWork
 mod Breaking
 mod Carrying
 mod Giving
-mod GoingOn
+pub mod GoingOn
 mod Items
 mod Noting
 mod OnWays

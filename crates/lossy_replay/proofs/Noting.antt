@@ -10,8 +10,9 @@ use Rattle.writeback_table.specs.declared.command.Command.{Command}
 use Rattle.run_model.specs.declared.event.Event.{Event}
 use Rattle.run_model.specs.declared.event.Event.TheVariants.{Admit, Stage, Serve, Send, Apply, Ack, Hold, Down}
 use Rattle.replay_state.specs.Answers.{Answers, Setup}
+use Rattle.replay_state.proofs.Laws.{passes_with_no_stages_end_at_once-fast as fast_step, passes_with_no_stages_end_at_once-slow as slow_step}
 use Rattle.replay_state.specs.Commands.{one_or_none}
-use Rattle.replay_state.specs.State.{Fast, State, Up, seen, store_at}
+use Rattle.replay_state.specs.State.{State, seen, store_at}
 use Rattle.replay_state.specs.Step.{applies, happens, idled, let_go, may_go, step, tick}
 use Rattle.replay_course.specs.declared.course.Course.{Course}
 use Rattle.lossy_replay.specs.Linked.{Course as World, Linked, behind, gives, given_all, let_by}
@@ -67,35 +68,19 @@ pub noted_is : (w : World) (l : Linked) (c : Course) (event : Event) (st next : 
 noted_is w l c Admit st next before is shows given =
     ap (λ (frames : List (List ℕ)). record l { up = given_all l.up frames })
     (sym (newest_up w c st next shows given) ∙ sym (ap (λ (n : ℕ). newest n c.up.items) is))
-noted_is w l c (Stage j) st next before is shows given = refl
-noted_is w l c (Serve j) st next before is shows given = refl
 noted_is w l c Send st next before is shows given =
     ap (λ (command : Option Command). record l { ctl = given_all l.ctl (map bytes_of (one_or_none command)) })
     (sym (last_is c.commit st next shows.batches shows.sent given))
-noted_is w l c Apply st next before is shows given = refl
-noted_is w l c Ack st next before is shows given = refl
 noted_is w l c (Hold j) st next before is shows given =
     ap (λ (frames : List (List ℕ)). record l { down = given_all l.down frames })
     (sym (one_newer (w.down next) c.down.items st.down 0 given.0 (omega arith) (shows.down ∙ given.1) shows.down_frames
     ∙ sym (ap (λ (ns : List ℕ). map (w.down next) (behind st.down ns)) given.1)))
-noted_is w l c (Down j) st next before is shows given = refl
+noted_is w l c event st next before is shows given = refl
 
--- ---- the steps
-
-abbrev pub FastLaw : Type 0
-FastLaw = (setup : Setup) (a : Answers) (st : State) (y : Verdict) → setup.pre_stages ≡ 0 → applies setup st Admit ≡ true
-    → a.pre (store_at st.stores (seen st)) (length st.progress) ≡ Some y
-    → step setup a st Admit ≡ record (tick st) { progress = st.progress ++ Fast (st.events + 1) (st.events + 1) (seen st) y ∷ [] }
-
-abbrev pub SlowLaw : Type 0
-SlowLaw = (setup : Setup) (a : Answers) (st : State) → setup.pre_stages ≡ 0 → applies setup st Admit ≡ true
-    → a.pre (store_at st.stores (seen st)) (length st.progress) ≡ None
-    → step setup a st Admit ≡ record (tick st) { up = st.up ++ length st.progress ∷ []; progress = st.progress ++ Up (st.events + 1) ∷ [] }
-
-admit_given : FastLaw → SlowLaw → (setup : Setup) (a : Answers) (st : State) (o : Option Verdict) → setup.pre_stages ≡ 0
+admit_given : (setup : Setup) (a : Answers) (st : State) (o : Option Verdict) → setup.pre_stages ≡ 0
     → applies setup st Admit ≡ true → a.pre (store_at st.stores (seen st)) (length st.progress) ≡ o → GoesUp st (step setup a st Admit)
-admit_given fast slow setup a st (Some y) none does is = inl (ap (λ (s : State). s.up) (fast setup a st y none does is))
-admit_given fast slow setup a st None none does is = inr (length st.progress, ap (λ (s : State). s.up) (slow setup a st none does is))
+admit_given setup a st (Some y) none does is = inl (ap (λ (s : State). s.up) (fast_step setup a st y none does is))
+admit_given setup a st None none does is = inr (length st.progress, ap (λ (s : State). s.up) (slow_step setup a st none does is))
 
 held_given : (st : State) (j known : ℕ) (o : Option (ℕ × ℕ)) → may_go known o ≡ true
     → (n : ℕ) × ((let_go (tick st) j o).down ≡ st.down ++ n ∷ [])
@@ -107,25 +92,21 @@ pub applied_step : (setup : Setup) (a : Answers) (st : State) (event : Event) �
 applied_step setup a st event does = cond-true (applies setup st event) (happens setup a (tick st) event) (idled (tick st)) does
 
 -- the event of the schedule, and the one of the world as which it is performed
-pub has_given : FastLaw → SlowLaw → (setup : Setup) (a : Answers) (l : Linked) (st : State) (event own : Event) → setup.pre_stages ≡ 0
+pub has_given : (setup : Setup) (a : Answers) (l : Linked) (st : State) (event own : Event) → setup.pre_stages ≡ 0
     → let_by l st event ≡ Some own → applies setup st own ≡ true → HasGiven event st (step setup a st own)
-has_given fast slow setup a l st Admit own none is does =
+has_given setup a l st Admit own none is does =
     let same : Admit ≡ own = cc in
     subst (λ e. GoesUp st (step setup a st e)) same
-    (admit_given fast slow setup a st (a.pre (store_at st.stores (seen st)) (length st.progress)) none
+    (admit_given setup a st (a.pre (store_at st.stores (seen st)) (length st.progress)) none
     (ap (applies setup st) same ∙ does) refl)
-has_given fast slow setup a l st (Stage j) own none is does = tt
-has_given fast slow setup a l st (Serve j) own none is does = tt
-has_given fast slow setup a l st Send own none is does =
+has_given setup a l st Send own none is does =
     let same : Send ≡ own = cc in
     subst (λ e. (step setup a st e).sent ≡ st.sent + 1) same
     (ap (λ (s : State). s.sent) (applied_step setup a st Send (ap (applies setup st) same ∙ does)))
-has_given fast slow setup a l st Apply own none is does = tt
-has_given fast slow setup a l st Ack own none is does = tt
-has_given fast slow setup a l st (Hold j) own none is does =
+has_given setup a l st (Hold j) own none is does =
     let same : Hold j ≡ own = cc in
     let may : applies setup st (Hold j) ≡ true = ap (applies setup st) same ∙ does in
     let given = held_given st j _ (slice_get st.held j) may in
     subst (λ e. (n : ℕ) × ((step setup a st e).down ≡ st.down ++ n ∷ [])) same
     (given.0, ap (λ (s : State). s.down) (applied_step setup a st (Hold j) may) ∙ given.1)
-has_given fast slow setup a l st (Down j) own none is does = tt
+has_given setup a l st event own none is does = tt

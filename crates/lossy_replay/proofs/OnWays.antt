@@ -1,22 +1,24 @@
 -- A way, call by call.
-use Rattle.std.proofs.Common.{◌≡◌, ◌<◌, ℕ, suc, Bool, true, false, not, ◌||◌, ◌&&◌, cond, List, [], ◌∷◌, ◌++◌, length, refl, sym, ap, ◌∙◌, subst, inl, inr, Some, None, arith, true≢false}
+use Rattle.std.proofs.Common.{◌≡◌, ◌<◌, ℕ, suc, Bool, true, false, not, ◌||◌, ◌&&◌, List, [], ◌∷◌, ◌++◌, length, refl, sym, ap, ◌∙◌, subst, inl, inr, Some, None, arith, true≢false}
 use Rattle.std.specs.Prelude.{◌==◌, Ok, Err, Option, if◌then◌else◌, slice_get}
-use Rattle.std.specs.List.{All, filter, range_with_len, remove}
+use Rattle.std.specs.List.{All, range_with_len, remove}
 use Rattle.std.specs.List.Sorted.{IsBinarySearchResult}
 use Rattle.std.specs.Ordering.{nat_cmp}
-use Rattle.std.proofs.lemmas.Bool.{cond-true, eqb-true, or_cases}
+use Rattle.std.proofs.lemmas.Bool.{cond-true, eqb-true, or_cases, false_from_ne_true}
 use Rattle.std.proofs.lemmas.List.{length_push}
 use Rattle.std.proofs.lemmas.List.Elements.{All-head, All-tail, filter-append}
 use Rattle.lossy_link.specs.Laws.{IsFaithful}
-use Rattle.lossy_link.specs.Link.{Link, arrive, confirm, give, is_among, link_step, send, with_arrived, with_confirmed, with_sent}
-use Rattle.lossy_link.specs.Sender.{unknown}
+use Rattle.lossy_link.specs.Link.{Link, arrive, give, is_among, link_step, with_arrived}
 use Rattle.lossy_replay.specs.Linked.{arrived, gone_on, place_in, place_of, standing, without}
 use Rattle.lossy_replay.specs.Lines.{IsAtWork, delivered_by, link_of}
 use Rattle.lossy_replay.specs.Ways.{IsWay}
 use Rattle.lossy_replay.specs.declared.way.Way.{Way}
-use Rattle.lossy_replay.proofs.Apart.{among_push, among_there, goes_at}
-use Rattle.lossy_replay.proofs.AtWork.{last_there, past}
-use Rattle.lossy_replay.proofs.Standing.{IsFoundAt, among_range, found_standing, missing_standing, one_stands, pairs_apart, passed, passes, range_apart}
+use Rattle.lossy_replay.proofs.Apart.{among_filter, among_there, goes_at}
+use Rattle.lemmas.proofs.Lists.{get_past, get_pushed}
+use Rattle.lemmas.proofs.Tests.{and_first, and_second}
+use Rattle.lossy_replay.proofs.Standing.{IsFoundAt, found_standing, missing_standing, one_stands, pairs_apart, range_apart}
+use Rattle.lossy_link.proofs.Among.{among_push, among_range}
+use Rattle.lossy_link.proofs.Faithful.{arrived_items}
 
 -- ---- what is delivered
 
@@ -28,10 +30,6 @@ below (x ∷ got) n count all is =
       | inr there ↦ below got n count (All-tail (λ m. m < count) x got all) there
     ]
 
-pub decide : (b : Bool) → (b ≡ true → ⊥) → b ≡ false
-decide true fails = absurd (fails refl)
-decide false fails = refl
-
 -- ---- one more item
 
 pub way_given : (l : Link) (gone : List ℕ) (way new : Way) (item : List ℕ) → IsWay l gone way → IsFaithful l
@@ -40,7 +38,7 @@ pub way_given : (l : Link) (gone : List ℕ) (way new : Way) (item : List ℕ) �
 way_given l gone way new item w faithful at_work link stand came =
     let count = length l.items in
     let fails : is_among gone count ≡ false =
-    decide (is_among gone count) (λ there. absurd (omega (arith, below l.got count count faithful.items (w.taken count there)))) in
+    false_from_ne_true (is_among gone count) (λ there. absurd (omega (arith, below l.got count count faithful.items (w.taken count there)))) in
     let long : suc count ≡ length (l.items ++ item ∷ []) = omega (arith, length_push l.items item) in
     record {
       at_work = at_work;
@@ -53,52 +51,7 @@ way_given l gone way new item w faithful at_work link stand came =
 
 -- ---- what leaves the items and what was delivered
 
-pub way_same : (l l' : Link) (gone : List ℕ) (way new : Way) → IsWay l gone way → IsAtWork new.line → link_of new.line ≡ l'
-    → l'.items ≡ l.items → l'.got ≡ l.got → new.standing.items ≡ way.standing.items → new.arrived.items ≡ way.arrived.items
-    → IsWay l' gone new
-way_same l l' gone way new w at_work link items got stand came = record {
-  at_work = at_work;
-  link = link;
-  stand = stand ∙ (w.stand ∙ ap (λ (xs : List (List ℕ)). without gone (range_with_len 0 (length xs))) (sym items));
-  came = came ∙ (w.came ∙ ap (without gone) (sym got));
-  taken = λ n there. ap (λ (ns : List ℕ). is_among ns n) got ∙ w.taken n there;
-}
-
-pub sent_items : (l : Link) (o : Option ℕ) → (with_sent l o).items ≡ l.items
-sent_items l None = refl
-sent_items l (Some n) = refl
-
-sent_got : (l : Link) (o : Option ℕ) → (with_sent l o).got ≡ l.got
-sent_got l None = refl
-sent_got l (Some n) = refl
-
-pub way_sent : (l : Link) (gone : List ℕ) (way new : Way) (j : ℕ) → IsWay l gone way → IsAtWork new.line
-    → link_of new.line ≡ link_step l (send j) → new.standing.items ≡ way.standing.items → new.arrived.items ≡ way.arrived.items
-    → IsWay (link_step l (send j)) gone new
-way_sent l gone way new j w at_work link stand came =
-    let o = slice_get (unknown l.items l.known) j in
-    way_same l (link_step l (send j)) gone way new w at_work link (sent_items l o) (sent_got l o) stand came
-
-pub confirmed_items : (l : Link) (o : Option ℕ) → (with_confirmed l o).items ≡ l.items
-confirmed_items l None = refl
-confirmed_items l (Some n) = refl
-
-confirmed_got : (l : Link) (o : Option ℕ) → (with_confirmed l o).got ≡ l.got
-confirmed_got l None = refl
-confirmed_got l (Some n) = refl
-
-pub way_confirmed : (l : Link) (gone : List ℕ) (way new : Way) (j : ℕ) → IsWay l gone way → IsAtWork new.line
-    → link_of new.line ≡ link_step l (confirm j) → new.standing.items ≡ way.standing.items → new.arrived.items ≡ way.arrived.items
-    → IsWay (link_step l (confirm j)) gone new
-way_confirmed l gone way new j w at_work link stand came =
-    let o = slice_get l.back j in
-    way_same l (link_step l (confirm j)) gone way new w at_work link (confirmed_items l o) (confirmed_got l o) stand came
-
 -- ---- a datagram arrives
-
-pub arrived_items : (l : Link) (o : Option ℕ) → (with_arrived l o).items ≡ l.items
-arrived_items l None = refl
-arrived_items l (Some n) = refl
 
 -- nothing is delivered, or one number that wasn't
 abbrev IsGotBy : List ℕ → List ℕ → Option ℕ → Type 0
@@ -107,12 +60,12 @@ IsGotBy before after (Some n) = (after ≡ before ++ n ∷ []) × (is_among befo
 
 got_case : (got : List ℕ) (n : ℕ) (among right : Bool) → is_among got n ≡ among
     → IsGotBy got (if not among && right then got ++ n ∷ [] else got) (slice_get (if not among && right then got ++ n ∷ [] else got) (length got))
-got_case got n true right is = subst (IsGotBy got got) (sym (past got)) refl
-got_case got n false true is = subst (IsGotBy got (got ++ n ∷ [])) (sym (last_there got n)) (refl, is)
-got_case got n false false is = subst (IsGotBy got got) (sym (past got)) refl
+got_case got n true right is = subst (IsGotBy got got) (sym (get_past got)) refl
+got_case got n false true is = subst (IsGotBy got (got ++ n ∷ [])) (sym (get_pushed got n)) (refl, is)
+got_case got n false false is = subst (IsGotBy got got) (sym (get_past got)) refl
 
 got_by : (l : Link) (o : Option ℕ) → IsGotBy l.got (with_arrived l o).got (delivered_by l (with_arrived l o))
-got_by l None = subst (IsGotBy l.got l.got) (sym (past l.got)) refl
+got_by l None = subst (IsGotBy l.got l.got) (sym (get_past l.got)) refl
 got_by l (Some n) = got_case l.got n (is_among l.got n) (not l.ordered || (n == length l.got)) refl
 
 among_more : (got : List ℕ) (n m : ℕ) → is_among got m ≡ true → is_among (got ++ n ∷ []) m ≡ true
@@ -125,7 +78,7 @@ came_by l l' gone None taken is (Some n) same = absurd cc
 came_by l l' gone (Some n) taken is None same = absurd cc
 came_by l l' gone (Some n) taken is (Some m) same =
     let one : n ≡ m = cc in
-    let fails : is_among gone n ≡ false = decide (is_among gone n) (λ there. true≢false (sym (taken n there) ∙ is.1)) in
+    let fails : is_among gone n ≡ false = false_from_ne_true (is_among gone n) (λ there. true≢false (sym (taken n there) ∙ is.1)) in
     ap (without gone) is.0 ∙ (filter-append (λ k. not (is_among gone k)) l.got (n ∷ [])
     ∙ (ap (λ (ns : List ℕ). without gone l.got ++ ns) (cond-true (not (is_among gone n)) (n ∷ []) [] (ap not fails))
     ∙ ap (λ (k : ℕ). without gone l.got ++ k ∷ []) one))
@@ -152,21 +105,6 @@ way_delivered l gone way new j number w at_work link by stand came =
 
 -- ---- a frame is taken
 
-kept_in : (p : ℕ → Bool) (xs : List ℕ) (n : ℕ) → is_among (filter p xs) n ≡ true → is_among xs n ≡ true
-kept_in p [] n there = absurd cc
-kept_in p (x ∷ xs) n there =
-    elim (p x) as (λ b. is_among (cond b (x ∷ filter p xs) (filter p xs)) n ≡ true → is_among (x ∷ xs) n ≡ true) [
-      | true ↦ λ in_it. elim (or_cases (x == n) (is_among (filter p xs) n) in_it) [
-        | inl here ↦ ap (λ b. b || is_among xs n) here
-        | inr behind ↦ either_way (x == n) (is_among xs n) (kept_in p xs n behind)
-      ]
-      | false ↦ λ in_it. either_way (x == n) (is_among xs n) (kept_in p xs n in_it)
-    ] there
-  where
-    either_way : (a b : Bool) → b ≡ true → (a || b) ≡ true
-    either_way true b h = refl
-    either_way false b h = h
-
 pub way_taken : (l : Link) (gone : List ℕ) (way new : Way) (j n place : ℕ) → IsWay l gone way → IsFaithful l
     → slice_get way.arrived.items j ≡ Some n → slice_get way.standing.items place ≡ Some n → new.line ≡ way.line
     → new.arrived.items ≡ remove way.arrived.items j → new.standing.items ≡ remove way.standing.items place
@@ -174,7 +112,8 @@ pub way_taken : (l : Link) (gone : List ℕ) (way new : Way) (j n place : ℕ) �
 way_taken l gone way new j n place w faithful at there line came stand =
     let number : slice_get (arrived l gone) j ≡ Some n = ap (λ (ns : List ℕ). slice_get ns j) (sym w.came) ∙ at in
     let stands : slice_get (standing l gone) place ≡ Some n = ap (λ (ns : List ℕ). slice_get ns place) (sym w.stand) ∙ there in
-    let got : is_among l.got n ≡ true = kept_in (λ k. not (is_among gone k)) l.got n (among_there (arrived l gone) j n number) in
+    let got : is_among l.got n ≡ true =
+    and_first (is_among l.got n) _ (sym (among_filter (λ k. not (is_among gone k)) l.got n) ∙ among_there (arrived l gone) j n number) in
     subst (λ (o : Option ℕ). IsWay l (gone_on gone o) new) (sym number) (record {
       at_work = subst IsAtWork (sym line) w.at_work;
       link = ap link_of line ∙ w.link;
@@ -187,20 +126,15 @@ way_taken l gone way new j n place w faithful at there line came stand =
       ];
     })
 
--- where there is none, nothing is
-pub way_stays : (l : Link) (gone : List ℕ) (way : Way) (j : ℕ) → IsWay l gone way → slice_get way.arrived.items j ≡ None
-    → IsWay l (gone_on gone (slice_get (arrived l gone) j)) way
-way_stays l gone way j w none =
-    subst (λ (o : Option ℕ). IsWay l (gone_on gone o) way) (sym (ap (λ (ns : List ℕ). slice_get ns j) (sym w.came) ∙ none)) w
-
 -- ---- what was delivered stands there
 
 pub stands_too : (l : Link) (gone : List ℕ) (j n : ℕ) → IsFaithful l → slice_get (arrived l gone) j ≡ Some n → is_among (standing l gone) n ≡ true
 stands_too l gone j n faithful is =
     let p : ℕ → Bool = λ k. not (is_among gone k) in
-    let there = among_there (arrived l gone) j n is in
-    let inside = below l.got n (length l.items) faithful.items (kept_in p l.got n there) in
-    passed p (range_with_len 0 (length l.items)) n (among_range 0 (length l.items) n (omega arith) (omega (arith, inside))) (passes p l.got n there)
+    let there : (is_among l.got n && p n) ≡ true = sym (among_filter p l.got n) ∙ among_there (arrived l gone) j n is in
+    let inside = below l.got n (length l.items) faithful.items (and_first (is_among l.got n) (p n) there) in
+    among_filter p (range_with_len 0 (length l.items)) n ∙ (ap (λ b. b && p n) (among_range 0 (length l.items) n (omega arith) (omega (arith, inside)))
+    ∙ and_second (is_among l.got n) (p n) there)
 
 -- a search by halves finds it
 pub search_finds : (l : Link) (gone : List ℕ) (way : Way) (xs : List ℕ) (n place : ℕ) → IsWay l gone way → xs ≡ way.standing.items

@@ -2,34 +2,38 @@
 use Rattle.std.proofs.Common.{◌≡◌, ◌⊎◌, ◌<◌, ◌≤◌, ◌+◌, ℕ, zero, suc, Bool, true, false, not, cond, List, [], ◌∷◌, ◌++◌, length, map, refl, sym, ap, ◌∙◌, subst, inl, inr, Option, Some, None, arith, append-nil}
 use Rattle.std.specs.Prelude.{◌==◌, nat_lt, position, remove, slice_get, slice_set}
 use Rattle.std.specs.List.{filter, position_or_len, range_with_len}
-use Rattle.std.proofs.lemmas.Bool.{cond-true, eq-eqb, eqb-true, ltb-true, or_cases}
+use Rattle.std.proofs.lemmas.Bool.{cond-true, eq-eqb, eqb-true, ltb-true, or_cases, false_from_ne_true}
 use Rattle.std.proofs.lemmas.List.{drop_at, length_push, map_push}
 use Rattle.packet_fields.specs.declared.verdict.Verdict.{Verdict}
 use Rattle.lossy_link.specs.Laws.{IsFaithful}
 use Rattle.lossy_link.specs.Link.{Link, is_among}
 use Rattle.lossy_link.specs.Sender.{item_at}
 use Rattle.run_model.specs.declared.event.Event.{Event}
-use Rattle.run_model.specs.declared.event.Event.TheVariants.{Admit, Stage, Serve, Send, Apply, Ack, Hold, Down}
+use Rattle.run_model.specs.declared.event.Event.TheVariants.{Admit, Stage, Serve, Ack, Hold, Down}
 use Rattle.run_model.specs.declared.link_event.Link.{Link as LinkName}
 use Rattle.run_model.specs.declared.link_event.Link.TheVariants as names
 use Rattle.state_store.specs.Store.{Store}
 use Rattle.writeback_table.specs.declared.command.Update.{Update}
+use Rattle.replay_state.proofs.Laws.{passes_with_no_stages_end_at_once-fast as fast_step, passes_with_no_stages_end_at_once-slow as slow_step}
 use Rattle.replay_state.specs.Answers.{Answers, Setup}
 use Rattle.replay_state.specs.Journal.{over_in}
 use Rattle.replay_state.specs.Places.{HavePlaces}
 use Rattle.replay_state.specs.State.{Fast, Held, Progress, Slow, State, Up, seen, store_at}
-use Rattle.replay_state.specs.Step.{applies, came_down, decided, entered, ended, happens, let_go, pass_of, released, served, step, tick, with_changes}
+use Rattle.replay_state.specs.Step.{applies, came_down, decided, entered, ended, happens, pass_of, released, served, step, tick, with_changes}
 use Rattle.lossy_replay.specs.Linked.{Course as World, Linked, TakeWhatCame, arrived, at_link, at_place, behind, gives, gone_on, let_by, place_in, place_of, standing, without}
 use Rattle.lossy_replay.specs.Linking.{AreLinks, ArePlaced, StillStand}
 use Rattle.lossy_replay.specs.Ways.{IsWay}
 use Rattle.lossy_replay.specs.declared.links.Links.{Links}
 use Rattle.lossy_replay.specs.declared.way.Way.{Way}
 use Rattle.lossy_replay.proofs.Apart.{filter_apart, goes_at}
-use Rattle.lossy_replay.proofs.Items.{is_as, none_behind, some_at}
-use Rattle.lossy_replay.proofs.Noting.{FastLaw, SlowLaw, applied_step, has_given}
-use Rattle.lossy_replay.proofs.OnWays.{below, decide, stands_too}
+use Rattle.lossy_replay.proofs.Items.{is_as, let_go_only, none_behind}
+use Rattle.lossy_replay.proofs.Noting.{applied_step, has_given}
+use Rattle.lossy_replay.proofs.OnWays.{below, stands_too}
 use Rattle.lossy_replay.proofs.Performing.{after_event}
 use Rattle.lossy_replay.proofs.Standing.{one_stands, placed, range_apart}
+use Rattle.std.proofs.lemmas.Option.{slice_get_within}
+use Rattle.replay_course.proofs.Lists.{get_removed}
+use Rattle.lemmas.proofs.Lists.{get_front, get_mapped, get_within, map_get, map_remove}
 
 -- ---- items by their numbers
 
@@ -88,12 +92,6 @@ one_more f items gone before now apart (inr (n, more)) placed =
 
 -- ---- one that is taken
 
-map_remove : {X Y : Type 0} (f : X → Y) (xs : List X) (k : ℕ) → map f (remove xs k) ≡ remove (map f xs) k
-map_remove f [] zero = refl
-map_remove f [] (suc k) = refl
-map_remove f (x ∷ xs) zero = refl
-map_remove f (x ∷ xs) (suc k) = ap (λ ys. f x ∷ ys) (map_remove f xs k)
-
 len_by : (x n : ℕ) (xs : List ℕ) (k : ℕ) (b : Bool) → (x == n) ≡ b → (k < length xs → slice_get xs k ≡ Some n)
     → cond (not b) (1 + k) 0 < length (x ∷ xs) → slice_get (x ∷ xs) (cond (not b) (1 + k) 0) ≡ Some n
 len_by x n xs k true here rest few = ap (λ (m : ℕ). Some m) (eqb-true x n here)
@@ -134,24 +132,13 @@ one_less f l gone before j place is placed =
 
 -- ---- what is delivered there
 
-at_map : {X Y : Type 0} (f : X → Y) (xs : List X) (k : ℕ) (y : Y) → slice_get (map f xs) k ≡ Some y
-    → (x : X) × (slice_get xs k ≡ Some x) × (f x ≡ y)
-at_map f [] k y is = absurd cc
-at_map f (x ∷ xs) zero y is = (x, refl, cc)
-at_map f (x ∷ xs) (suc k) y is = at_map f xs k y is
-
-in_map : {X Y : Type 0} (f : X → Y) (xs : List X) (k : ℕ) (x : X) → slice_get xs k ≡ Some x → slice_get (map f xs) k ≡ Some (f x)
-in_map f [] k x is = absurd cc
-in_map f (y ∷ xs) zero x is = let same : y ≡ x = cc in ap (λ z. Some (f z)) same
-in_map f (y ∷ xs) (suc k) x is = in_map f xs k x is
-
 came_at : (f : ℕ → List ℕ) (l : Link) (gone before : List ℕ) (j place number : ℕ) → map f before ≡ named l.items gone
     → slice_get (arrived l gone) j ≡ Some number → place_of l gone j ≡ Some place
     → (n : ℕ) × (slice_get before place ≡ Some n) × (f n ≡ item_at l.items number)
 came_at f l gone before j place number placed at is =
     let there = position_there (standing l gone) number place (ap (place_in (standing l gone)) (sym at) ∙ is) in
-    at_map f before place (item_at l.items number)
-    (ap (λ (fs : List (List ℕ)). slice_get fs place) placed ∙ in_map (λ (k : ℕ). item_at l.items k) (standing l gone) place number there)
+    get_mapped f before place (item_at l.items number)
+    (ap (λ (fs : List (List ℕ)). slice_get fs place) placed ∙ map_get (λ (k : ℕ). item_at l.items k) (standing l gone) place number there)
 
 among_at : (xs : List ℕ) (n : ℕ) → is_among xs n ≡ true → (k : ℕ) × (slice_get xs k ≡ Some n)
 among_at [] n is = absurd cc
@@ -221,54 +208,35 @@ not_gone : (l : Link) (gone : List ℕ) (way : Way) → IsWay l gone way → is_
 not_gone l gone way is =
     let faithful = subst IsFaithful is.link is.at_work.faithful in
     let count = length l.items in
-    decide (is_among gone count) (λ there. absurd (omega (arith, below l.got count count faithful.items (is.taken count there))))
+    false_from_ne_true (is_among gone count) (λ there. absurd (omega (arith, below l.got count count faithful.items (is.taken count there))))
 
-changes_up : (store : Store) (updates : List Update) (st : State) → (with_changes store updates st).up ≡ st.up
-changes_up store [] st = refl
-changes_up store (u ∷ updates) st = refl
-
-changes_down : (store : Store) (updates : List Update) (st : State) → (with_changes store updates st).down ≡ st.down
-changes_down store [] st = refl
-changes_down store (u ∷ updates) st = refl
-
-changes_progress : (store : Store) (updates : List Update) (st : State) → (with_changes store updates st).progress ≡ st.progress
-changes_progress store [] st = refl
-changes_progress store (u ∷ updates) st = refl
+changes_only : (store : Store) (updates : List Update) (st : State)
+    → (let next = with_changes store updates st in next ≡ record st { version = next.version; stores = next.stores; batches = next.batches })
+changes_only store [] st = refl
+changes_only store (u ∷ updates) st = refl
 
 served_up : (a : Answers) (st : State) (k : ℕ) (o : Option ℕ) (n : ℕ) → o ≡ Some n → (served a st k o).up ≡ remove st.up k
 served_up a st k None n is = absurd cc
-served_up a st k (Some m) n is = ap (λ (ns : List ℕ). remove ns k) (changes_up (a.after st.store m) (a.changes st.store m) st)
+served_up a st k (Some m) n is = ap (λ (s : State). remove s.up k) (changes_only (a.after st.store m) (a.changes st.store m) st)
 
 served_down : (a : Answers) (st : State) (k : ℕ) (o : Option ℕ) → (served a st k o).down ≡ st.down
 served_down a st k None = refl
-served_down a st k (Some m) = changes_down (a.after st.store m) (a.changes st.store m) st
+served_down a st k (Some m) = ap (λ (s : State). s.down) (changes_only (a.after st.store m) (a.changes st.store m) st)
 
-let_go_up : (st : State) (j : ℕ) (o : Option (ℕ × ℕ)) → (let_go st j o).up ≡ st.up
-let_go_up st j None = refl
-let_go_up st j (Some (n, need)) = refl
-
-entered_down_up : (a : Answers) (st first : State) (n left : ℕ) → (entered a st (pass_of first false n left)).up ≡ st.up
-entered_down_up a st first n left =
-    elim (left == 0) as (λ (b : Bool). (cond b (ended a st (pass_of first false n left)) (record st { passes = st.passes ++ pass_of first false n left ∷ [] })).up ≡ st.up) [
-      | true ↦ refl
-      | false ↦ refl
-    ]
+entered_only : (a : Answers) (st first : State) (n left : ℕ)
+    → (let next = entered a st (pass_of first false n left) in next ≡ record st { passes = next.passes; progress = next.progress })
+entered_only a st first n left =
+    elim (left == 0) as (λ (b : Bool). let next = cond b (ended a st (pass_of first false n left)) (record st { passes = st.passes ++ pass_of first false n left ∷ [] }) in
+    next ≡ record st { passes = next.passes; progress = next.progress }) [ true ↦ refl | false ↦ refl ]
 
 came_down_up : (setup : Setup) (a : Answers) (st : State) (k : ℕ) (o : Option ℕ) → (came_down setup a st k o).up ≡ st.up
 came_down_up setup a st k None = refl
-came_down_up setup a st k (Some n) = entered_down_up a (record st { down = remove st.down k }) st n setup.post_stages
-
-entered_down_down : (a : Answers) (st first : State) (n left : ℕ) → (entered a st (pass_of first false n left)).down ≡ st.down
-entered_down_down a st first n left =
-    elim (left == 0) as (λ (b : Bool). (cond b (ended a st (pass_of first false n left)) (record st { passes = st.passes ++ pass_of first false n left ∷ [] })).down ≡ st.down) [
-      | true ↦ refl
-      | false ↦ refl
-    ]
+came_down_up setup a st k (Some n) = ap (λ (s : State). s.up) (entered_only a (record st { down = remove st.down k }) st n setup.post_stages)
 
 came_down_down : (setup : Setup) (a : Answers) (st : State) (k : ℕ) (o : Option ℕ) (n : ℕ) → o ≡ Some n
     → (came_down setup a st k o).down ≡ remove st.down k
 came_down_down setup a st k None n is = absurd cc
-came_down_down setup a st k (Some m) n is = entered_down_down a (record st { down = remove st.down k }) st m setup.post_stages
+came_down_down setup a st k (Some m) n is = ap (λ (s : State). s.down) (entered_only a (record st { down = remove st.down k }) st m setup.post_stages)
 
 -- the place that an event asks
 serve_place : (o : Option ℕ) (own : Event) → at_place Serve o ≡ Some own → (k : ℕ) × (Serve k ≡ own) × (o ≡ Some k)
@@ -285,57 +253,19 @@ pub record IsPerformed (setup : Setup) (a : Answers) (l : Linked) (st : State) (
   pub post : setup.post_stages ≡ 0
   pub lets : let_by l st event ≡ Some own
   pub may : applies setup st own ≡ true
-  pub fast : FastLaw
-  pub slow : SlowLaw
   pub links : Links
   pub most : ℕ
   pub are : AreLinks most l links
 
 there_of : (ns : List ℕ) (k : ℕ) → nat_lt k (length ns) ≡ true → (n : ℕ) × (slice_get ns k ≡ Some n)
-there_of ns k inside = some_at ns k (ltb-true k (length ns) inside)
-
--- the state behind an event, where it is known by a part of it
-behind_event : {X : Type 0} (part : State → X) (setup : Setup) (a : Answers) (st : State) (e own : Event) (value : X) → e ≡ own
-    → applies setup st own ≡ true → part (happens setup a (tick st) e) ≡ value → part (step setup a st own) ≡ value
-behind_event part setup a st e own value same may is =
-    let now : applies setup st e ≡ true = subst (λ (e' : Event). applies setup st e' ≡ true) (sym same) may in
-    ap (λ (e' : Event). part (step setup a st e')) (sym same) ∙ (ap part (applied_step setup a st e now) ∙ is)
-
-placed_up : (setup : Setup) (a : Answers) (w : World) (l : Linked) (st : State) (event own : Event) → IsPerformed setup a l st event own
-    → map w.up st.up ≡ named l.up.items l.ran
-    → map w.up (step setup a st own).up ≡ named (gives w l event st (step setup a st own)).up.items (gives w l event st (step setup a st own)).ran
-placed_up setup a w l st Admit own p placed =
-    one_more w.up l.up.items l.ran st.up (step setup a st own).up (not_gone l.up l.ran p.links.up p.are.up)
-    (has_given p.fast p.slow setup a l st Admit own p.pre p.lets p.may) placed
-placed_up setup a w l st (Stage j) own p placed = absurd (is_as l st (Stage j) own p.lets)
-placed_up setup a w l st (Serve j) own p placed =
-    let at = serve_place (place_of l.up l.ran j) own p.lets in
-    let now : applies setup st (Serve at.0) ≡ true = subst (λ (e : Event). applies setup st e ≡ true) (sym at.1) p.may in
-    let there = there_of st.up at.0 now in
-    let up : (step setup a st own).up ≡ remove st.up at.0 =
-    behind_event (λ (s : State). s.up) setup a st (Serve at.0) own (remove st.up at.0) at.1 p.may
-    (served_up a (tick st) at.0 (slice_get st.up at.0) there.0 there.1) in
-    ap (map w.up) up ∙ one_less w.up l.up l.ran st.up j at.0 at.2 placed
-placed_up setup a w l st Send own p placed =
-    ap (map w.up) (behind_event (λ (s : State). s.up) setup a st Send own st.up (is_as l st Send own p.lets) p.may refl) ∙ placed
-placed_up setup a w l st Apply own p placed =
-    ap (map w.up) (behind_event (λ (s : State). s.up) setup a st Apply own st.up (is_as l st Apply own p.lets) p.may refl) ∙ placed
-placed_up setup a w l st Ack own p placed =
-    ap (map w.up) (behind_event (λ (s : State). s.up) setup a st Ack own st.up (is_as l st Ack own p.lets) p.may refl) ∙ placed
-placed_up setup a w l st (Hold j) own p placed =
-    ap (map w.up) (behind_event (λ (s : State). s.up) setup a st (Hold j) own st.up (is_as l st (Hold j) own p.lets) p.may
-    (let_go_up (tick st) j (slice_get st.held j))) ∙ placed
-placed_up setup a w l st (Down j) own p placed =
-    let as_down = is_as l st (Down j) own p.lets in
-    ap (map w.up) (behind_event (λ (s : State). s.up) setup a st (Down as_down.0) own st.up as_down.1 p.may
-    (came_down_up setup a (tick st) as_down.0 (slice_get st.down as_down.0))) ∙ placed
+there_of ns k inside = get_within ns k (ltb-true k (length ns) inside)
 
 -- ---- the frames on their way down
 
-admitted_down : FastLaw → SlowLaw → (setup : Setup) (a : Answers) (st : State) (o : Option Verdict) → setup.pre_stages ≡ 0
+admitted_down : (setup : Setup) (a : Answers) (st : State) (o : Option Verdict) → setup.pre_stages ≡ 0
     → applies setup st Admit ≡ true → a.pre (store_at st.stores (seen st)) (length st.progress) ≡ o → (step setup a st Admit).down ≡ st.down
-admitted_down fast slow setup a st (Some y) none may is = ap (λ (s : State). s.down) (fast setup a st y none may is)
-admitted_down fast slow setup a st None none may is = ap (λ (s : State). s.down) (slow setup a st none may is)
+admitted_down setup a st (Some y) none may is = ap (λ (s : State). s.down) (fast_step setup a st y none may is)
+admitted_down setup a st None none may is = ap (λ (s : State). s.down) (slow_step setup a st none may is)
 
 map_same : (f g : ℕ → List ℕ) (ns : List ℕ) → ((i n : ℕ) → slice_get ns i ≡ Some n → f n ≡ g n) → map f ns ≡ map g ns
 map_same f g [] same = refl
@@ -345,18 +275,6 @@ map_same f g (n ∷ ns) same = (λ i. same 0 n refl i ∷ map_same f g ns (λ k 
 abbrev pub FramesStay : World → State → State → Type 0
 FramesStay w st next = (i j n : ℕ) → slice_get st.down i ≡ Some n → slice_get next.down j ≡ Some n → w.down next n ≡ w.down st n
 
-still_there : (xs : List ℕ) (k i n : ℕ) → slice_get (remove xs k) i ≡ Some n → (j : ℕ) × (slice_get xs j ≡ Some n)
-still_there [] zero i n is = absurd cc
-still_there [] (suc k) i n is = absurd cc
-still_there (x ∷ xs) zero i n is = (suc i, is)
-still_there (x ∷ xs) (suc k) zero n is = (0, is)
-still_there (x ∷ xs) (suc k) (suc i) n is = let rest = still_there xs k i n is in (suc rest.0, rest.1)
-
-front_there : (xs ys : List ℕ) (i n : ℕ) → slice_get xs i ≡ Some n → slice_get (xs ++ ys) i ≡ Some n
-front_there [] ys i n is = absurd cc
-front_there (x ∷ xs) ys zero n is = is
-front_there (x ∷ xs) ys (suc i) n is = front_there xs ys i n is
-
 -- where none comes or goes
 none_moves : (w : World) (st next : State) (items : List (List ℕ)) (gone : List ℕ) → FramesStay w st next → next.down ≡ st.down
     → map (w.down st) st.down ≡ named items gone → map (w.down next) next.down ≡ named items gone
@@ -365,73 +283,7 @@ none_moves w st next items gone stay same placed =
     ∙ (map_same (w.down next) (w.down st) st.down
     (λ i n is. stay i i n is (ap (λ (ns : List ℕ). slice_get ns i) same ∙ is)) ∙ placed)
 
-placed_down : (setup : Setup) (a : Answers) (w : World) (l : Linked) (st : State) (event own : Event) → IsPerformed setup a l st event own
-    → FramesStay w st (step setup a st own) → map (w.down st) st.down ≡ named l.down.items l.taken
-    → map (w.down (step setup a st own)) (step setup a st own).down
-    ≡ named (gives w l event st (step setup a st own)).down.items (gives w l event st (step setup a st own)).taken
-placed_down setup a w l st Admit own p stay placed =
-    let same : Admit ≡ own = is_as l st Admit own p.lets in
-    none_moves w st (step setup a st own) l.down.items l.taken stay
-    (ap (λ (e : Event). (step setup a st e).down) (sym same)
-    ∙ admitted_down p.fast p.slow setup a st (a.pre (store_at st.stores (seen st)) (length st.progress)) p.pre
-    (subst (λ (e : Event). applies setup st e ≡ true) (sym same) p.may) refl) placed
-placed_down setup a w l st (Stage j) own p stay placed = absurd (is_as l st (Stage j) own p.lets)
-placed_down setup a w l st (Serve j) own p stay placed =
-    let kind = is_as l st (Serve j) own p.lets in
-    none_moves w st (step setup a st own) l.down.items l.taken stay
-    (behind_event (λ (s : State). s.down) setup a st (Serve kind.0) own st.down kind.1 p.may
-    (served_down a (tick st) kind.0 (slice_get st.up kind.0))) placed
-placed_down setup a w l st Send own p stay placed =
-    none_moves w st (step setup a st own) l.down.items l.taken stay
-    (behind_event (λ (s : State). s.down) setup a st Send own st.down (is_as l st Send own p.lets) p.may refl) placed
-placed_down setup a w l st Apply own p stay placed =
-    none_moves w st (step setup a st own) l.down.items l.taken stay
-    (behind_event (λ (s : State). s.down) setup a st Apply own st.down (is_as l st Apply own p.lets) p.may refl) placed
-placed_down setup a w l st Ack own p stay placed =
-    none_moves w st (step setup a st own) l.down.items l.taken stay
-    (behind_event (λ (s : State). s.down) setup a st Ack own st.down (is_as l st Ack own p.lets) p.may refl) placed
-placed_down setup a w l st (Hold j) own p stay placed =
-    let next = step setup a st own in
-    let more = has_given p.fast p.slow setup a l st (Hold j) own p.pre p.lets p.may in
-    let still : map (w.down next) st.down ≡ map (w.down st) st.down =
-    map_same (w.down next) (w.down st) st.down
-    (λ i n is. stay i i n is (ap (λ (ns : List ℕ). slice_get ns i) more.1 ∙ front_there st.down (more.0 ∷ []) i n is)) in
-    one_more (w.down next) l.down.items l.taken st.down next.down (not_gone l.down l.taken p.links.down p.are.down) (inr more) (still ∙ placed)
-placed_down setup a w l st (Down j) own p stay placed =
-    let next = step setup a st own in
-    let at = down_place (place_of l.down l.taken j) own p.lets in
-    let now : applies setup st (Down at.0) ≡ true = subst (λ (e : Event). applies setup st e ≡ true) (sym at.1) p.may in
-    let there = there_of st.down at.0 now in
-    let down : next.down ≡ remove st.down at.0 =
-    behind_event (λ (s : State). s.down) setup a st (Down at.0) own (remove st.down at.0) at.1 p.may
-    (came_down_down setup a (tick st) at.0 (slice_get st.down at.0) there.0 there.1) in
-    ap (map (w.down next)) down
-    ∙ (map_same (w.down next) (w.down st) (remove st.down at.0)
-    (λ i n is. let was = still_there st.down at.0 i n is in stay was.0 i n was.1 (ap (λ (ns : List ℕ). slice_get ns i) down ∙ is))
-    ∙ one_less (w.down st) l.down l.taken st.down j at.0 at.2 placed)
-
-pub placed_on : (setup : Setup) (a : Answers) (w : World) (l : Linked) (st : State) (event own : Event) → IsPerformed setup a l st event own
-    → w.at l.events ≡ st → w.at (l.events ++ own ∷ []) ≡ step setup a st own → FramesStay w st (step setup a st own)
-    → (n : ℕ) (links : Links) → AreLinks n (gives w l event st (step setup a st own)) links → ArePlaced w l
-    → ArePlaced w (after_event (gives w l event st (step setup a st own)) l own)
-placed_on setup a w l st event own p now then stay n links are placed =
-    let next = step setup a st own in
-    let g = gives w l event st next in
-    record {
-      up = subst (λ (s : State). map w.up s.up ≡ named g.up.items g.ran) (sym then)
-          (placed_up setup a w l st event own p (subst (λ (s : State). map w.up s.up ≡ named l.up.items l.ran) now placed.up));
-      down = subst (λ (s : State). map (w.down s) s.down ≡ named g.down.items g.taken) (sym then)
-          (placed_down setup a w l st event own p stay (subst (λ (s : State). map (w.down s) s.down ≡ named l.down.items l.taken) now placed.down));
-      stand_up = stand_by g.up g.ran links.up are.up;
-      stand_down = stand_by g.down g.taken links.down are.down;
-    }
-
 -- ---- what the server ran a packet over stays with it
-
-held_front : (xs ys : List Progress) (n : ℕ) (x : Progress) → slice_get xs n ≡ Some x → slice_get (xs ++ ys) n ≡ Some x
-held_front [] ys n x is = absurd cc
-held_front (y ∷ xs) ys zero x is = is
-held_front (y ∷ xs) ys (suc n) x is = held_front xs ys n x is
 
 -- a change of one packet that leaves it as it is where it is held
 held_set : (f : Option Progress → Progress) (xs : List Progress) (m n : ℕ) (x : Progress) → f (Some x) ≡ x → slice_get xs n ≡ Some x
@@ -464,12 +316,12 @@ one_over : (xs : List Progress) (n e d v e' d' v' : ℕ) (over other : Store) �
 one_over xs n e d v e' d' v' over other is then =
     let same : Some (Held e d v over) ≡ Some (Held e' d' v' other) = sym is ∙ then in cc
 
-admit_progress : FastLaw → SlowLaw → (setup : Setup) (a : Answers) (st : State) (o : Option Verdict) → setup.pre_stages ≡ 0
+admit_progress : (setup : Setup) (a : Answers) (st : State) (o : Option Verdict) → setup.pre_stages ≡ 0
     → applies setup st Admit ≡ true → a.pre (store_at st.stores (seen st)) (length st.progress) ≡ o
     → (x : Progress) × ((step setup a st Admit).progress ≡ st.progress ++ x ∷ [])
-admit_progress fast slow setup a st (Some y) none may is =
-    (Fast (st.events + 1) (st.events + 1) (seen st) y, ap (λ (s : State). s.progress) (fast setup a st y none may is))
-admit_progress fast slow setup a st None none may is = (Up (st.events + 1), ap (λ (s : State). s.progress) (slow setup a st none may is))
+admit_progress setup a st (Some y) none may is =
+    (Fast (st.events + 1) (st.events + 1) (seen st) y, ap (λ (s : State). s.progress) (fast_step setup a st y none may is))
+admit_progress setup a st None none may is = (Up (st.events + 1), ap (λ (s : State). s.progress) (slow_step setup a st none may is))
 
 served_holds : (a : Answers) (st : State) (k : ℕ) (o : Option ℕ) (n e d v : ℕ) (over : Store) → slice_get st.progress n ≡ Some (Held e d v over)
     → slice_get (served a st k o).progress n ≡ Some (Held e d v over)
@@ -477,11 +329,7 @@ served_holds a st k None n e d v over is = is
 served_holds a st k (Some m) n e d v over is =
     let next = with_changes (a.after st.store m) (a.changes st.store m) st in
     held_set (decided next.events next.version st.store) next.progress m n (Held e d v over) refl
-    (ap (λ (ps : List Progress). slice_get ps n) (changes_progress (a.after st.store m) (a.changes st.store m) st) ∙ is)
-
-let_go_holds : (st : State) (j : ℕ) (o : Option (ℕ × ℕ)) → (let_go st j o).progress ≡ st.progress
-let_go_holds st j None = refl
-let_go_holds st j (Some (n, need)) = refl
+    (ap (λ (s : State). slice_get s.progress n) (changes_only (a.after st.store m) (a.changes st.store m) st) ∙ is)
 
 came_down_holds : (setup : Setup) (a : Answers) (st : State) (k : ℕ) (o : Option ℕ) (n e d v e' d' v' : ℕ) (over other : Store)
     → setup.post_stages ≡ 0 → slice_get st.progress n ≡ Some (Held e d v over)
@@ -497,49 +345,133 @@ came_down_holds setup a st k (Some m) n e d v e' d' v' over other none is then =
     held_after (λ (o : Store). a.post o m) st.events st.progress m n e d v e' d' v' over other is
     (ap (λ (ps : List Progress). slice_get ps n) (sym ends) ∙ then)
 
-over_stays : (setup : Setup) (a : Answers) (l : Linked) (st : State) (event own : Event) → IsPerformed setup a l st event own
-    → (n e d v e' d' v' : ℕ) (over other : Store) → slice_get st.progress n ≡ Some (Held e d v over)
-    → slice_get (step setup a st own).progress n ≡ Some (Held e' d' v' other) → other ≡ over
-over_stays setup a l st Admit own p n e d v e' d' v' over other is then =
-    let same : Admit ≡ own = is_as l st Admit own p.lets in
-    let may : applies setup st Admit ≡ true = subst (λ (e : Event). applies setup st e ≡ true) (sym same) p.may in
-    let more = admit_progress p.fast p.slow setup a st (a.pre (store_at st.stores (seen st)) (length st.progress)) p.pre may refl in
-    let progress : (step setup a st own).progress ≡ st.progress ++ more.0 ∷ [] =
-    ap (λ (e : Event). (step setup a st e).progress) (sym same) ∙ more.1 in
-    one_over (step setup a st own).progress n e d v e' d' v' over other
-    (ap (λ (ps : List Progress). slice_get ps n) progress ∙ held_front st.progress (more.0 ∷ []) n (Held e d v over) is) then
-over_stays setup a l st (Stage j) own p n e d v e' d' v' over other is then = absurd (is_as l st (Stage j) own p.lets)
-over_stays setup a l st (Serve j) own p n e d v e' d' v' over other is then =
-    let kind = is_as l st (Serve j) own p.lets in
-    one_over (step setup a st own).progress n e d v e' d' v' over other
-    (behind_event (λ (s : State). slice_get s.progress n) setup a st (Serve kind.0) own (Some (Held e d v over)) kind.1 p.may
-    (served_holds a (tick st) kind.0 (slice_get st.up kind.0) n e d v over is)) then
-over_stays setup a l st Send own p n e d v e' d' v' over other is then =
-    one_over (step setup a st own).progress n e d v e' d' v' over other
-    (behind_event (λ (s : State). slice_get s.progress n) setup a st Send own (Some (Held e d v over)) (is_as l st Send own p.lets) p.may is) then
-over_stays setup a l st Apply own p n e d v e' d' v' over other is then =
-    one_over (step setup a st own).progress n e d v e' d' v' over other
-    (behind_event (λ (s : State). slice_get s.progress n) setup a st Apply own (Some (Held e d v over)) (is_as l st Apply own p.lets) p.may is) then
-over_stays setup a l st Ack own p n e d v e' d' v' over other is then =
-    one_over (step setup a st own).progress n e d v e' d' v' over other
-    (behind_event (λ (s : State). slice_get s.progress n) setup a st Ack own (Some (Held e d v over)) (is_as l st Ack own p.lets) p.may is) then
-over_stays setup a l st (Hold j) own p n e d v e' d' v' over other is then =
-    one_over (step setup a st own).progress n e d v e' d' v' over other
-    (behind_event (λ (s : State). slice_get s.progress n) setup a st (Hold j) own (Some (Held e d v over)) (is_as l st (Hold j) own p.lets) p.may
-    (ap (λ (ps : List Progress). slice_get ps n) (let_go_holds (tick st) j (slice_get st.held j)) ∙ is)) then
-over_stays setup a l st (Down j) own p n e d v e' d' v' over other is then =
-    let kind = is_as l st (Down j) own p.lets in
-    let down = came_down setup a (tick st) kind.0 (slice_get st.down kind.0) in
-    came_down_holds setup a (tick st) kind.0 (slice_get st.down kind.0) n e d v e' d' v' over other p.post is
-    (sym (behind_event (λ (s : State). slice_get s.progress n) setup a st (Down kind.0) own (slice_get down.progress n) kind.1 p.may refl) ∙ then)
+-- ---- event by event
 
-pub frames_stay : (setup : Setup) (a : Answers) (l : Linked) (st : State) (event own : Event) → IsPerformed setup a l st event own
-    → (w : World) (go : Store → ℕ → List ℕ) → ((s : State) (n : ℕ) → w.down s n ≡ go (over_in (slice_get s.progress n)) n)
-    → HavePlaces st → HavePlaces (step setup a st own) → FramesStay w st (step setup a st own)
-frames_stay setup a l st event own p w go so was now i j n here there =
-    let next = step setup a st own in
-    let old = was.down i n here in
-    let new = now.down j n there in
-    let same = over_stays setup a l st event own p n old.0 old.1 old.2 new.0 new.1 new.2 old.3 new.3 old.4 new.4 in
-    so next n ∙ (ap (λ (o : Option Progress). go (over_in o) n) new.4 ∙ (ap (λ (o : Store). go o n) same
-    ∙ (sym (ap (λ (o : Option Progress). go (over_in o) n) old.4) ∙ sym (so st n))))
+module _ (setup : Setup) (a : Answers) (l : Linked) (st : State) where
+  -- the state behind an event, where it is known by a part of it
+  behind_event : {X : Type 0} (part : State → X) (e own : Event) (value : X) → e ≡ own
+      → applies setup st own ≡ true → part (happens setup a (tick st) e) ≡ value → part (step setup a st own) ≡ value
+  behind_event part e own value same may is =
+      let now : applies setup st e ≡ true = subst (λ (e' : Event). applies setup st e' ≡ true) (sym same) may in
+      ap (λ (e' : Event). part (step setup a st e')) (sym same) ∙ (ap part (applied_step setup a st e now) ∙ is)
+
+  placed_up : (w : World) (event own : Event) → IsPerformed setup a l st event own
+      → map w.up st.up ≡ named l.up.items l.ran
+      → map w.up (step setup a st own).up ≡ named (gives w l event st (step setup a st own)).up.items (gives w l event st (step setup a st own)).ran
+  placed_up w Admit own p placed =
+      one_more w.up l.up.items l.ran st.up (step setup a st own).up (not_gone l.up l.ran p.links.up p.are.up)
+      (has_given setup a l st Admit own p.pre p.lets p.may) placed
+  placed_up w (Stage j) own p placed = absurd (is_as l st (Stage j) own p.lets)
+  placed_up w (Serve j) own p placed =
+      let at = serve_place (place_of l.up l.ran j) own p.lets in
+      let now : applies setup st (Serve at.0) ≡ true = subst (λ (e : Event). applies setup st e ≡ true) (sym at.1) p.may in
+      let there = there_of st.up at.0 now in
+      let up : (step setup a st own).up ≡ remove st.up at.0 =
+      behind_event (λ (s : State). s.up) (Serve at.0) own (remove st.up at.0) at.1 p.may
+      (served_up a (tick st) at.0 (slice_get st.up at.0) there.0 there.1) in
+      ap (map w.up) up ∙ one_less w.up l.up l.ran st.up j at.0 at.2 placed
+  placed_up w (Hold j) own p placed =
+      ap (map w.up) (behind_event (λ (s : State). s.up) (Hold j) own st.up (is_as l st (Hold j) own p.lets) p.may
+      (ap (λ (s : State). s.up) (let_go_only (tick st) j (slice_get st.held j)))) ∙ placed
+  placed_up w (Down j) own p placed =
+      let as_down = is_as l st (Down j) own p.lets in
+      ap (map w.up) (behind_event (λ (s : State). s.up) (Down as_down.0) own st.up as_down.1 p.may
+      (came_down_up setup a (tick st) as_down.0 (slice_get st.down as_down.0))) ∙ placed
+  placed_up w event own p placed =
+      ap (map w.up) (behind_event (λ (s : State). s.up) event own st.up (is_as l st event own p.lets) p.may refl) ∙ placed
+
+  placed_down : (w : World) (event own : Event) → IsPerformed setup a l st event own
+      → FramesStay w st (step setup a st own) → map (w.down st) st.down ≡ named l.down.items l.taken
+      → map (w.down (step setup a st own)) (step setup a st own).down
+      ≡ named (gives w l event st (step setup a st own)).down.items (gives w l event st (step setup a st own)).taken
+  placed_down w Admit own p stay placed =
+      let same : Admit ≡ own = is_as l st Admit own p.lets in
+      none_moves w st (step setup a st own) l.down.items l.taken stay
+      (ap (λ (e : Event). (step setup a st e).down) (sym same)
+      ∙ admitted_down setup a st (a.pre (store_at st.stores (seen st)) (length st.progress)) p.pre
+      (subst (λ (e : Event). applies setup st e ≡ true) (sym same) p.may) refl) placed
+  placed_down w (Stage j) own p stay placed = absurd (is_as l st (Stage j) own p.lets)
+  placed_down w (Serve j) own p stay placed =
+      let kind = is_as l st (Serve j) own p.lets in
+      none_moves w st (step setup a st own) l.down.items l.taken stay
+      (behind_event (λ (s : State). s.down) (Serve kind.0) own st.down kind.1 p.may
+      (served_down a (tick st) kind.0 (slice_get st.up kind.0))) placed
+  placed_down w (Hold j) own p stay placed =
+      let next = step setup a st own in
+      let more = has_given setup a l st (Hold j) own p.pre p.lets p.may in
+      let still : map (w.down next) st.down ≡ map (w.down st) st.down =
+      map_same (w.down next) (w.down st) st.down
+      (λ i n is. stay i i n is (ap (λ (ns : List ℕ). slice_get ns i) more.1 ∙ get_front st.down (more.0 ∷ []) i (slice_get_within st.down i n is) ∙ is)) in
+      one_more (w.down next) l.down.items l.taken st.down next.down (not_gone l.down l.taken p.links.down p.are.down) (inr more) (still ∙ placed)
+  placed_down w (Down j) own p stay placed =
+      let next = step setup a st own in
+      let at = down_place (place_of l.down l.taken j) own p.lets in
+      let now : applies setup st (Down at.0) ≡ true = subst (λ (e : Event). applies setup st e ≡ true) (sym at.1) p.may in
+      let there = there_of st.down at.0 now in
+      let down : next.down ≡ remove st.down at.0 =
+      behind_event (λ (s : State). s.down) (Down at.0) own (remove st.down at.0) at.1 p.may
+      (came_down_down setup a (tick st) at.0 (slice_get st.down at.0) there.0 there.1) in
+      ap (map (w.down next)) down
+      ∙ (map_same (w.down next) (w.down st) (remove st.down at.0)
+      (λ i n is. let was = get_removed st.down at.0 i n is in stay was.0 i n was.1 (ap (λ (ns : List ℕ). slice_get ns i) down ∙ is))
+      ∙ one_less (w.down st) l.down l.taken st.down j at.0 at.2 placed)
+  placed_down w event own p stay placed =
+      none_moves w st (step setup a st own) l.down.items l.taken stay
+      (behind_event (λ (s : State). s.down) event own st.down (is_as l st event own p.lets) p.may refl) placed
+
+  pub placed_on : (w : World) (event own : Event) → IsPerformed setup a l st event own
+      → w.at l.events ≡ st → w.at (l.events ++ own ∷ []) ≡ step setup a st own → FramesStay w st (step setup a st own)
+      → (n : ℕ) (links : Links) → AreLinks n (gives w l event st (step setup a st own)) links → ArePlaced w l
+      → ArePlaced w (after_event (gives w l event st (step setup a st own)) l own)
+  placed_on w event own p now then stay n links are placed =
+      let next = step setup a st own in
+      let g = gives w l event st next in
+      record {
+        up = subst (λ (s : State). map w.up s.up ≡ named g.up.items g.ran) (sym then)
+            (placed_up w event own p (subst (λ (s : State). map w.up s.up ≡ named l.up.items l.ran) now placed.up));
+        down = subst (λ (s : State). map (w.down s) s.down ≡ named g.down.items g.taken) (sym then)
+            (placed_down w event own p stay (subst (λ (s : State). map (w.down s) s.down ≡ named l.down.items l.taken) now placed.down));
+        stand_up = stand_by g.up g.ran links.up are.up;
+        stand_down = stand_by g.down g.taken links.down are.down;
+      }
+
+  over_stays : (event own : Event) → IsPerformed setup a l st event own
+      → (n e d v e' d' v' : ℕ) (over other : Store) → slice_get st.progress n ≡ Some (Held e d v over)
+      → slice_get (step setup a st own).progress n ≡ Some (Held e' d' v' other) → other ≡ over
+  over_stays Admit own p n e d v e' d' v' over other is then =
+      let same : Admit ≡ own = is_as l st Admit own p.lets in
+      let may : applies setup st Admit ≡ true = subst (λ (e : Event). applies setup st e ≡ true) (sym same) p.may in
+      let more = admit_progress setup a st (a.pre (store_at st.stores (seen st)) (length st.progress)) p.pre may refl in
+      let progress : (step setup a st own).progress ≡ st.progress ++ more.0 ∷ [] =
+      ap (λ (e : Event). (step setup a st e).progress) (sym same) ∙ more.1 in
+      one_over (step setup a st own).progress n e d v e' d' v' over other
+      (ap (λ (ps : List Progress). slice_get ps n) progress ∙ get_front st.progress (more.0 ∷ []) n (slice_get_within st.progress n _ is) ∙ is) then
+  over_stays (Stage j) own p n e d v e' d' v' over other is then = absurd (is_as l st (Stage j) own p.lets)
+  over_stays (Serve j) own p n e d v e' d' v' over other is then =
+      let kind = is_as l st (Serve j) own p.lets in
+      one_over (step setup a st own).progress n e d v e' d' v' over other
+      (behind_event (λ (s : State). slice_get s.progress n) (Serve kind.0) own (Some (Held e d v over)) kind.1 p.may
+      (served_holds a (tick st) kind.0 (slice_get st.up kind.0) n e d v over is)) then
+  over_stays (Hold j) own p n e d v e' d' v' over other is then =
+      one_over (step setup a st own).progress n e d v e' d' v' over other
+      (behind_event (λ (s : State). slice_get s.progress n) (Hold j) own (Some (Held e d v over)) (is_as l st (Hold j) own p.lets) p.may
+      (ap (λ (s : State). slice_get s.progress n) (let_go_only (tick st) j (slice_get st.held j)) ∙ is)) then
+  over_stays (Down j) own p n e d v e' d' v' over other is then =
+      let kind = is_as l st (Down j) own p.lets in
+      let down = came_down setup a (tick st) kind.0 (slice_get st.down kind.0) in
+      came_down_holds setup a (tick st) kind.0 (slice_get st.down kind.0) n e d v e' d' v' over other p.post is
+      (sym (behind_event (λ (s : State). slice_get s.progress n) (Down kind.0) own (slice_get down.progress n) kind.1 p.may refl) ∙ then)
+  over_stays event own p n e d v e' d' v' over other is then =
+      one_over (step setup a st own).progress n e d v e' d' v' over other
+      (behind_event (λ (s : State). slice_get s.progress n) event own (Some (Held e d v over)) (is_as l st event own p.lets) p.may is) then
+
+  pub frames_stay : (event own : Event) → IsPerformed setup a l st event own
+      → (w : World) (go : Store → ℕ → List ℕ) → ((s : State) (n : ℕ) → w.down s n ≡ go (over_in (slice_get s.progress n)) n)
+      → HavePlaces st → HavePlaces (step setup a st own) → FramesStay w st (step setup a st own)
+  frames_stay event own p w go so was now i j n here there =
+      let next = step setup a st own in
+      let old = was.down i n here in
+      let new = now.down j n there in
+      let same = over_stays event own p n old.0 old.1 old.2 new.0 new.1 new.2 old.3 new.3 old.4 new.4 in
+      so next n ∙ (ap (λ (o : Option Progress). go (over_in o) n) new.4 ∙ (ap (λ (o : Store). go o n) same
+      ∙ (sym (ap (λ (o : Option Progress). go (over_in o) n) old.4) ∙ sym (so st n))))

@@ -1,5 +1,5 @@
 -- The objects that commands name have numbers below 64.
-use Rattle.std.proofs.Common.{◌≡◌, ◌<◌, ◌+◌, ◌-◌, ℕ, zero, suc, Bool, true, false, cond, List, [], ◌∷◌, ◌++◌, length, map, refl, Option, Some, None, arith}
+use Rattle.std.proofs.Common.{◌≡◌, ◌<◌, ◌+◌, ◌-◌, ℕ, zero, suc, Bool, true, false, cond, List, [], ◌∷◌, ◌++◌, length, refl, Option, Some, None, arith}
 use Rattle.std.specs.Prelude.{◌==◌, IfSome, slice_get}
 use Rattle.std.specs.List.{AllByRecursion as Each}
 use Rattle.std.proofs.lemmas.Bool.{eqb-true}
@@ -12,16 +12,16 @@ use Rattle.switch_ir.specs.Emitted.{is_looked_up, tables_from}
 use Rattle.switch_ir.specs.Port.{IsUpdateOf, PortState}
 use Rattle.switch_ir.specs.Tables.{declared_at}
 use Rattle.writeback_table.specs.declared.command.Command.{Command}
-use Rattle.writeback_table.specs.declared.command.Command.TheVariants.{Main, Stage}
 use Rattle.writeback_table.specs.declared.command.Update.{Update}
-use Rattle.writeback_table.specs.Commands.{clear_of, commands_of}
 use Rattle.lossy_link.specs.CommandBytes.{NamesBelow}
-use Rattle.output_commit.specs.Batches.{Batch, commands_in}
+use Rattle.output_commit.specs.Batches.{commands_in}
 use Rattle.output_commit.specs.Commit.{last_sent}
 use Rattle.output_commit.specs.Laws.{changes_in}
 use Rattle.replay_contracts.specs.Given.{Given, code_for}
 use Rattle.replay_course.specs.declared.course.Course.{Course}
 use Rattle.replay_course.specs.Going.{IsGoing}
+use Rattle.replay_course.proofs.Named.{commands_each}
+use Rattle.lemmas.proofs.Lists.{each_weaker}
 
 -- ---- the objects of the code
 
@@ -56,41 +56,6 @@ Low u = u.object < 64
 abbrev Named : Command → Type 0
 Named command = NamesBelow 64 command
 
-each_join : {X : Type 0} (P : X → Type 0) (xs ys : List X) → Each P xs → Each P ys → Each P (xs ++ ys)
-each_join P [] ys first rest = rest
-each_join P (x ∷ xs) ys first rest = (first.0, each_join P xs ys first.1 rest)
-
-each_stage : (us : List Update) → Each Low us → Each Named (map (λ u. Stage u) us)
-each_stage [] low = tt
-each_stage (u ∷ us) low = (low.0, each_stage us low.1)
-
-each_main : (us : List Update) → Each Low us → Each Named (map (λ u. Main u) us)
-each_main [] low = tt
-each_main (u ∷ us) low = (low.0, each_main us low.1)
-
-each_clear : (us : List Update) → Each Low us → Each Named (map clear_of us)
-each_clear [] low = tt
-each_clear (u ∷ us) low = (low.0, each_clear us low.1)
-
-each_command : (us : List Update) → Each Low us → Each Named (commands_of us)
-each_command us low =
-    each_join Named (map (λ u. Stage u) us) _ (each_stage us low)
-    (tt, each_join Named (map (λ u. Main u) us) _ (each_main us low) (tt, each_clear us low))
-
-each_low : (x : Given) (us : List Update) → IsBounded x.program → Each (IsUpdateOf (code_for x)) us → Each Low us
-each_low x [] bounded fit = tt
-each_low x (u ∷ us) bounded fit = (update_low x u bounded fit.0, each_low x us bounded fit.1)
-
-parts : (us vs : List Update) → Each Low (us ++ vs) → Each Low us × Each Low vs
-parts [] vs low = (tt, low)
-parts (u ∷ us) vs low = let rest = parts us vs low.1 in ((low.0, rest.0), rest.1)
-
-commands_low : (bs : List Batch) → Each Low (changes_in bs) → Each Named (commands_in bs)
-commands_low [] low = tt
-commands_low (b ∷ bs) low =
-    let p = parts b.updates (changes_in bs) low in
-    each_join Named (commands_of b.updates) (commands_in bs) (each_command b.updates p.0) (commands_low bs p.1)
-
 -- ---- the last command that was sent
 
 each_at : (commands : List Command) (n : ℕ) → Each Named commands → IfSome (slice_get commands n) Named
@@ -104,6 +69,8 @@ unless false o some = some
 
 pub last_named : (x : Given) (c : Course) (port : PortState) → IsGoing x c port → IfSome (last_sent c.commit) (NamesBelow 64)
 last_named x c port going =
-    let low = each_low x (changes_in c.commit.batches) going.prepared.ready.split.bounded going.sound.updates in
+    let low = each_weaker (IsUpdateOf (code_for x)) Low (λ u fit. update_low x u going.prepared.ready.split.bounded fit) (changes_in c.commit.batches)
+    going.sound.updates in
     unless (c.commit.sent == 0) (slice_get (commands_in c.commit.batches) (c.commit.sent - 1))
-    (each_at (commands_in c.commit.batches) (c.commit.sent - 1) (commands_low c.commit.batches low))
+    (each_at (commands_in c.commit.batches) (c.commit.sent - 1)
+    (commands_each Named Low (λ u one. one) (λ u one. one) (λ u one. one) tt tt c.commit.batches low))

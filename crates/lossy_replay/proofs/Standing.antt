@@ -1,16 +1,18 @@
 -- The numbers that stand on a way, and how one of them is found.
-use Rattle.std.proofs.Common.{◌≡◌, ◌≢◌, ◌<◌, ◌≤◌, ◌+◌, ℕ, zero, suc, Bool, true, false, not, cond, List, [], ◌∷◌, ◌++◌, length, get_or, refl, sym, ap, ◌∙◌, subst, inl, inr, Some, None, arith, true≢false, add-zero}
+use Rattle.std.proofs.Common.{◌≡◌, ◌≢◌, ◌<◌, ◌≤◌, ◌+◌, ℕ, zero, suc, Bool, true, false, not, cond, List, [], ◌∷◌, ◌++◌, length, get_or, refl, sym, ap, ◌∙◌, subst, inl, inr, Some, None, arith, true≢false}
 use Rattle.std.specs.Prelude.{◌==◌, Ok, Err, nat_lt, slice_get}
 use Rattle.std.specs.List.{AllPairs, filter, position, position_or_len, range_with_len}
 use Rattle.std.specs.List.Sorted.{IsBinarySearchResult}
 use Rattle.std.specs.Ordering.{nat_cmp}
-use Rattle.std.proofs.lemmas.Bool.{cases_eq, cases_lt, cond-false, cond-true, eq-eqb, eqb-true, lt-ltb, ne_eqb, or_cases, or_from, or_left, or_right}
+use Rattle.std.proofs.lemmas.Bool.{cases_lt, cond-false, cond-true, eq-eqb, lt-ltb, ne_eqb}
 use Rattle.std.proofs.lemmas.List.Elements.{filter-append}
 use Rattle.std.proofs.lemmas.List.Sorted.{searched}
 use Rattle.std.proofs.lemmas.Option.{slice_get-get_or, slice_get_within}
 use Rattle.lossy_link.specs.Link.{is_among}
 use Rattle.lossy_replay.specs.Linked.{without}
 use Rattle.lossy_replay.proofs.Apart.{AreApart, among_there}
+use Rattle.lemmas.proofs.Lists.{range_pushed}
+use Rattle.lossy_link.proofs.Among.{not_among}
 
 -- ---- rising numbers
 
@@ -47,11 +49,6 @@ kept_rises p a (suc n) =
       | false ↦ rising_lower (a + 1) a (a + suc n) (filter p (range_with_len (a + 1) n)) (omega arith) rest
     ]
 
-pub not_among : (xs : List ℕ) (n : ℕ) → ((k : ℕ) → k < length xs → get_or xs k 0 ≢ n) → is_among xs n ≡ false
-not_among [] n fails = refl
-not_among (x ∷ xs) n fails =
-    or_from (x == n) (is_among xs n) (ne_eqb x n (fails 0 (omega arith))) (not_among xs n (λ k inside. fails (suc k) (omega arith)))
-
 rising_apart : (a b : ℕ) (xs : List ℕ) → AreRising a b xs → AreApart xs
 rising_apart a b [] up = tt
 rising_apart a b (x ∷ xs) up =
@@ -73,19 +70,13 @@ pairs_apart (x ∷ xs) all = (
 
 -- ---- ranges
 
-range_push : (a n : ℕ) → range_with_len a (suc n) ≡ range_with_len a n ++ (a + n) ∷ []
-range_push a zero = ap (λ (k : ℕ). k ∷ []) (sym (add-zero a))
-range_push a (suc n) =
-    let last : (a + 1) + n ≡ a + suc n = omega arith in
-    ap (λ (xs : List ℕ). a ∷ xs) (range_push (a + 1) n ∙ ap (λ (k : ℕ). range_with_len (a + 1) n ++ k ∷ []) last)
-
 pub one_stands : (gone : List ℕ) (n : ℕ) → is_among gone n ≡ false
     → without gone (range_with_len 0 (suc n)) ≡ without gone (range_with_len 0 n) ++ n ∷ []
 one_stands gone n fails =
     let p : ℕ → Bool = λ k. not (is_among gone k) in
     let zero_plus : 0 + n ≡ n = omega arith in
     let last : filter p (n ∷ []) ≡ n ∷ [] = cond-true (p n) (n ∷ []) [] (ap not fails) in
-    ap (filter p) (range_push 0 n ∙ ap (λ (k : ℕ). range_with_len 0 n ++ k ∷ []) zero_plus)
+    ap (filter p) (range_pushed 0 n ∙ ap (λ (k : ℕ). range_with_len 0 n ++ k ∷ []) zero_plus)
     ∙ (filter-append p (range_with_len 0 n) (n ∷ []) ∙ ap (λ (ks : List ℕ). filter p (range_with_len 0 n) ++ ks) last)
 
 -- ---- places
@@ -131,42 +122,6 @@ missing_standing gone count n place search =
       | inl before ↦ absurd (omega (arith, same, at.1 k before))
       | inr behind ↦ absurd (omega (arith, same, at.2 k behind inside))
     ])
-
--- ---- what passes a test, and what stands in a range
-
-pub passes : (p : ℕ → Bool) (xs : List ℕ) (n : ℕ) → is_among (filter p xs) n ≡ true → p n ≡ true
-passes p [] n there = absurd cc
-passes p (x ∷ xs) n there =
-    elim (p x) as (λ b. p x ≡ b → is_among (cond b (x ∷ filter p xs) (filter p xs)) n ≡ true → p n ≡ true) [
-      | true ↦ λ holds in_it. elim (or_cases (x == n) (is_among (filter p xs) n) in_it) [
-        | inl here ↦ ap p (sym (eqb-true x n here)) ∙ holds
-        | inr behind ↦ passes p xs n behind
-      ]
-      | false ↦ λ fails in_it. passes p xs n in_it
-    ] refl there
-
-pub passed : (p : ℕ → Bool) (xs : List ℕ) (n : ℕ) → is_among xs n ≡ true → p n ≡ true → is_among (filter p xs) n ≡ true
-passed p [] n there holds = absurd cc
-passed p (x ∷ xs) n there holds =
-    elim (or_cases (x == n) (is_among xs n) there) [
-      | inl here ↦
-          let first : p x ≡ true = ap p (eqb-true x n here) ∙ holds in
-          ap (λ (ys : List ℕ). is_among ys n) (cond-true (p x) (x ∷ filter p xs) (filter p xs) first) ∙ or_left (x == n) (is_among (filter p xs) n) here
-      | inr behind ↦
-          let rest = passed p xs n behind holds in
-          elim (p x) as (λ b. is_among (cond b (x ∷ filter p xs) (filter p xs)) n ≡ true) [
-            | true ↦ or_right (x == n) (is_among (filter p xs) n) rest
-            | false ↦ rest
-          ]
-    ]
-
-pub among_range : (a n k : ℕ) → a ≤ k → k < a + n → is_among (range_with_len a n) k ≡ true
-among_range a zero k from below = absurd (omega arith)
-among_range a (suc n) k from below =
-    elim (cases_eq a k) [
-      | inl same ↦ or_left (a == k) (is_among (range_with_len (a + 1) n) k) (eq-eqb a k same)
-      | inr other ↦ or_right (a == k) (is_among (range_with_len (a + 1) n) k) (among_range (a + 1) n k (omega (arith, other)) (omega arith))
-    ]
 
 rising_short : (a b : ℕ) (xs : List ℕ) → AreRising a b xs → a ≤ b → a + length xs ≤ b
 rising_short a b [] up le = omega arith

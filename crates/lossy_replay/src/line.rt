@@ -5,7 +5,7 @@ ghost use Rattle.lossy_replay.specs.Lines.{IsAtWork, IsEnd, delivered_by, link_o
 
 use crate::run::{Ends, Tally4};
 use gal_io::{Bytes, NoMemory};
-use lossy_link::{LinkReceiver, LinkSender, Took, links_are_faithful, one_step_more};
+use lossy_link::{LinkReceiver, LinkSender, Took};
 use std::alloc::Global;
 
 /// The two ends of a link, and what was sent on it. Of a datagram and of a confirmation its number alone is kept: the
@@ -26,7 +26,6 @@ impl Line {
         ensures link { link_of result ≡ first_link ordered }
         ensures at_work { IsAtWork result }
     {
-        links_are_faithful();
         Line {
             sender: LinkSender::new(alloc),
             receiver: LinkReceiver::new(alloc, ordered),
@@ -43,7 +42,6 @@ impl Line {
         ensures link { OnOk result (link_of self.new ≡ link_step (link_of self.old) (give item)) }
         ensures at_work { OnOk result (IsAtWork self.new) }
     {
-        one_step_more();
         let number = self.sender.give(item)?;
         Ok(number)
     }
@@ -54,7 +52,6 @@ impl Line {
         ensures link { OnOk result (link_of self.new ≡ link_step (link_of self.old) (send j)) }
         ensures at_work { OnOk result (IsAtWork self.new) }
     {
-        one_step_more();
         match self.sender.unknown_at(j as usize) {
             Some(number) => {
                 self.sent.push(number)?;
@@ -72,7 +69,6 @@ impl Line {
         ensures link { OnOk result (link_of self.new ≡ link_step (link_of self.old) (arrive j)) }
         ensures at_work { OnOk result (IsAtWork self.new) }
     {
-        one_step_more();
         let Some(&number) = self.sent.as_slice().get(j as usize) else {
             return Ok(None);
         };
@@ -98,7 +94,6 @@ impl Line {
         ensures link { link_of self.new ≡ link_step (link_of self.old) (confirm j) }
         ensures at_work { IsAtWork self.new }
     {
-        one_step_more();
         let Some(&number) = self.back.as_slice().get(j as usize) else {
             return;
         };

@@ -24,13 +24,9 @@ use crate::run::LossyRun;
 use crate::way::Way;
 use gal_io::{Bytes, NoMemory};
 use lossy_link::write_command;
-use output_commit::{Commit, a_batch_takes_up_others};
-use replay_contracts::{Job, ReplayError, a_replay_goes_on};
-use replay_course::{Course, the_next_calls_may_be_made};
-use replay_state::{
-    a_run_is_answered_by_its_calls, commands_are_applied_in_order, packets_are_where_they_are_told,
-    passes_with_no_stages_end_at_once,
-};
+use output_commit::Commit;
+use replay_contracts::{Job, ReplayError};
+use replay_course::Course;
 use run_model::{Event, Link, LinkEvent, Run};
 use std::alloc::Global;
 use std::collections::VecDeque;
@@ -174,13 +170,6 @@ impl Links {
         ensures stays { OnOk result (StaysTold (S.seen port.old) (S.seen port.new)) }
         ensures fails { IfErr result (λ e. Fails e (S.seen port.old) (S.seen port.new)) }
     {
-        a_batch_takes_up_others();
-        a_replay_goes_on();
-        a_run_is_answered_by_its_calls();
-        commands_are_applied_in_order();
-        packets_are_where_they_are_told();
-        passes_with_no_stages_end_at_once();
-        the_next_calls_may_be_made();
         let Some(own) = self.let_by(course, event) else {
             return Ok(());
         };
@@ -254,7 +243,6 @@ impl Links {
         ensures stays { OnOk result (StaysTold (S.seen port.old) (S.seen port.new)) }
         ensures fails { IfErr result (λ e. Fails e (S.seen port.old) (S.seen port.new)) }
     {
-        a_run_is_answered_by_its_calls();
         match event {
             LinkEvent::World(event) => self.world(alloc, job, course, port, event),
             LinkEvent::Transmit(link, j) => Ok(self.transmit(link, j)?),

@@ -10,12 +10,8 @@ ghost use Rattle.lossy_replay.specs.Replay.{IsLinkedReplay, IsLinkedRun};
 
 use crate::links::Links;
 use crate::run::LossyRun;
-use replay_contracts::{
-    Job, ReplayError, a_quiet_switch_has_the_servers_tables, a_run_keeps_its_promises,
-    a_told_replay_reports_the_run,
-};
-use replay_course::{Course, few_events_are_left};
-use replay_state::a_run_is_answered_by_its_calls;
+use replay_contracts::{Job, ReplayError};
+use replay_course::Course;
 use run_model::LinkEvents;
 use std::alloc::Global;
 use switch_ir::SwitchPort;
@@ -47,11 +43,6 @@ pub fn replay_lossy<S: SwitchPort>(
     ensures fault { IfErr result (λ e. CountsFault e (S.seen port.old) (S.seen port.new)) }
     ensures fails { IfErr result (λ e. HasBroken (given_of job.now) e (S.seen port.old) (S.seen port.new)) }
 {
-    a_quiet_switch_has_the_servers_tables();
-    a_run_is_answered_by_its_calls();
-    a_run_keeps_its_promises();
-    a_told_replay_reports_the_run();
-    few_events_are_left();
     let mut course = Course::start(alloc, job, port)?;
     let mut links = Links::new(alloc);
     for event in events.as_slice() {

@@ -1,22 +1,17 @@
 -- Batches that come, and one that takes up those behind it.
-use Rattle.std.proofs.Common.{◌≡◌, ◌≤◌, ◌<◌, ◌^◌, ℕ, zero, suc, ◌+◌, ◌-◌, ◌*◌, Bool, true, false, eqb, List, [], ◌∷◌, ◌++◌, refl, sym, subst, ◌∙◌, ap, arith, length, map, take, drop, get_or, set, append_assoc}
-use Rattle.std.proofs.lemmas.List.{append-nil, length-append, length-drop, take_all, take-append-le, drop-append-le, take-set-le, drop-set-lt, take_more_set, map-append}
+use Rattle.std.proofs.Common.{◌≡◌, ◌≤◌, ◌<◌, ◌^◌, ℕ, zero, suc, ◌+◌, ◌-◌, ◌*◌, true, false, eqb, List, [], ◌∷◌, ◌++◌, refl, sym, subst, ◌∙◌, ap, arith, length, map, take, drop, get_or, set, append_assoc}
+use Rattle.std.proofs.lemmas.List.{length-append, length-drop, take-append-le, drop-append-le, take-set-le, drop-set-lt, take_more_set, map-append, drop_more as drop_next, take_rest}
 use Rattle.writeback_table.specs.declared.command.Update.{Update}
 use Rattle.output_commit.specs.declared.batches.Batches.{Batches}
 use Rattle.output_commit.specs.declared.span.Span.{Span}
 use Rattle.output_commit.specs.declared.tally.Tally.{Tally}
-use Rattle.output_commit.specs.Batches.{Batch, fits, merged, take_up}
+use Rattle.output_commit.specs.Batches.{fits, merged, take_up}
 use Rattle.output_commit.specs.Commit.{batch_of, batch_len}
-use Rattle.output_commit.specs.Kept.{AreKept, IsBegun, IsPushed, Takes, batches_in, begun_in, spans_in}
-use Rattle.output_commit.specs.Spans.{AreJoined, AreTallied, batch_in, first_of, joined, span_len, total}
+use Rattle.output_commit.specs.Kept.{AreKept, IsBegun, IsPushed, Takes, begun_in, spans_in}
+use Rattle.output_commit.specs.Spans.{AreJoined, AreTallied, batch_in, first_of, joined, total}
 use Rattle.output_commit.proofs.Counting.{kept_full}
 use Rattle.output_commit.proofs.Gaps.{drop_more, joined_updates, part_last, same_batches}
 use Rattle.output_commit.proofs.Spanning.{full_append, joined_both, joined_parts, joined_upto, merged_begins, total_append}
-
-drop_next : {X : Type 0} (xs : List X) (i : ℕ) (d : X) → i < length xs → drop i xs ≡ get_or xs i d ∷ drop (i + 1) xs
-drop_next [] i d h = absurd (omega arith)
-drop_next (x ∷ xs) zero d h = refl
-drop_next (x ∷ xs) (suc i) d h = let e : suc i + 1 ≡ suc (i + 1) = omega arith in rw e (drop_next xs i d (omega arith))
 
 -- ## A batch takes up those behind it
 
@@ -63,21 +58,6 @@ taking_next most us spans span behind d count t less at so =
       fewer = omega arith;
     }
 
-pub taking_stops : (most : ℕ) (us : List Update) (spans : List Span) (span behind d : Span) (count : ℕ) → Taking most us spans span count
-    → count < length spans → behind ≡ get_or spans count d
-    → fits most ((batch_in us span).updates ++ (batch_in us behind).updates) ≡ false → Takes most us spans span count
-taking_stops most us spans span behind d count t less at not =
-    let rest = drop (count + 1) spans in
-    let e : drop count spans ≡ behind ∷ rest = drop_next spans count d less ∙ ap (λ y. y ∷ rest) (sym at) in
-    let up : take_up (fits most) (batch_in us span) (map (batch_in us) (behind ∷ rest)) ≡ map (batch_in us) (span ∷ (behind ∷ rest)) = rw not refl in
-    record {
-      some = t.some;
-      within = t.within;
-      merged = t.merged ∙ ap (λ l. merged (fits most) 0 (map (batch_in us) (span ∷ l))) e ∙ up ∙ ap (λ l. map (batch_in us) (span ∷ l)) (sym e);
-      joined = t.joined;
-      fewer = t.fewer;
-    }
-
 -- what stands behind the first is within all changes, and both as one are not too many
 pub record Behind (us : List Update) (spans : List Span) (span behind : Span) : Type 0 where
   pub first_in : span.first + span.changes ≤ length us
@@ -106,35 +86,6 @@ first_in us [] span d some at h = absurd (omega arith)
 first_in us (x ∷ xs) span d some at h =
     let upto = joined_upto _ xs (length us) h.2 in
     subst (λ y. y.first + y.changes ≤ length us) (sym at) (omega arith)
-
--- counts for all changes are counts for some of them
-take_tallied : (t : Tally) (us : List Update) (n : ℕ) → AreTallied t us → AreTallied t (take n us)
-take_tallied t us zero h = tt
-take_tallied t [] (suc n) h = tt
-take_tallied t (u ∷ us) (suc n) h = (h.0, take_tallied t us n h.1)
-
-drop_tallied : (t : Tally) (us : List Update) (n : ℕ) → AreTallied t us → AreTallied t (drop n us)
-drop_tallied t us zero h = h
-drop_tallied t [] (suc n) h = tt
-drop_tallied t (u ∷ us) (suc n) h = drop_tallied t us n h.1
-
-pub part_tallied : (t : Tally) (us : List Update) (span : Span) → AreTallied t us → AreTallied t (batch_in us span).updates
-part_tallied t us span h = take_tallied t (drop span.first us) span.changes (drop_tallied t us span.first h)
-
-past : {X : Type 0} (xs : List X) → drop (length xs) xs ≡ []
-past [] = refl
-past (x ∷ xs) = past xs
-
-pub taking_ends : (most : ℕ) (us : List Update) (spans : List Span) (span : Span) → Taking most us spans span (length spans) → Takes most us spans span (length spans)
-taking_ends most us spans span t =
-    let e = past spans in
-    record {
-      some = t.some;
-      within = t.within;
-      merged = t.merged ∙ ap (λ l. merged (fits most) 0 (map (batch_in us) (span ∷ l))) e ∙ ap (λ l. map (batch_in us) (span ∷ l)) (sym e);
-      joined = t.joined;
-      fewer = t.fewer;
-    }
 
 -- the first alone doesn't fit, so it fits with none
 pub taking_none : (most : ℕ) (us : List Update) (spans : List Span) (span : Span) → Taking most us spans span 1
@@ -257,30 +208,6 @@ pushes b b' (u ∷ vs) kept some few updates spans begun next commands old_talli
       front = front;
     }
 
--- where nothing came but counts
-pub pushes_none : (b b' : Batches) → AreKept b → b'.updates.items ≡ b.updates.items → b'.spans.items ≡ b.spans.items → b'.begun ≡ b.begun → b'.next ≡ b.next
-    → b'.commands ≡ b.commands → AreTallied b'.tally b.updates.items → IsPushed b b' []
-pushes_none b b' kept updates spans begun next commands tallied =
-    let same : spans_in b' ≡ spans_in b = λ i. take (begun i) (spans i) ++ drop (next i) (spans i) in
-    let begun_le = kept.begun in
-    let next_le = kept.next in
-    let all_total = ap total same in
-    let was = kept.commands in
-    let few = kept.few in
-    record {
-      kept = record {
-        begun = omega arith;
-        next = let n = ap length spans in omega arith;
-        joined = subst (λ ss. AreJoined 0 ss (length b'.updates.items)) (sym same) (subst (λ n. AreJoined 0 (spans_in b) n) (sym (ap length updates)) kept.joined);
-        tallied = subst (λ l. AreTallied b'.tally l) (sym updates) tallied;
-        commands = omega arith;
-        few = omega arith;
-      };
-      batches = (λ i. map (batch_in (updates i)) (same i)) ∙ sym (append-nil (batches_in b));
-      begun = begun;
-      front = λ k low. ap (take k) spans;
-    }
-
 -- the changes of two as one
 pub taking_updates : (most : ℕ) (us : List Update) (spans : List Span) (span behind d : Span) (count : ℕ) → Taking most us spans span count
     → count < length spans → behind ≡ get_or spans count d
@@ -294,16 +221,8 @@ taking_updates most us spans span behind d count t less at =
     let upto = joined_upto _ rest (length us) j.2.2 in
     joined_updates us span behind (omega arith) (omega arith)
 
-pub rest_is : {X : Type 0} (xs : List X) (k : ℕ) → take (length xs - k) (drop k xs) ≡ drop k xs
-rest_is xs k = let l = length-drop k xs in take_all (length xs - k) (drop k xs) (omega arith)
-
 pub waiting_few : (b : Batches) → AreKept b → total (drop b.next b.spans.items) < 2 ^ 32
 waiting_few b kept = let t = total_append (begun_in b) (drop b.next b.spans.items) in let f = kept.few in omega arith
-
--- no more batches than half of the commands
-half : (spans : List Span) → 2 * length spans ≤ total spans
-half [] = omega arith
-half (x ∷ xs) = let r = half xs in omega arith
 
 pub few_taken : (most : ℕ) (us : List Update) (b : Batches) (span : Span) (count : ℕ) → AreKept b
     → Takes most us (drop b.next b.spans.items) span count → 2 * (count - 1) ≤ b.commands
@@ -317,7 +236,7 @@ few_taken most us b span count kept takes =
 pub takes_here : (most : ℕ) (b : Batches) (spans : List Span) (us : List Update) (span : Span) (count : ℕ) → spans ≡ b.spans.items → us ≡ b.updates.items
     → Takes most us (take (length spans - b.next) (drop b.next spans)) span count → Takes most b.updates.items (drop b.next b.spans.items) span count
 takes_here most b spans us span count same all takes =
-    let rest = ap (λ l. take (length l - b.next) (drop b.next l)) same ∙ rest_is b.spans.items b.next in
+    let rest = ap (λ l. take (length l - b.next) (drop b.next l)) same ∙ take_rest b.spans.items b.next in
     subst (λ l. Takes most b.updates.items l span count) rest
     (subst (λ v. Takes most v (take (length spans - b.next) (drop b.next spans)) span count) all takes)
 

@@ -29,7 +29,7 @@ all_same : (b : Bool) (us : List Update) (f : Update → Command) → ((c : Bool
 all_same b [] f h = refl
 all_same b (u ∷ us) f h = ap (λ c. bit_through c (map f us)) (h b u) ∙ all_same b us f h
 
-bit_past : (b : Bool) (xs ys : List Command) → bit_through b (xs ++ ys) ≡ bit_through (bit_through b xs) ys
+pub bit_past : (b : Bool) (xs ys : List Command) → bit_through b (xs ++ ys) ≡ bit_through (bit_through b xs) ys
 bit_past b [] ys = refl
 bit_past b (x ∷ xs) ys = bit_past (bit_after b x) xs ys
 

@@ -1,12 +1,11 @@
 -- Every list of calls keeps the counts in order, and what is seen only rises.
-use Rattle.std.proofs.Common.{◌≡◌, ◌≤◌, ◌<◌, ℕ, zero, suc, ◌+◌, Bool, true, false, cond, nat_lt, List, [], ◌∷◌, ◌++◌, length, take, Option, Some, None, refl, sym, subst, ap, ◌∙◌, arith, append-nil, append_assoc}
+use Rattle.std.proofs.Common.{◌≡◌, ◌≤◌, ℕ, ◌+◌, Bool, true, false, cond, nat_lt, List, [], ◌∷◌, ◌++◌, length, take, Option, Some, None, refl, sym, subst, ap, ◌∙◌, arith, append-nil, append_assoc}
 use Rattle.std.specs.Prelude.{slice_get, remove}
 use Rattle.std.proofs.lemmas.Bool.{ltb-true, ltb-false}
 use Rattle.writeback_table.specs.declared.command.Update.{Update}
-use Rattle.writeback_table.specs.declared.command.Command.{Command}
 use Rattle.output_commit.specs.declared.output.Output.{Output}
 use Rattle.output_commit.specs.declared.output.Release.TheVariants.{Frame, NotYet}
-use Rattle.output_commit.specs.Batches.{Batch, commands_in, fits, merged}
+use Rattle.output_commit.specs.Batches.{commands_in, fits, merged}
 use Rattle.output_commit.specs.Commit.{AreHeld, Commit, IsInOrder, first, batch_of, commands, visible, acknowledged, with_output, after_release}
 use Rattle.output_commit.specs.Laws.{Call, HoldsFitting, after_call, after_calls, changes_in, changes_of, one_if_any, versions_in, versions_of, IsKeptInOrder, IsSeenFromThenOn, StaysSent}
 use Rattle.output_commit.specs.Laws.Call.{hold, send, apply, acknowledge, release}
@@ -33,7 +32,7 @@ stays_so c i = record {
   versions = omega arith;
 }
 
-changes_one : (us : List Update) → changes_in (batch_of us) ≡ us
+pub changes_one : (us : List Update) → changes_in (batch_of us) ≡ us
 changes_one [] = refl
 changes_one (u ∷ us) = append-nil (u ∷ us)
 
@@ -126,17 +125,11 @@ one_call c (release j) i = released_on c j (slice_get c.held j) i
 
 changes_by : (call : Call) (calls : List Call) → changes_of (call ∷ calls) ≡ changes_of (call ∷ []) ++ changes_of calls
 changes_by (hold output us) calls = ap (λ l. l ++ changes_of calls) (sym (append-nil us))
-changes_by send calls = refl
-changes_by apply calls = refl
-changes_by acknowledge calls = refl
-changes_by (release j) calls = refl
+changes_by _ calls = refl
 
 versions_by : (call : Call) (calls : List Call) → versions_of (call ∷ calls) ≡ versions_of (call ∷ []) + versions_of calls
 versions_by (hold output us) calls = omega arith
-versions_by send calls = omega arith
-versions_by apply calls = omega arith
-versions_by acknowledge calls = omega arith
-versions_by (release j) calls = omega arith
+versions_by _ calls = omega arith
 
 all_calls : (c : Commit) (calls : List Call) → IsInOrder c → GoesOn c (after_calls c calls) (changes_of calls) (versions_of calls)
 all_calls c [] i = stays_so c i
@@ -196,11 +189,6 @@ seen_from_then_on writeback calls more j output there answered =
 batch_held : (room : ℕ) (us : List Update) → fits room us ≡ true → AreHeld room (batch_of us)
 batch_held room [] h = tt
 batch_held room (u ∷ us) h = (h, tt)
-
-sent_held : (c : Commit) (b : Bool) → AreHeld c.writeback c.batches
-    → AreHeld c.writeback (cond b (record c { batches = merged (fits c.writeback) c.sent c.batches; sent = c.sent + 1 }) c).batches
-sent_held c true h = merged_held c.writeback c.sent c.batches h
-sent_held c false h = h
 
 -- the same limit, and batches that are held
 record Holds (room : ℕ) (c : Commit) : Type 0 where

@@ -1,9 +1,8 @@
 -- What a commit keeps beside what it shows stays so with each call.
-use Rattle.std.proofs.Common.{◌≡◌, ◌≤◌, ◌<◌, ◌^◌, ℕ, zero, suc, ◌+◌, ◌-◌, ◌*◌, Bool, true, false, ltb, List, [], ◌∷◌, ◌++◌, Option, Some, inl, inr, refl, sym, subst, ◌∙◌, ap, arith, length, map, take, drop}
+use Rattle.std.proofs.Common.{◌≡◌, ◌≤◌, ◌<◌, ◌^◌, ℕ, suc, ◌+◌, ◌-◌, true, false, ltb, List, [], ◌∷◌, ◌++◌, Some, inl, inr, refl, sym, subst, ◌∙◌, ap, arith, length, map, take, drop}
 use Rattle.std.specs.Prelude.{slice_get, remove, Result, Ok, Err, OnOk, OnErr, is_err}
-use Rattle.std.proofs.lemmas.Bool.{cases_Bool, cases_lt, lt-ltb, ltb-true}
-use Rattle.std.proofs.lemmas.List.{take-append-le, drop-append-le, length-append, length-drop, length-take-le, drop_all, take_all, append-nil}
-use Rattle.writeback_table.specs.declared.command.Command.{Command}
+use Rattle.std.proofs.lemmas.Bool.{cases_Bool, cases_lt, lt-ltb, ltb-true, le-ltb as not_ltb}
+use Rattle.std.proofs.lemmas.List.{take-append-le, drop-append-le, length-append, length-drop, length-take-le, take_all, append-nil}
 use Rattle.writeback_table.specs.Commands.{commands_of}
 use Rattle.output_commit.specs.declared.batches.Batches.{Batches}
 use Rattle.output_commit.specs.declared.place.Place.{Place}
@@ -15,7 +14,7 @@ use Rattle.output_commit.specs.Batches.{Batch, commands_in, fits, merged, visibl
 use Rattle.output_commit.specs.Kept.{AreKept, IsBefore, IsBegun, IsCounted, IsPushed, batches_in, begun_in, spans_in}
 use Rattle.output_commit.specs.Spans.{IsIn, batch_in, passed, shown_by, span_len, stands, total}
 use Rattle.output_commit.proofs.Counting.{commands_total, kept_full}
-use Rattle.output_commit.proofs.Seeing.{shown, visible_front, visible_is, visible_merged}
+use Rattle.output_commit.proofs.Seeing.{visible_front, visible_is, visible_merged}
 use Rattle.output_commit.proofs.Spanning.{AreFull, StandsIn, full_append, merged_within, shown_few, shown_next, stands_front, stands_get, stands_in, total_append}
 
 -- ## Places of more batches
@@ -104,33 +103,6 @@ none_begins b writeback sent done acked left applied known v a c some =
     (subst (AreFull b.updates.items) (sym spans) full) low (omega arith) in
     subst (λ l. merged (fits writeback) sent (map (batch_in b.updates.items) (l ++ drop b.next b.spans.items)) ≡ map (batch_in b.updates.items) (l ++ drop b.next b.spans.items)) spans within
 
-pub counted_one : (b : Batches) (sent done acked left : ℕ) (applied known : Place) (v a : ℕ)
-    → IsCounted b sent done acked left applied known v a → 0 < left → IsCounted b (sent + 1) done acked (left - 1) applied known v a
-counted_one b sent done acked left applied known v a c some = record {
-  kept = c.kept;
-  all = let e = c.all in omega arith;
-  last = λ k e. let l = c.last k e in omega arith;
-  done_within = let d = c.done_within in omega arith;
-  acked_within = c.acked_within;
-  applied_at = c.applied_at;
-  known_at = c.known_at;
-  seen = c.seen;
-  known_seen = c.known_seen;
-}
-
--- where none is left, and not all are sent, a batch waits
-pub one_waits : (b : Batches) (sent done acked : ℕ) (applied known : Place) (v a : ℕ)
-    → IsCounted b sent done acked 0 applied known v a → sent < b.commands → b.next < length b.spans.items
-one_waits b sent done acked applied known v a c less = elim (cases_lt b.next (length b.spans.items)) [
-  | inl lt ↦ lt
-  | inr past ↦
-      let none = ap total (drop_all b.next b.spans.items past) in
-      let t = total_append (begun_in b) (drop b.next b.spans.items) in
-      let all = c.all in
-      let k = c.kept.commands in
-      absurd (omega arith)
-]
-
 pub counted_begin : (b b' : Batches) (span : Span) (writeback sent done acked : ℕ) (applied known : Place) (v a : ℕ)
     → IsCounted b sent done acked 0 applied known v a → IsBegun writeback b b' span
     → IsCounted b' (sent + 1) done acked (span_len span - 1) applied known v a
@@ -163,10 +135,6 @@ sent_merges b b' span writeback sent done acked applied known v a c is =
     is.batches ∙ ap (λ n. merged (fits writeback) n (batches_in b)) sent_is
 
 -- ## A place goes on
-
--- there is a command behind the place
-pub place_within : (b : Batches) (sent left n : ℕ) (p : Place) → sent + left ≡ total (begun_in b) → IsBefore b n p → n < sent → passed (begun_in b) p < total (begun_in b)
-place_within b sent left n p all is less = let e = is.passed in omega arith
 
 pub begun_few : (b : Batches) → AreKept b → total (begun_in b) < 2 ^ 32
 begun_few b kept = let t = total_append (begun_in b) (drop b.next b.spans.items) in let f = kept.few in omega arith
@@ -261,9 +229,6 @@ pub length_in : (b : Batches) (s : Span) → s.first + s.changes ≤ length b.up
 length_in b s h = let l = length-drop s.first b.updates.items in length-take-le s.changes (drop s.first b.updates.items) (omega arith)
 
 -- ## Outputs that go
-
-not_ltb : (m n : ℕ) → n ≤ m → ltb m n ≡ false
-not_ltb m n h = elim (cases_Bool (ltb m n)) [ inl t ↦ let lt = ltb-true m n t in absurd (omega arith) | inr f ↦ f ]
 
 pub answer_goes : (c : Commit) (j : ℕ) (o : Output) → slice_get c.held j ≡ Some o → o.need ≤ acknowledged c
     → answer c (slice_get c.held j) ≡ Frame o.number o.frame

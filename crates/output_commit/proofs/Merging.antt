@@ -1,6 +1,5 @@
 -- What batches keep where one takes up those behind it.
-use Rattle.std.proofs.Common.{◌≡◌, ℕ, ◌+◌, ◌-◌, ◌*◌, ◌<◌, ◌≤◌, Bool, true, false, cond, leb, eqb, List, [], ◌∷◌, ◌++◌, inl, inr, refl, sym, ◌∙◌, ap, arith, zero, suc, length, take, append_assoc, append-nil}
-use Rattle.std.specs.List.{AllByRecursion as Each}
+use Rattle.std.proofs.Common.{◌≡◌, ℕ, ◌+◌, ◌-◌, ◌<◌, ◌≤◌, Bool, true, leb, eqb, List, [], ◌∷◌, ◌++◌, inl, inr, refl, sym, ◌∙◌, ap, arith, length, take, append_assoc}
 use Rattle.std.proofs.lemmas.Bool.{cases_Bool, eqb-true, leb-true}
 use Rattle.std.proofs.lemmas.List.{length-append, take-append-le}
 use Rattle.writeback_table.specs.declared.command.Update.{Update}
@@ -9,12 +8,7 @@ use Rattle.output_commit.specs.Batches.{Batch, commands_in, fits, merged, take_u
 use Rattle.output_commit.specs.Commit.{AreHeld}
 use Rattle.output_commit.specs.Laws.{IsMerged, changes_in, versions_in}
 use Rattle.output_commit.proofs.Seeing.{length_batch, visible_merged}
-
-pub take_parts : {X : Type 0} (xs ys : List X) (m : ℕ) → take m (xs ++ ys) ≡ take m xs ++ take (m - length xs) ys
-take_parts [] ys zero = refl
-take_parts [] ys (suc m) = let e : suc m - 0 ≡ suc m = omega arith in rw e refl
-take_parts (x ∷ xs) ys zero = let e : 0 - suc (length xs) ≡ 0 = omega arith in rw e refl
-take_parts (x ∷ xs) ys (suc m) = let e : suc m - suc (length xs) ≡ m - length xs = omega arith in rw e (ap (λ l. x ∷ l) (take_parts xs ys m))
+use Rattle.lemmas.proofs.Lists.{take_parts}
 
 abbrev joined : Batch → Batch → Batch
 joined b c = record { updates = b.updates ++ c.updates; versions = b.versions + c.versions }

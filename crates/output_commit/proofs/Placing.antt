@@ -1,14 +1,9 @@
 -- How a place goes on by a command.
-use Rattle.std.proofs.Common.{◌≡◌, ℕ, ◌+◌, ◌-◌, ◌*◌, ◌<◌, ◌≤◌, Bool, true, false, cond, ltb, List, [], ◌∷◌, ◌++◌, Option, Some, None, inl, inr, refl, sym, subst, ◌∙◌, ap, arith, zero, suc, length, take, drop, get_or}
-use Rattle.std.proofs.lemmas.Bool.{cases_Bool, ltb-true, ltb-false, lt-ltb}
+use Rattle.std.proofs.Common.{◌≡◌, ℕ, ◌+◌, ◌-◌, ◌<◌, ◌≤◌, false, ltb, List, [], ◌∷◌, Some, inl, inr, sym, subst, ◌∙◌, ap, arith, zero, suc, length, take, drop, get_or}
+use Rattle.std.proofs.lemmas.Bool.{cases_Bool, ltb-true, lt-ltb}
 use Rattle.output_commit.specs.declared.span.Span.{Span}
 use Rattle.output_commit.specs.declared.place.Place.{Place}
 use Rattle.output_commit.specs.Spans.{IsIn, passed, span_len, stands, total}
-
-pub total_first : (spans : List Span) (i : ℕ) → total (take i spans) ≤ total spans
-total_first spans zero = omega arith
-total_first [] (suc i) = omega arith
-total_first (x ∷ xs) (suc i) = let r = total_first xs i in omega arith
 
 -- there is a batch at the place
 pub there : (spans : List Span) (i s : ℕ) → i ≤ length spans → s ≤ total (take 1 (drop i spans)) → total (take i spans) + s < total spans → i < length spans

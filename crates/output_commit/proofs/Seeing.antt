@@ -40,7 +40,7 @@ ons_off us ds (suc n) =
     let e : suc n - suc (length us) ≡ n - length us = omega arith in
     let r = ons_none clear_of (λ u. refl) us ds n in rw e (omega arith)
 
-regroup : (us : List Update) (ds : List Command)
+pub regroup : (us : List Update) (ds : List Command)
     → commands_of us ++ ds ≡ map (λ u. Stage u) us ++ (On ∷ (map (λ u. Main u) us ++ (Off ∷ (map clear_of us ++ ds))))
 regroup us ds =
     append_assoc (map (λ u. Stage u) us) (On ∷ (map (λ u. Main u) us ++ (Off ∷ map clear_of us))) ds
@@ -73,11 +73,11 @@ from_on us ds n high =
 
 -- ## The versions that are visible
 
-versions_from : (weight : ℕ → ℕ) (n : ℕ) → versions weight (suc n) ≡ weight 0 + versions (λ i. weight (suc i)) n
+pub versions_from : (weight : ℕ → ℕ) (n : ℕ) → versions weight (suc n) ≡ weight 0 + versions (λ i. weight (suc i)) n
 versions_from weight zero = omega arith
 versions_from weight (suc n) = let r = versions_from weight n in omega arith
 
-versions_none : (n : ℕ) → versions (versions_at []) n ≡ 0
+pub versions_none : (n : ℕ) → versions (versions_at []) n ≡ 0
 versions_none zero = refl
 versions_none (suc n) = let r = versions_none n in omega arith
 

@@ -1,21 +1,19 @@
 -- Which command was sent last.
-use Rattle.std.proofs.Common.{◌≡◌, ℕ, zero, suc, ◌+◌, ◌-◌, ◌<◌, ◌≤◌, ◌^◌, List, [], ◌∷◌, Option, Some, None, refl, sym, subst, ◌∙◌, ap, arith, length, take, drop, get_or}
+use Rattle.std.proofs.Common.{◌≡◌, ℕ, zero, suc, ◌+◌, ◌-◌, ◌<◌, ◌≤◌, ◌^◌, List, [], ◌∷◌, Some, refl, sym, ◌∙◌, ap, arith, length, take, drop, get_or}
 use Rattle.std.specs.Prelude.{slice_get}
 use Rattle.std.proofs.lemmas.Bool.{ne_eqb}
 use Rattle.std.proofs.lemmas.List.{length-take-le, take_all}
-use Rattle.std.proofs.lemmas.Option.{get_or_from_slice_get, none-some, slice_get-get_or, slice_get_within}
+use Rattle.std.proofs.lemmas.Option.{get_or_from_slice_get, slice_get_within}
 use Rattle.writeback_table.specs.declared.command.Command.{Command}
-use Rattle.writeback_table.specs.Commands.{commands_of}
 use Rattle.output_commit.specs.declared.batches.Batches.{Batches}
 use Rattle.output_commit.specs.declared.place.Place.{Place}
 use Rattle.output_commit.specs.declared.span.Span.{Span}
-use Rattle.output_commit.specs.Batches.{commands_in}
 use Rattle.output_commit.specs.Commit.{Commit, commands, last_sent}
-use Rattle.output_commit.specs.Kept.{IsCounted, batches_in, begun_in, spans_in}
-use Rattle.output_commit.specs.Spans.{batch_in, span_len, stands, total}
-use Rattle.output_commit.proofs.Keeping.{begun_few, command_is, span_within}
+use Rattle.output_commit.specs.Kept.{IsCounted, begun_in, spans_in}
+use Rattle.output_commit.specs.Spans.{span_len, stands, total}
+use Rattle.output_commit.proofs.Keeping.{begun_few}
 use Rattle.output_commit.proofs.Placing.{one_within, stands_here, total_next}
-use Rattle.output_commit.proofs.Spanning.{StandsIn, stands_front}
+use Rattle.output_commit.proofs.Spanning.{stands_front}
 
 front_of : {X : Type 0} (k n : ℕ) (xs : List X) → k ≤ n → take k (take n xs) ≡ take k xs
 front_of zero n xs h = refl
@@ -64,19 +62,6 @@ last_stands b sent done acked left applied known v a span c last =
       stands = stands_front l (drop b.next b.spans.items) (sent - 1) (omega arith) ∙ ap (stands l) (sym place) ∙ at
           ∙ ap (λ (s : Span). Some (s, step)) is;
     }
-
--- where no batch was begun, none was sent
-pub none_begun : (b : Batches) (sent done acked left : ℕ) (applied known : Place) (v a : ℕ)
-    → IsCounted b sent done acked left applied known v a → slice_get (begun_in b) (length (begun_in b) - 1) ≡ None → sent ≡ 0
-none_begun b sent done acked left applied known v a c none = no_total (begun_in b) c.all none
-  where
-    no_total : (l : List Span) → sent + left ≡ total l → slice_get l (length l - 1) ≡ None → sent ≡ 0
-    no_total [] all none = omega arith
-    no_total (x ∷ xs) all none =
-        absurd (none-some _ (sym none ∙ slice_get-get_or (x ∷ xs) (length (x ∷ xs) - 1) x (omega arith)))
-
-pub none_last : (c : Commit) → c.sent ≡ 0 → None ≡ last_sent c
-none_last c none = rw none refl
 
 pub some_last : (c : Commit) (command : Command) → 0 < c.sent → Some command ≡ slice_get (commands c) (c.sent - 1) → Some command ≡ last_sent c
 some_last c command some is =

@@ -1,17 +1,18 @@
 -- Batches by where their changes stand, and commands by their place.
-use Rattle.std.proofs.Common.{◌≡◌, ℕ, ◌+◌, ◌-◌, ◌*◌, ◌<◌, ◌≤◌, Bool, true, false, cond, leb, ltb, eqb, List, [], ◌∷◌, ◌++◌, Option, Some, None, inl, inr, refl, sym, subst, ◌∙◌, ap, arith, zero, suc, map, length, take, drop, append_assoc, append-nil, length-append, length-drop, get_or}
+use Rattle.std.proofs.Common.{◌≡◌, ℕ, ◌+◌, ◌-◌, ◌*◌, ◌<◌, ◌≤◌, Bool, leb, ltb, List, [], ◌∷◌, ◌++◌, Some, inl, inr, refl, sym, subst, ◌∙◌, ap, arith, zero, suc, map, length, take, drop, length-append, length-drop, get_or}
 use Rattle.std.specs.Prelude.{slice_get}
 use Rattle.std.specs.List.{AllByRecursion as Each}
-use Rattle.std.proofs.lemmas.Bool.{cases_Bool, cases_lt, cases_eq, eqb-true, eq-eqb, leb-true, leb-false, le-leb, ltb-true, ltb-false, lt-ltb}
-use Rattle.std.proofs.lemmas.List.{length-map, length-take-le, take-append-le, drop-append-le, map-append}
+use Rattle.std.proofs.lemmas.Bool.{cases_Bool, cases_lt, cases_eq, eq-eqb, le-leb, ltb-true, ltb-false, lt-leb, ne_eqb}
+use Rattle.std.proofs.lemmas.List.{length-map, length-take-le}
 use Rattle.std.proofs.lemmas.Option.{none-some, same_Some}
 use Rattle.writeback_table.specs.declared.command.Update.{Update}
 use Rattle.writeback_table.specs.declared.command.Command.TheVariants.{Stage, On, Main, Off, Clear}
 use Rattle.writeback_table.specs.Commands.{clear_of, commands_of}
 use Rattle.output_commit.specs.declared.span.Span.{Span}
 use Rattle.output_commit.specs.Batches.{Batch, commands_in, merged}
-use Rattle.output_commit.specs.Spans.{AreJoined, batch_in, first_of, joined, passed, shown_by, span_len, stands, total}
+use Rattle.output_commit.specs.Spans.{AreJoined, batch_in, shown_by, span_len, stands, total}
 use Rattle.output_commit.proofs.Seeing.{length_batch, shown}
+use Rattle.lemmas.proofs.Lists.{get_front}
 
 -- ## Spans within all changes
 
@@ -59,11 +60,6 @@ total_is us (s ∷ ss) h =
     let r = total_is us ss h.1 in omega arith
 
 -- ## The command at a place
-
-get_front : {X : Type 0} (xs ys : List X) (n : ℕ) → n < length xs → slice_get (xs ++ ys) n ≡ slice_get xs n
-get_front [] ys n h = absurd (omega arith)
-get_front (x ∷ xs) ys zero h = refl
-get_front (x ∷ xs) ys (suc n) h = get_front xs ys n (omega arith)
 
 pub get_behind : {X : Type 0} (xs ys : List X) (n : ℕ) → length xs ≤ n → slice_get (xs ++ ys) n ≡ slice_get ys (n - length xs)
 get_behind [] ys n h = let e : n ≡ n - 0 = omega arith in ap (slice_get ys) e
@@ -122,15 +118,9 @@ stands_front (x ∷ xs) ys n h = elim (cases_Bool (ltb n (span_len x))) [
 
 -- ## What a command makes visible
 
-shown_none : (bs : List Batch) → shown bs 0 ≡ 0
+pub shown_none : (bs : List Batch) → shown bs 0 ≡ 0
 shown_none [] = refl
 shown_none (b ∷ bs) = let t = le-leb 0 (length b.updates) (omega arith) in rw t refl
-
-not_leb : (a b : ℕ) → b < a → leb a b ≡ false
-not_leb a b h = elim (cases_Bool (leb a b)) [ inl t ↦ let le = leb-true a b t in absurd (omega arith) | inr f ↦ f ]
-
-not_eqb : (a b : ℕ) → (a ≡ b → ⊥) → eqb a b ≡ false
-not_eqb a b h = elim (cases_Bool (eqb a b)) [ inl t ↦ absurd (h (eqb-true a b t)) | inr f ↦ f ]
 
 -- in the first batch
 first_shown : (us : List Update) (x : Span) (bs : List Batch) (n : ℕ) → length (batch_in us x).updates ≡ x.changes → n < span_len x
@@ -144,17 +134,17 @@ first_shown us x bs n full lt =
     elim (cases_lt n x.changes) [
       | inl low ↦
           let a = le-leb (n + 1) w (omega arith) in let b = le-leb n w (omega arith) in
-          let c = not_eqb n x.changes (λ e. omega arith) in
+          let c = ne_eqb n x.changes (λ e. omega arith) in
           rw (a, b, c) (omega arith)
       | inr high ↦ elim (cases_eq n x.changes) [
         | inl e ↦
-            let a = not_leb (n + 1) w (omega arith) in let b = le-leb n w (omega arith) in
+            let a = lt-leb (n + 1) w (omega arith) in let b = le-leb n w (omega arith) in
             let c = eq-eqb n x.changes e in
             rw (a, b, c, y) (omega arith)
         | inr d ↦
             let more : x.changes < n = above n x.changes high d in
-            let a = not_leb (n + 1) w (omega arith) in let b = not_leb n w (omega arith) in
-            let c = not_eqb n x.changes d in
+            let a = lt-leb (n + 1) w (omega arith) in let b = lt-leb n w (omega arith) in
+            let c = ne_eqb n x.changes d in
             rw (a, b, c, y, z) (omega arith)
       ]
     ]
@@ -176,8 +166,8 @@ shown_next us (x ∷ xs) n s k full h = elim (cases_Bool (ltb n (span_len x))) [
       let l = len_is us x full.0 in
       let rest : stands xs (n - span_len x) ≡ Some (s, k) = rw f at h in
       let r = shown_next us xs (n - span_len x) s k full.1 rest in
-      let a = not_leb (n + 1) (length (batch_in us x).updates) (let w = full.0 in omega arith) in
-      let b = not_leb n (length (batch_in us x).updates) (let w = full.0 in omega arith) in
+      let a = lt-leb (n + 1) (length (batch_in us x).updates) (let w = full.0 in omega arith) in
+      let b = lt-leb n (length (batch_in us x).updates) (let w = full.0 in omega arith) in
       let y : n + 1 - length (commands_of (batch_in us x).updates) ≡ n - span_len x + 1 = omega arith in
       let z : n - length (commands_of (batch_in us x).updates) ≡ n - span_len x = omega arith in
       rw (a, b, y, z) (omega arith)
@@ -202,7 +192,7 @@ merged_begins us f [] ys full = refl
 merged_begins us f (x ∷ xs) ys full =
     let l = len_is us x full.0 in
     let n = span_len x + total xs in
-    let a = not_eqb n 0 (λ e. omega arith) in
+    let a = ne_eqb n 0 (λ e. omega arith) in
     let b = le-leb (length (commands_of (batch_in us x).updates)) n (omega arith) in
     let e : n - length (commands_of (batch_in us x).updates) ≡ total xs = omega arith in
     rw (a, b, e) (ap (λ bs. batch_in us x ∷ bs) (merged_begins us f xs ys full.1))
@@ -214,12 +204,12 @@ pub merged_within : (us : List Update) (f : List Update → Bool) (k : ℕ) (xs 
 merged_within us f k [] ys n full low high = absurd (omega arith)
 merged_within us f zero (x ∷ xs) ys n full low high =
     let l = len_is us x full.0 in
-    let a = not_eqb n 0 (λ e. omega arith) in
-    let b = not_leb (length (commands_of (batch_in us x).updates)) n (omega arith) in
+    let a = ne_eqb n 0 (λ e. omega arith) in
+    let b = lt-leb (length (commands_of (batch_in us x).updates)) n (omega arith) in
     rw (a, b) refl
 merged_within us f (suc k) (x ∷ xs) ys n full low high =
     let l = len_is us x full.0 in
-    let a = not_eqb n 0 (λ e. omega arith) in
+    let a = ne_eqb n 0 (λ e. omega arith) in
     let b = le-leb (length (commands_of (batch_in us x).updates)) n (omega arith) in
     let e : n - length (commands_of (batch_in us x).updates) ≡ n - span_len x = omega arith in
     rw (a, b, e) (ap (λ bs. batch_in us x ∷ bs) (merged_within us f k xs ys (n - span_len x) full.1 (omega arith) (omega arith)))

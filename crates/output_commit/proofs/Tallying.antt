@@ -1,13 +1,12 @@
 -- Counts of the changes of each object, one change after the other.
-use Rattle.std.proofs.Common.{◌≡◌, ℕ, ◌+◌, ◌<◌, ◌≤◌, Bool, true, false, cond, eqb, List, [], ◌∷◌, ◌++◌, inl, inr, refl, sym, subst, ◌∙◌, ap, arith, zero, suc, length, take, drop, get_or, set, append_assoc}
-use Rattle.std.specs.List.{AllByRecursion as Each}
+use Rattle.std.proofs.Common.{◌≡◌, ℕ, ◌+◌, ◌<◌, ◌≤◌, true, false, cond, eqb, List, [], ◌∷◌, ◌++◌, inl, inr, refl, sym, subst, ◌∙◌, ap, arith, zero, suc, length, take, drop, get_or, set}
 use Rattle.std.proofs.lemmas.Bool.{cases_Bool, cases_eq, eqb-true, eq-eqb}
 use Rattle.std.proofs.lemmas.List.{get_or-set_same, get_or-set_other, length-set, take_more, take-append-drop}
 use Rattle.writeback_table.specs.declared.command.Update.{Update}
 use Rattle.writeback_table.specs.Batches.{count_of}
 use Rattle.output_commit.specs.declared.tally.Tally.{Tally}
 use Rattle.output_commit.specs.Batches.{fits}
-use Rattle.output_commit.specs.Spans.{AreTallied, IsTallied}
+use Rattle.output_commit.specs.Spans.{AreTallied}
 use Rattle.output_commit.proofs.Fitting.{count_append, few, held_by, not_held}
 
 pub tallied_at : (t : Tally) (us : List Update) (i : ℕ) (u : Update) → AreTallied t us → i < length us → u ≡ get_or us i u → u.object < length t.counts.items
@@ -18,10 +17,6 @@ tallied_at t (x ∷ us) (suc i) u h less at = tallied_at t us i u h.1 (omega ari
 pub same_tallied : (t t' : Tally) → length t'.counts.items ≡ length t.counts.items → (us : List Update) → AreTallied t us → AreTallied t' us
 same_tallied t t' same [] h = tt
 same_tallied t t' same (u ∷ us) h = (subst (λ n. u.object < n) (sym same) h.0, same_tallied t t' same us h.1)
-
-pub more_tallied : (t t' : Tally) → length t.counts.items ≤ length t'.counts.items → (us : List Update) → AreTallied t us → AreTallied t' us
-more_tallied t t' more [] h = tt
-more_tallied t t' more (u ∷ us) h = (let l = h.0 in omega arith, more_tallied t t' more us h.1)
 
 -- one change more of one object
 pub count_next : (before us : List Update) (i : ℕ) (u : Update) (o : ℕ) → i < length us → u ≡ get_or us i u

@@ -1,5 +1,5 @@
 -- Several fields of a packet, set in any order.
-use Rattle.std.proofs.Common.{◌≡◌, ◌≢◌, ℕ, ◌^◌, ◌<◌, ◌⊎◌, ◌||◌, ◌==◌, not, Bool, true, false, List, [], ◌∷◌, ◌++◌, length, refl, sym, ap, ◌∙◌, subst, inl, inr, arith, Option, Some, None, IsSome, cond}
+use Rattle.std.proofs.Common.{◌≡◌, ◌≢◌, ℕ, ◌^◌, ◌<◌, ◌⊎◌, ◌||◌, ◌==◌, not, Bool, true, false, List, [], ◌∷◌, length, refl, sym, ap, ◌∙◌, subst, inl, inr, arith, Option, Some, None, IsSome, cond}
 use Rattle.std.proofs.lemmas.Bool.{true≢false, eqb-true, cases_Bool, cond-true, cond-false, cond_both}
 use Rattle.std.specs.List.{filter}
 use Rattle.packet_fields.specs.declared.field.Field.{Field}
@@ -75,9 +75,6 @@ unset-with_fields (s ∷ ss) bytes f port can unset =
 is_some_moved : (o p : Option ℕ) → p ≡ o → IsSome o → IsSome p
 is_some_moved o p e there = rw e there
 
-same_number : (a b c : ℕ) → a ≡ b → b ≡ c → a ≡ c
-same_number a b c p q = p ∙ q
-
 -- the first entry of a list sets the field, and no later one
 set_by_first : (s : Setting) (ss : List Setting) (bytes : List ℕ) (f : Field) (port : ℕ) → CanBeSet (s ∷ ss) → IsUnset ss s.field → s.field ≡ f → IsSome (place (shape_of bytes) f)
     → field_value (with_settings bytes (s ∷ ss)) port f ≡ s.value
@@ -128,9 +125,6 @@ same_test f g e = grind (arith, ap field_index e)
 
 other_test : (f g : Field) → f ≢ g → (field_index f == field_index g) ≡ false
 other_test f g other = elim (cases_Bool (field_index f == field_index g)) [ inl same ↦ absurd (other (same_index f g (eqb-true (field_index f) (field_index g) same))) | inr not_same ↦ not_same ]
-
-or_true : (b c : Bool) → b ≡ true → (b || c) ≡ true
-or_true b c e = cc
 
 same_choice : (fs : List Field) (bytes : List ℕ) (c d : Choice) → ((f : Field) → Has f fs → c f ≡ d f) → with_each bytes c fs ≡ with_each bytes d fs
 same_choice [] bytes c d same = refl
@@ -197,13 +191,6 @@ listed_in_order (s ∷ ss) bytes can distinct =
     } in
     listed_in_order ss (with_field bytes s.field s.value) can.2 distinct.1
     ∙ set_in_place all_fields bytes (choice_of ss) (choice_of (s ∷ ss)) s.field s.value adds once (each_there s.field)
-
-with_fields-append : (first : List Setting) (bytes : List ℕ) (second : List Setting) → with_settings bytes (first ++ second) ≡ with_settings (with_settings bytes first) second
-with_fields-append [] bytes second = refl
-with_fields-append (s ∷ ss) bytes second = with_fields-append ss (with_field bytes s.field s.value) second
-
-pub lists_in_order : (bytes : List ℕ) (first second : List Setting) → CanBeSet (first ++ second) → AreDistinct (first ++ second) → with_settings (with_settings bytes first) second ≡ in_field_order bytes (choice_of (first ++ second))
-lists_in_order bytes first second can distinct = sym (with_fields-append first bytes second) ∙ listed_in_order (first ++ second) bytes can distinct
 
 -- ---- one choice and then another
 -- what the first choice sets among some fields, and what the second sets

@@ -4,6 +4,7 @@ use Rattle.std.proofs.lemmas.Bool.{true≢false, eqb-true, cases_Bool, and_parts
 use Rattle.packet_fields.specs.declared.field.Field.{Field}
 use Rattle.packet_fields.specs.FieldOrder.{same_index, each_of, of_each}
 use Rattle.packet_fields.specs.Table.{all_fields, field_index}
+use Rattle.lemmas.proofs.Tests.{not_both}
 
 abbrev pub Has : Field → List Field → Type 0
 Has f [] = ⊥
@@ -35,10 +36,6 @@ it_is_there f (g ∷ gs) test = elim (cases_Bool (field_index g == field_index f
   | inl same ↦ inl (same_index g f (eqb-true (field_index g) (field_index f) same))
   | inr other ↦ inr (it_is_there f gs (rw other at test))
 ]
-
-not_both : (b : Bool) → not b ≡ true → b ≡ true → ⊥
-not_both true p q = true≢false (sym p)
-not_both false p q = true≢false (sym q)
 
 none_is_twice : (fs : List Field) → none_twice fs ≡ true → NoneTwice fs
 none_is_twice [] test = tt

@@ -6,3 +6,4 @@ pub mod FieldLists
 pub mod AnyOrder
 pub mod Alone
 pub mod Windows
+pub mod Laws

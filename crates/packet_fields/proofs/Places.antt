@@ -24,12 +24,11 @@ header_rank Udp = 5
 
 -- how many bits of a header the fields are in
 abbrev pub header_bits : Header → ℕ
-header_bits Meta = 16
 header_bits Ethernet = 112
-header_bits Vlan = 16
 header_bits Ip = 160
 header_bits Tcp = 160
 header_bits Udp = 64
+header_bits _ = 16
 
 abbrev pub is_within : Field → Bool
 is_within f = nat_le ((row f).at + (row f).width) (header_bits (row f).header)
@@ -43,11 +42,7 @@ within_header f = leb-true _ _ (of_each is_within all_within f)
 
 header_bits-le : (h : Header) → header_bits h ≤ 160
 header_bits-le Meta = lit≤ tt
-header_bits-le Ethernet = lit≤ tt
-header_bits-le Vlan = lit≤ tt
-header_bits-le Ip = lit≤ tt
-header_bits-le Tcp = lit≤ tt
-header_bits-le Udp = lit≤ tt
+header_bits-le _ = lit≤ tt
 
 pub first_bit_near : (f : Field) → (row f).at ≤ 160
 first_bit_near f = omega (arith, within_header f, header_bits-le (row f).header)
@@ -157,8 +152,7 @@ spot shape bytes ok Meta s there = cc
 spot shape bytes ok Ethernet s there = (ok.ethernet s there).0
 spot shape bytes ok Vlan s there = let at = ok.vlan s there in (at.0, at.2)
 spot shape bytes ok Ip s there = (ok.ip s there).0
-spot shape bytes ok Tcp s there = there
-spot shape bytes ok Udp s there = there
+spot shape bytes ok _ s there = there
 
 pub header_ends : (shape : Shape) (bytes : ℕ) → Stands shape bytes → (h : Header) (s : ℕ) → start_of shape h ≡ Some s → 8 * s + header_bits h ≤ 8 * bytes
 header_ends shape bytes ok Meta s there = cc
@@ -205,11 +199,7 @@ spots_apart shape bytes ok Udp Udp s t a w b u p q x y d = let one : s ≡ t = c
 
 in_some_header : (shape : Shape) (h : Header) (s : ℕ) → Spot shape h s → header_rank h ≢ 0
 in_some_header shape Meta s p = absurd p
-in_some_header shape Ethernet s p = λ e. absurd (omega arith)
-in_some_header shape Vlan s p = λ e. absurd (omega arith)
-in_some_header shape Ip s p = λ e. absurd (omega arith)
-in_some_header shape Tcp s p = λ e. absurd (omega arith)
-in_some_header shape Udp s p = λ e. absurd (omega arith)
+in_some_header shape _ s p = λ e. absurd (omega arith)
 
 -- the bits of two fields, each at a start where its header is or would be
 pub fields_apart : (shape : Shape) (bytes : ℕ) → Stands shape bytes → (f g : Field) (s t : ℕ) → f ≢ g → Spot shape (row f).header s → Spot shape (row g).header t

@@ -4,7 +4,6 @@
 mod access;
 mod bits;
 mod field;
-mod laws;
 mod packet;
 mod shape;
 mod verdict;
@@ -13,7 +12,6 @@ pub use access::{get, set};
 pub use field::{
     FIELD_COUNT, Field, Header, field_index, field_name, field_of, fields, width, writable,
 };
-pub use laws::{fields_in_any_order, fields_read_as_set, fields_stand_alone};
 pub use packet::{MAX_PACKET_BYTES, Packet, Packets, is_short};
 pub use shape::Shape;
 pub use verdict::Verdict;

@@ -7,7 +7,6 @@ use Rattle.split_model.specs.declared.split.Part.{Part}
 use Rattle.split_model.specs.Split.{part_at, pre_stage, post_stage, stage_after}
 use Rattle.split_model.specs.Counts.{stage_or_zero, highest_below}
 use Rattle.split_model.specs.Legal.{IsLegal}
-use Rattle.split_model.specs.Greatest.{IsGreatestSplit}
 use Rattle.resource_limits.specs.declared.limits.Limits.{Limits}
 use Rattle.resource_limits.specs.declared.exceeding.Over.{Over}
 use Rattle.resource_limits.specs.Limits.{AreInRange}
@@ -16,8 +15,9 @@ use Rattle.resource_limits.specs.Kept.{KeepsLimits, first_over}
 use Rattle.partition.specs.Choice.{IsKept, IsExceeded, IsFirstKept, IsChosen, shrinking}
 use Rattle.split_model.specs.Bounds.{HasFewStages}
 use Rattle.partition.specs.Tried.{IsTriedKept, IsTriedExceeded}
-use Rattle.partition.proofs.Lawful.{as_many}
+use Rattle.partition.proofs.Lawful.{as_many, greatest_legal}
 use Rattle.partition.proofs.Server.{left}
+use Rattle.partition.proofs.Unique.{same_splits}
 
 -- a chosen split is a greatest one that keeps the limits
 pub record IsSomeKept (f : Program) (limits : Limits) (split : List Part) : Type 0 where
@@ -73,23 +73,21 @@ pub record IsSound (f : Program) (limits : Limits) (split : List Part) : Type 0 
   pub keeps : KeepsLimits f split limits
   pub low : HasFewStages split
 
-pub sound : ((f : Program) (k : ℕ) (all : Bool) (split : List Part) → IsWellFormed f → IsGreatestSplit f k all split → IsLegal f split)
-    → (f : Program) (limits : Limits) (shrink : Bool) (split : List Part) → IsWellFormed f → AreInRange limits → IsChosen f limits shrink split → IsSound f limits split
-sound legal f limits shrink split formed ranges chosen =
+pub sound : (f : Program) (limits : Limits) (shrink : Bool) (split : List Part) → IsWellFormed f → AreInRange limits → IsChosen f limits shrink split → IsSound f limits split
+sound f limits shrink split formed ranges chosen =
     let some = chosen_is_kept f limits shrink split chosen in
     record {
-      legal = legal f some.number some.all split formed some.kept.greatest;
+      legal = greatest_legal f some.number some.all split formed some.kept.greatest;
       keeps = some.kept.keeps;
       low = low_stages f limits split (as_many f some.number some.all split some.kept.greatest) ranges some.kept.keeps;
     }
 
 -- ## Exactly where
 
-module _ (one : (f : Program) (k : ℕ) (all : Bool) (split other : List Part) → IsWellFormed f → IsGreatestSplit f k all split → IsGreatestSplit f k all other → split ≡ other)
-    (f : Program) (limits : Limits) (k : ℕ) (all : Bool) (formed : IsWellFormed f) where
+module _ (f : Program) (limits : Limits) (k : ℕ) (all : Bool) (formed : IsWellFormed f) where
   pub kept_not_exceeded : (split : List Part) (over : Over) → IsTriedKept f limits k all split → IsExceeded f limits k all over → ⊥
   kept_not_exceeded split over kept exceeded =
-      let e : exceeded.split ≡ split = one f k all exceeded.split split formed exceeded.greatest kept.kept.greatest in
+      let e : exceeded.split ≡ split = same_splits f k all exceeded.split split formed exceeded.greatest kept.kept.greatest in
       let s : first_over (counts_of f split limits.writeback) limits ≡ Some over =
       subst (λ (s : List Part). first_over (counts_of f s limits.writeback) limits ≡ Some over) e exceeded.exceeds in
       let n = kept.none in
@@ -97,19 +95,18 @@ module _ (one : (f : Program) (k : ℕ) (all : Bool) (split other : List Part) �
 
   pub exceeded_not_kept : (split : List Part) (over : Over) → IsTriedExceeded f limits k all over → IsKept f limits k all split → ⊥
   exceeded_not_kept split over tried kept =
-      let e : split ≡ tried.exceeded.split = one f k all split tried.exceeded.split formed kept.greatest tried.exceeded.greatest in
+      let e : split ≡ tried.exceeded.split = same_splits f k all split tried.exceeded.split formed kept.greatest tried.exceeded.greatest in
       tried.broken (subst (λ (s : List Part). KeepsLimits f s limits) e kept.keeps)
 
 -- ## At most one
 
-module _ (one : (f : Program) (k : ℕ) (all : Bool) (split other : List Part) → IsWellFormed f → IsGreatestSplit f k all split → IsGreatestSplit f k all other → split ≡ other) where
-  one_first : (f : Program) (limits : Limits) (cs : List (ℕ × Bool)) (split other : List Part) → IsWellFormed f → IsFirstKept f limits cs split → IsFirstKept f limits cs other → split ≡ other
-  one_first f limits [] split other formed h k = absurd h
-  one_first f limits (c ∷ cs) split other formed (inl h) (inl k) = one f c.0 c.1 split other formed h.greatest k.greatest
-  one_first f limits (c ∷ cs) split other formed (inl h) (inr k) = absurd (k.0 split h)
-  one_first f limits (c ∷ cs) split other formed (inr h) (inl k) = absurd (h.0 other k)
-  one_first f limits (c ∷ cs) split other formed (inr h) (inr k) = one_first f limits cs split other formed h.1 k.1
+one_first : (f : Program) (limits : Limits) (cs : List (ℕ × Bool)) (split other : List Part) → IsWellFormed f → IsFirstKept f limits cs split → IsFirstKept f limits cs other → split ≡ other
+one_first f limits [] split other formed h k = absurd h
+one_first f limits (c ∷ cs) split other formed (inl h) (inl k) = same_splits f c.0 c.1 split other formed h.greatest k.greatest
+one_first f limits (c ∷ cs) split other formed (inl h) (inr k) = absurd (k.0 split h)
+one_first f limits (c ∷ cs) split other formed (inr h) (inl k) = absurd (h.0 other k)
+one_first f limits (c ∷ cs) split other formed (inr h) (inr k) = one_first f limits cs split other formed h.1 k.1
 
-  pub one_chosen : (f : Program) (limits : Limits) (shrink : Bool) (split other : List Part) → IsWellFormed f → IsChosen f limits shrink split → IsChosen f limits shrink other → split ≡ other
-  one_chosen f limits false split other formed h k = one f (length f.code) true split other formed h.greatest k.greatest
-  one_chosen f limits true split other formed h k = one_first f limits (shrinking (length f.code)) split other formed h k
+pub one_chosen : (f : Program) (limits : Limits) (shrink : Bool) (split other : List Part) → IsWellFormed f → IsChosen f limits shrink split → IsChosen f limits shrink other → split ≡ other
+one_chosen f limits false split other formed h k = same_splits f (length f.code) true split other formed h.greatest k.greatest
+one_chosen f limits true split other formed h k = one_first f limits (shrinking (length f.code)) split other formed h k

@@ -1,10 +1,10 @@
 -- What is left to the server has a header of two bytes, and takes nothing else of the switch.
-use Rattle.std.proofs.Common.{◌≡◌, ◌↔◌, ℕ, zero, suc, ◌+◌, ◌/◌, ◌<◌, ◌≤◌, Bool, true, false, ◌&&◌, ◌||◌, ◌==◌, not, List, [], ◌∷◌, ◌++◌, Option, Some, None, inl, inr, ◌⊎◌, refl, sym, ap, ◌∙◌, subst, arith, length, replicate, map, is_some}
+use Rattle.std.proofs.Common.{◌≡◌, ◌↔◌, ℕ, zero, suc, ◌+◌, ◌/◌, ◌<◌, ◌≤◌, Bool, true, false, ◌&&◌, ◌||◌, ◌==◌, not, List, [], ◌∷◌, ◌++◌, Option, Some, None, inl, inr, ◌⊎◌, refl, sym, ap, ◌∙◌, subst, arith, length, map, is_some}
 use Rattle.std.specs.Prelude.{slice_index_or, All, if◌then◌else◌, nat_lt}
 use Rattle.std.specs.List.{filter}
+use Rattle.std.proofs.lemmas.List.{append-nil}
 use Rattle.std.proofs.lemmas.List.Elements.{All-nil, All-cons, All-append, filter-append}
-use Rattle.std.proofs.lemmas.Bool.{cases_Bool, cases_eq, cases_lt, eqb-true, eq-eqb, and_from, or_left, or_right}
-use Rattle.std.proofs.lemmas.Bool.Decides.{nat_tests}
+use Rattle.std.proofs.lemmas.Bool.{cases_Bool, cases_eq, eqb-true, and_from, or_left, or_right, and_parts, false_from_ne_true, ltb-true}
 use Rattle.state_store.specs.declared.object.ObjectDecl.{ObjectDecl}
 use Rattle.state_store.specs.Kinds.{is_table, is_constant}
 use Rattle.flat_ir.specs.declared.program.ValueId.{ValueId}
@@ -13,7 +13,7 @@ use Rattle.flat_ir.specs.WellFormed.{IsWellFormed}
 use Rattle.flat_ir.specs.Sets.{IsMarked}
 use Rattle.split_model.specs.declared.split.Part.{Part}
 use Rattle.split_model.specs.declared.split.Slow.{Slow}
-use Rattle.split_model.specs.declared.split.Slow.TheVariants.{Carried, Server, Post}
+use Rattle.split_model.specs.declared.split.Slow.TheVariants.{Server}
 use Rattle.split_model.specs.Split.{part_at, is_pre, is_carried, is_post, is_carried_up, stage_after}
 use Rattle.split_model.specs.Shown.{looks_at, is_shown, is_replicated}
 use Rattle.split_model.specs.Crossing.{is_value, is_among, is_read_by, is_at_hand, crosses_up, crosses_down}
@@ -24,20 +24,17 @@ use Rattle.resource_limits.specs.declared.limits.Limits.{Limits}
 use Rattle.resource_limits.specs.Counts.{first_numbers}
 use Rattle.resource_limits.specs.Kept.{KeepsLimits}
 use Rattle.partition.specs.Choice.{shrinking}
-use Rattle.partition.proofs.Lawful.{no_more, and_no, pre_at, carried_at, post_at}
+use Rattle.partition.proofs.Lawful.{and_no, pre_at, carried_at, post_at}
 use Rattle.partition.proofs.Server.{left, IsBlank, no_pre, no_carried, no_post, no_stages, none_below, unseen}
+use Rattle.flat_ir.proofs.Exact.{same_itself, value_same}
+use Rattle.lemmas.proofs.Lists.{replicate_false}
+use Rattle.lemmas.proofs.Tests.{and_second}
 
 -- ## The greatest split on no instruction is that one
 
-unset : (n i : ℕ) → slice_index_or (replicate n false) i false ≡ false
-unset zero i = refl
-unset (suc n) zero = refl
-unset (suc n) (suc i) = unset n i
-
 blank_slow : (s : Slow) → is_carried_up s ≡ false → is_some (stage_after s) ≡ false → s ≡ Server
-blank_slow Carried c p = cc
 blank_slow Server c p = refl
-blank_slow (Post t) c p = cc
+blank_slow _ c p = cc
 
 blank_stage : (o : Option ℕ) → is_some o ≡ false → o ≡ None
 blank_stage None h = refl
@@ -52,9 +49,9 @@ pub is_blank : (f : Program) (split : List Part) → IsGreatestSplit f 0 false s
 is_blank f split is i =
     let no_mark : (j : ℕ) → IsMarked (pre_marks split) j → ⊥ = λ j m. (let l = is.pre.closed.below j m in omega (arith, l)) in
     blank_part (part_at split i)
-    (no_more (is_pre split i) (λ p. no_mark i (pre_at split i ∙ p)))
-    (no_more (is_carried split i) (λ c. no_mark i (is.carried.closed.within i (carried_at split i ∙ c))))
-    (sym (post_at split i) ∙ ap (λ (m : List Bool). slice_index_or m i false) is.post ∙ unset (length f.code) i)
+    (false_from_ne_true (is_pre split i) (λ p. no_mark i (pre_at split i ∙ p)))
+    (false_from_ne_true (is_carried split i) (λ c. no_mark i (is.carried.closed.within i (carried_at split i ∙ c))))
+    (sym (post_at split i) ∙ ap (λ (m : List Bool). slice_index_or m i false) is.post ∙ replicate_false (length f.code) i)
 
 -- ## It looks nothing up
 
@@ -110,184 +107,118 @@ module _ (split : List Part) (of : IsBlank split) (f : Program) where
 abbrev pub bits_of : Program → List ValueId → ℕ
 bits_of f vs = total (map (crossing f) vs)
 
-bits_append : (f : Program) (vs ws : List ValueId) → bits_of f (vs ++ ws) ≡ bits_of f vs + bits_of f ws
-bits_append f [] ws = omega arith
-bits_append f (v ∷ vs) ws = let h = bits_append f vs ws in omega (arith, h)
+-- the bits of a list, by its first value
+bits_first : (f : Program) (test : ValueId → Bool) (v : ValueId) (vs : List ValueId)
+    → bits_of f (filter test (v ∷ vs)) ≡ (if test v then width_of_value f v else 0) + bits_of f (filter test vs)
+bits_first f test v vs = elim (cases_Bool (test v)) [ inl y ↦ rw y (omega arith) | inr n ↦ rw n (omega arith) ]
 
-filtered_append : (f : Program) (test : ValueId → Bool) (vs ws : List ValueId)
-    → bits_of f (filter test (vs ++ ws)) ≡ bits_of f (filter test vs) + bits_of f (filter test ws)
-filtered_append f test vs ws = ap (bits_of f) (filter-append test vs ws) ∙ bits_append f (filter test vs) (filter test ws)
+if_either : (a b c : Bool) (n : ℕ) → (a ≡ true → (b ≡ true) ⊎ (c ≡ true)) → (if a then n else 0) ≤ (if b then n else 0) + (if c then n else 0)
+if_either false b c n h = omega arith
+if_either true true c n h = omega arith
+if_either true false true n h = omega arith
+if_either true false false n h = elim (h refl) [ inl e ↦ cc | inr e ↦ cc ]
 
 -- what passes a test passes one of two others
 either_bits : (f : Program) (p q r : ValueId → Bool) (vs : List ValueId) → ((v : ValueId) → p v ≡ true → (q v ≡ true) ⊎ (r v ≡ true))
     → bits_of f (filter p vs) ≤ bits_of f (filter q vs) + bits_of f (filter r vs)
 either_bits f p q r [] h = omega arith
-either_bits f p q r (v ∷ vs) h =
-    let rest = either_bits f p q r vs h in
-    elim (cases_Bool (p v)) [
-      | inr n ↦ rw n (elim (cases_Bool (q v)) [
-        | inl x ↦ rw x (elim (cases_Bool (r v)) [ inl y ↦ rw y (omega (arith, rest)) | inr y ↦ rw y (omega (arith, rest)) ])
-        | inr x ↦ rw x (elim (cases_Bool (r v)) [ inl y ↦ rw y (omega (arith, rest)) | inr y ↦ rw y (omega (arith, rest)) ])
-      ])
-      | inl t ↦ rw t (elim (h v t) [
-        | inl x ↦ rw x (elim (cases_Bool (r v)) [ inl y ↦ rw y (omega (arith, rest)) | inr y ↦ rw y (omega (arith, rest)) ])
-        | inr y ↦ rw y (elim (cases_Bool (q v)) [ inl x ↦ rw x (omega (arith, rest)) | inr x ↦ rw x (omega (arith, rest)) ])
-      ])
-    ]
+either_bits f p q r (v ∷ vs) h = omega (
+  arith,
+  either_bits f p q r vs h,
+  bits_first f p v vs,
+  bits_first f q v vs,
+  bits_first f r v vs,
+  if_either (p v) (q v) (r v) (width_of_value f v) (h v),
+)
+
+if_both : (a b c : Bool) (n : ℕ) → (b ≡ true → a ≡ true) → (c ≡ true → a ≡ true) → (b ≡ true → c ≡ true → ⊥)
+    → (if b then n else 0) + (if c then n else 0) ≤ (if a then n else 0)
+if_both a true true n first second apart = absurd (apart refl refl)
+if_both a true false n first second apart = rw (first refl) (omega arith)
+if_both a false true n first second apart = rw (second refl) (omega arith)
+if_both a false false n first second apart = omega arith
 
 -- what passes one of two tests that exclude each other passes a third one
 both_bits : (f : Program) (p q r : ValueId → Bool) (vs : List ValueId) → ((v : ValueId) → q v ≡ true → p v ≡ true)
     → ((v : ValueId) → r v ≡ true → p v ≡ true) → ((v : ValueId) → q v ≡ true → r v ≡ true → ⊥)
     → bits_of f (filter q vs) + bits_of f (filter r vs) ≤ bits_of f (filter p vs)
 both_bits f p q r [] first second apart = omega arith
-both_bits f p q r (v ∷ vs) first second apart =
-    let rest = both_bits f p q r vs first second apart in
-    elim (cases_Bool (q v)) [
-      | inl x ↦ elim (cases_Bool (r v)) [
-        | inl y ↦ absurd (apart v x y)
-        | inr y ↦ let t = first v x in rw (x, y, t) (omega (arith, rest))
-      ]
-      | inr x ↦ elim (cases_Bool (r v)) [
-        | inl y ↦ let t = second v y in rw (x, y, t) (omega (arith, rest))
-        | inr y ↦ elim (cases_Bool (p v)) [
-          | inl t ↦ rw (x, y, t) (omega (arith, rest))
-          | inr t ↦ rw (x, y, t) (omega (arith, rest))
-        ]
-      ]
-    ]
+both_bits f p q r (v ∷ vs) first second apart = omega (
+  arith,
+  both_bits f p q r vs first second apart,
+  bits_first f p v vs,
+  bits_first f q v vs,
+  bits_first f r v vs,
+  if_both (p v) (q v) (r v) (width_of_value f v) (first v) (second v) (apart v),
+)
 
--- the bits of one value among a list
-abbrev one_bits : Program → ValueId → List ValueId → ℕ
-one_bits f a vs = bits_of f (filter (λ (v : ValueId). is_value v a) vs)
+-- ## A value stands once among all of a program
 
-both_true : (x y : Bool) → (x && y) ≡ true → (x ≡ true) × (y ≡ true)
-both_true true y h = (refl, h)
-both_true false y h = cc
+-- those of a list that are this value
+abbrev alone : ValueId → List ValueId → List ValueId
+alone a vs = filter (λ (v : ValueId). is_value v a) vs
 
-same_value : (v w : ValueId) → is_value v w ≡ true → v ≡ w
-same_value v w t =
-    let b = both_true (v.instruction == w.instruction) (v.result == w.result) t in
-    let made : ℕ → ℕ → ValueId = λ i r. record { instruction = i; result = r } in
-    ap (λ i. made i v.result) (eqb-true v.instruction w.instruction b.0) ∙ ap (λ r. made w.instruction r) (eqb-true v.result w.result b.1)
-
-one_here : (f : Program) (a v : ValueId) → one_bits f a (v ∷ []) ≤ width_of_value f a
-one_here f a v = elim (cases_Bool (is_value v a)) [
-  | inr n ↦ rw n (omega arith)
-  | inl t ↦ (let e : v ≡ a = same_value v a t in rw t (let w = ap (λ (x : ValueId). width_of_value f x) e in omega (arith, w)))
-]
-
-one_not : (f : Program) (a v : ValueId) → is_value v a ≡ false → one_bits f a (v ∷ []) ≡ 0
-one_not f a v n = rw n refl
+other_last : (a v : ValueId) (vs : List ValueId) → is_value v a ≡ false → alone a (vs ++ v ∷ []) ≡ alone a vs
+other_last a v vs n = filter-append (λ (w : ValueId). is_value w a) vs (v ∷ []) ∙ rw n (append-nil (alone a vs))
 
 other_instruction : (a : ValueId) (i r : ℕ) → (i ≡ a.instruction → ⊥) → is_value (record { instruction = i; result = r }) a ≡ false
 other_instruction a i r h = and_no (i == a.instruction) (r == a.result) (λ t. absurd (h (eqb-true i a.instruction t)))
 
 other_result : (a : ValueId) (i r : ℕ) → (r ≡ a.result → ⊥) → is_value (record { instruction = i; result = r }) a ≡ false
-other_result a i r h = and_no (i == a.instruction) (r == a.result) (λ t. no_more (r == a.result) (λ u. h (eqb-true r a.result u)))
+other_result a i r h = and_no (i == a.instruction) (r == a.result) (λ t. false_from_ne_true (r == a.result) (λ u. h (eqb-true r a.result u)))
 
-results_elsewhere : (f : Program) (a : ValueId) (i n : ℕ) → (i ≡ a.instruction → ⊥) → one_bits f a (first_results i n) ≡ 0
-results_elsewhere f a i zero h = refl
-results_elsewhere f a i (suc n) h =
-    let v : ValueId = record { instruction = i; result = n } in
-    let e = filtered_append f (λ (v : ValueId). is_value v a) (first_results i n) (v ∷ []) in
-    let x = results_elsewhere f a i n h in
-    let y = one_not f a v (other_instruction a i n h) in
-    omega (arith, e, x, y)
+results_apart : (a : ValueId) (i n : ℕ) → ((r : ℕ) → r < n → is_value (record { instruction = i; result = r }) a ≡ false)
+    → alone a (first_results i n) ≡ []
+results_apart a i zero h = refl
+results_apart a i (suc n) h =
+    other_last a (record { instruction = i; result = n }) (first_results i n) (h n (omega arith)) ∙ results_apart a i n (λ r lt. h r (omega (arith, lt)))
 
-results_before : (f : Program) (a : ValueId) (i n : ℕ) → n ≤ a.result → one_bits f a (first_results i n) ≡ 0
-results_before f a i zero h = refl
-results_before f a i (suc n) h =
-    let v : ValueId = record { instruction = i; result = n } in
-    let e = filtered_append f (λ (v : ValueId). is_value v a) (first_results i n) (v ∷ []) in
-    let x = results_before f a i n (omega (arith, h)) in
-    let y = one_not f a v (other_result a i n (λ q. omega (arith, q, h))) in
-    omega (arith, e, x, y)
-
-results_once : (f : Program) (a : ValueId) (i n : ℕ) → one_bits f a (first_results i n) ≤ width_of_value f a
-results_once f a i zero = omega arith
-results_once f a i (suc n) =
-    let v : ValueId = record { instruction = i; result = n } in
-    let e = filtered_append f (λ (v : ValueId). is_value v a) (first_results i n) (v ∷ []) in
+own_result : (a : ValueId) (n : ℕ) → a.result < n → alone a (first_results a.instruction n) ≡ a ∷ []
+own_result a zero lt = absurd (omega (arith, lt))
+own_result a (suc n) lt =
+    let made : ℕ → ValueId = λ r. record { instruction = a.instruction; result = r } in
     elim (cases_eq n a.result) [
-      | inl q ↦ (let x = results_before f a i n (omega (arith, q)) in let y = one_here f a v in omega (arith, e, x, y))
-      | inr q ↦ (let x = results_once f a i n in let y = one_not f a v (other_result a i n q) in omega (arith, e, x, y))
+      | inl e ↦
+          let none = results_apart a a.instruction n (λ r low. other_result a a.instruction r (λ q. omega (arith, q, low, e))) in
+          let own : alone a (made a.result ∷ []) ≡ a ∷ [] = (let t = same_itself a in rw t refl) in
+          filter-append (λ (w : ValueId). is_value w a) (first_results a.instruction n) (made n ∷ [])
+          ∙ ap (λ (l : List ValueId). l ++ alone a (made n ∷ [])) none ∙ ap (λ (r : ℕ). alone a (made r ∷ [])) e ∙ own
+      | inr ne ↦ other_last a (made n) (first_results a.instruction n) (other_result a a.instruction n ne) ∙ own_result a n (omega (arith, lt, ne))
     ]
 
-values_before : (f : Program) (a : ValueId) (n : ℕ) → n ≤ a.instruction → one_bits f a (values_below f n) ≡ 0
-values_before f a zero h = refl
-values_before f a (suc n) h =
-    let rs = first_results n (result_count f.objects (step_at f n).work) in
-    let e = filtered_append f (λ (v : ValueId). is_value v a) (values_below f n) rs in
-    let x = values_before f a n (omega (arith, h)) in
-    let y = results_elsewhere f a n (result_count f.objects (step_at f n).work) (λ q. omega (arith, q, h)) in
-    omega (arith, e, x, y)
+abbrev count_at : Program → ℕ → ℕ
+count_at f i = result_count f.objects (step_at f i).work
 
--- each value stands once
-values_once : (f : Program) (a : ValueId) (n : ℕ) → one_bits f a (values_below f n) ≤ width_of_value f a
-values_once f a zero = omega arith
-values_once f a (suc n) =
-    let rs = first_results n (result_count f.objects (step_at f n).work) in
-    let e = filtered_append f (λ (v : ValueId). is_value v a) (values_below f n) rs in
-    elim (cases_eq n a.instruction) [
-      | inl q ↦ (let x = values_before f a n (omega (arith, q)) in let y = results_once f a n (result_count f.objects (step_at f n).work) in omega (arith, e, x, y))
-      | inr q ↦ (let x = values_once f a n in let y = results_elsewhere f a n (result_count f.objects (step_at f n).work) q in omega (arith, e, x, y))
+values_apart : (f : Program) (a : ValueId) (n : ℕ) → n ≤ a.instruction → alone a (values_below f n) ≡ []
+values_apart f a zero le = refl
+values_apart f a (suc n) le =
+    let rs = first_results n (count_at f n) in
+    filter-append (λ (w : ValueId). is_value w a) (values_below f n) rs
+    ∙ ap (λ (l : List ValueId). l ++ alone a rs) (values_apart f a n (omega (arith, le)))
+    ∙ results_apart a n (count_at f n) (λ r low. other_instruction a n r (λ q. omega (arith, q, le)))
+
+own_value : (f : Program) (a : ValueId) (n : ℕ) → a.instruction < n → a.result < count_at f a.instruction → alone a (values_below f n) ≡ a ∷ []
+own_value f a zero lt low = absurd (omega (arith, lt))
+own_value f a (suc n) lt low =
+    let rs = first_results n (count_at f n) in
+    filter-append (λ (w : ValueId). is_value w a) (values_below f n) rs
+    ∙ elim (cases_eq n a.instruction) [
+      | inl e ↦ ap (λ (l : List ValueId). l ++ alone a rs) (values_apart f a n (omega (arith, e)))
+          ∙ subst (λ (i : ℕ). alone a (first_results i (count_at f i)) ≡ a ∷ []) (sym e) (own_result a (count_at f a.instruction) low)
+      | inr ne ↦ ap (λ (l : List ValueId). l ++ alone a rs) (own_value f a n (omega (arith, lt, ne)) low)
+          ∙ ap (λ (l : List ValueId). a ∷ l) (results_apart a n (count_at f n) (λ r q. other_instruction a n r ne))
     ]
 
--- and each value of the program stands there
-value_self : (v : ValueId) → is_value v v ≡ true
-value_self v = and_from (v.instruction == v.instruction) (v.result == v.result) (eq-eqb v.instruction v.instruction refl) (eq-eqb v.result v.result refl)
-
-self_here : (f : Program) (a : ValueId) → one_bits f a (a ∷ []) ≡ width_of_value f a
-self_here f a = let t = value_self a in rw t (omega arith)
-
-results_there : (f : Program) (a : ValueId) (n : ℕ) → a.result < n → width_of_value f a ≤ one_bits f a (first_results a.instruction n)
-results_there f a zero h = absurd (omega arith)
-results_there f a (suc n) h =
-    let v : ValueId = record { instruction = a.instruction; result = n } in
-    let e = filtered_append f (λ (v : ValueId). is_value v a) (first_results a.instruction n) (v ∷ []) in
-    elim (cases_eq n a.result) [
-      | inl q ↦
-          let made : ℕ → ValueId = λ r. record { instruction = a.instruction; result = r } in
-          let here : one_bits f a (v ∷ []) ≡ width_of_value f a = ap (λ r. one_bits f a (made r ∷ [])) q ∙ self_here f a in
-          omega (arith, e, here)
-      | inr q ↦ (let x = results_there f a n (let l : a.result < n = less q in l) in omega (arith, e, x))
-    ]
-  where
-    less : (n ≡ a.result → ⊥) → a.result < n
-    less q = elim (cases_lt a.result n) [ inl l ↦ l | inr g ↦ absurd (q (omega (arith, g, h))) ]
-
-values_there : (f : Program) (a : ValueId) (n : ℕ) → a.instruction < n → a.result < result_count f.objects (step_at f a.instruction).work
-    → width_of_value f a ≤ one_bits f a (values_below f n)
-values_there f a zero h r = absurd (omega arith)
-values_there f a (suc n) h r =
-    let rs = first_results n (result_count f.objects (step_at f n).work) in
-    let e = filtered_append f (λ (v : ValueId). is_value v a) (values_below f n) rs in
-    elim (cases_lt a.instruction n) [
-      | inl l ↦ (let x = values_there f a n l r in omega (arith, e, x))
-      | inr g ↦
-          let q : a.instruction ≡ n = omega (arith, g, h) in
-          let own : width_of_value f a ≤ one_bits f a rs =
-          subst (λ i. width_of_value f a ≤ one_bits f a (first_results i (result_count f.objects (step_at f i).work))) q
-          (results_there f a (result_count f.objects (step_at f a.instruction).work) r) in
-          omega (arith, e, own)
-    ]
-
-lt_true : (i k : ℕ) → nat_lt i k ≡ true → i < k
-lt_true i k h = grind (arith, nat_tests)
-
-named_there : (f : Program) (a : ValueId) → is_named f a ≡ true → width_of_value f a ≤ one_bits f a (values_of f)
-named_there f a named =
-    let both = both_true (nat_lt a.instruction (length f.code)) (nat_lt a.result (result_count f.objects (step_at f a.instruction).work)) named in
-    values_there f a (length f.code) (lt_true a.instruction (length f.code) both.0)
-    (lt_true a.result (result_count f.objects (step_at f a.instruction).work) both.1)
+named_bits : (f : Program) (a : ValueId) → is_named f a ≡ true → bits_of f (alone a (values_of f)) ≡ width_of_value f a
+named_bits f a named =
+    let both = and_parts (nat_lt a.instruction (length f.code)) (nat_lt a.result (count_at f a.instruction)) named in
+    let e = own_value f a (length f.code) (ltb-true a.instruction (length f.code) both.0) (ltb-true a.result (count_at f a.instruction) both.1) in
+    let bits : bits_of f (alone a (values_of f)) ≡ bits_of f (a ∷ []) = ap (bits_of f) e in
+    omega (arith, bits)
 
 none_left : (test : ValueId → Bool) (vs : List ValueId) → ((v : ValueId) → test v ≡ false) → filter test vs ≡ []
 none_left test [] h = refl
 none_left test (v ∷ vs) h = rw (h v) (none_left test vs h)
-
-and_left : (a b : Bool) → (a && b) ≡ true → b ≡ true
-and_left true b h = h
-and_left false b h = cc
 
 either : (a b : Bool) → (a || (b || false)) ≡ true → (a ≡ true) ⊎ (b ≡ true)
 either true b h = inl refl
@@ -314,20 +245,20 @@ module _ (split : List Part) (of : IsBlank split) (f : Program) (formed : IsWell
   two_down v h =
       let named = is_named f v && not (is_post split v.instruction) in
       let read = not (is_at_hand f split (step_at f v.instruction).work) && is_read_by f (is_post split) v in
-      let some = and_left named (is_among v (f.send ∷ f.port ∷ []) || read) h in
+      let some = and_second named (is_among v (f.send ∷ f.port ∷ []) || read) h in
       let none : read ≡ false = and_no (not (is_at_hand f split (step_at f v.instruction).work)) (is_read_by f (is_post split) v) (λ x. unread v) in
       either (is_value v f.send) (is_value v f.port) (or_first (is_among v (f.send ∷ f.port ∷ [])) read none some)
 
   at_most_nine : bits_of f (down_values f split) ≤ 9
   at_most_nine =
       let a = either_bits f (crosses_down f split) (λ (v : ValueId). is_value v f.send) (λ (v : ValueId). is_value v f.port) (values_of f) two_down in
-      let b = values_once f f.send (length f.code) in
-      let c = values_once f f.port (length f.code) in
+      let b = named_bits f f.send formed.send.named in
+      let c = named_bits f f.port formed.port.named in
       omega (arith, a, b, c, formed.send.wide, formed.port.wide)
 
   goes_down : (v w : ValueId) → is_named f w ≡ true → is_among w (f.send ∷ f.port ∷ []) ≡ true → is_value v w ≡ true → crosses_down f split v ≡ true
   goes_down v w named among is =
-      let same : w ≡ v = sym (same_value v w is) in
+      let same : w ≡ v = sym (value_same v w is) in
       subst (λ (x : ValueId). crosses_down f split x ≡ true) same
       (and_from (is_named f w && not (is_post split w.instruction)) _
       (and_from (is_named f w) (not (is_post split w.instruction)) named (not_is (is_post split w.instruction) (no_post split of w.instruction)))
@@ -339,18 +270,18 @@ module _ (split : List Part) (of : IsBlank split) (f : Program) (formed : IsWell
 
   not_both : (v : ValueId) → is_value v f.send ≡ true → is_value v f.port ≡ true → ⊥
   not_both v s p =
-      let same : f.send ≡ f.port = sym (same_value v f.send s) ∙ same_value v f.port p in
+      let same : f.send ≡ f.port = sym (value_same v f.send s) ∙ value_same v f.port p in
       let w = ap (λ (x : ValueId). width_of_value f x) same in
       omega (arith, w, formed.send.wide, formed.port.wide)
 
   at_least_nine : 9 ≤ bits_of f (down_values f split)
   at_least_nine =
-      let first = or_left (is_value f.send f.send) (is_value f.send f.port || false) (value_self f.send) in
-      let second = or_right (is_value f.port f.send) (is_value f.port f.port || false) (or_left (is_value f.port f.port) false (value_self f.port)) in
+      let first = or_left (is_value f.send f.send) (is_value f.send f.port || false) (same_itself f.send) in
+      let second = or_right (is_value f.port f.send) (is_value f.port f.port || false) (or_left (is_value f.port f.port) false (same_itself f.port)) in
       let a = both_bits f (crosses_down f split) (λ (v : ValueId). is_value v f.send) (λ (v : ValueId). is_value v f.port) (values_of f)
       (λ v h. goes_down v f.send formed.send.named first h) (λ v h. goes_down v f.port formed.port.named second h) not_both in
-      let b = named_there f f.send formed.send.named in
-      let c = named_there f f.port formed.port.named in
+      let b = named_bits f f.send formed.send.named in
+      let c = named_bits f f.port formed.port.named in
       omega (arith, a, b, c, formed.send.wide, formed.port.wide)
 
   two_bytes : transfer_bytes f split ≡ 2

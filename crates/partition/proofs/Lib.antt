@@ -10,3 +10,4 @@ pub mod Deeper
 pub mod Monotone
 pub mod Lowest
 pub mod Present
+pub mod Laws

@@ -1,14 +1,14 @@
 -- The chosen split needs no more stages than any legal one that computes the same in a pass.
 use Rattle.std.proofs.Common.{◌≡◌, ℕ, zero, suc, ◌≤◌, Bool, true, false, List, [], ◌∷◌, Option, Some, None, inl, inr, refl, sym, ap, ◌∙◌, subst, arith, is_some}
 use Rattle.std.specs.Prelude.{slice_index, slice_index_or}
-use Rattle.std.proofs.lemmas.Bool.{or_left, or_right, eq-eqb, false≢true}
+use Rattle.std.proofs.lemmas.Bool.{or_left, or_right, false≢true}
 use Rattle.std.proofs.lemmas.Option.{slice_get_within}
 use Rattle.flat_ir.specs.declared.program.ValueId.{ValueId}
 use Rattle.flat_ir.specs.Program.{Program, Step, step_at, operands}
 use Rattle.flat_ir.specs.Kinds.{is_input}
 use Rattle.flat_ir.specs.WellFormed.{IsWellFormed}
 use Rattle.flat_ir.specs.Sets.{IsMarked, Reads}
-use Rattle.flat_ir.specs.Stages.{IsDepths, IsStaged}
+use Rattle.flat_ir.specs.Stages.{IsStaged}
 use Rattle.split_model.specs.declared.split.Part.{Part}
 use Rattle.split_model.specs.Split.{pre_stage, post_stage}
 use Rattle.split_model.specs.Counts.{stage_or_zero}
@@ -18,8 +18,11 @@ use Rattle.split_model.specs.Laws.{GoesByStages}
 use Rattle.resource_limits.specs.declared.limits.Limits.{Limits}
 use Rattle.resource_limits.specs.Counts.{greatest}
 use Rattle.partition.specs.Choice.{IsChosen}
-use Rattle.partition.proofs.Lawful.{pre_at, post_at, pre_stage_at, post_stage_at, step_there}
+use Rattle.partition.proofs.Lawful.{pre_at, post_at, pre_stage_at, post_stage_at}
 use Rattle.partition.proofs.Chosen.{chosen_is_kept}
+use Rattle.dependence.proofs.Placing.{step_there}
+use Rattle.flat_ir.proofs.Exact.{same_itself}
+use Rattle.dependence.proofs.Laws.{depths_are_least-least}
 
 -- ## The greatest of some numbers
 
@@ -43,12 +46,9 @@ record HasOperand (vs : List ValueId) (j : ℕ) : Type 0 where
   among : is_among value vs ≡ true
   is : value.instruction ≡ j
 
-same_value : (v : ValueId) → is_value v v ≡ true
-same_value v = rw (eq-eqb v.instruction v.instruction refl, eq-eqb v.result v.result refl) refl
-
 operand_read : (vs : List ValueId) (j : ℕ) → Reads vs j → HasOperand vs j
 operand_read [] j r = absurd r
-operand_read (v ∷ vs) j (inl e) = record { value = v; among = or_left (is_value v v) (is_among v vs) (same_value v); is = e }
+operand_read (v ∷ vs) j (inl e) = record { value = v; among = or_left (is_value v v) (is_among v vs) (same_itself v); is = e }
 operand_read (v ∷ vs) j (inr r) =
     let rest = operand_read vs j r in
     record { value = rest.value; among = or_right (is_value rest.value v) (is_among rest.value vs) rest.among; is = rest.is }
@@ -74,18 +74,17 @@ module _ (f : Program) (stage : ℕ → Option ℕ) (marks : List Bool) (stages 
 
 -- ## The chosen split
 
-module _ (least : (f : Program) (members : List Bool) (depths stages : List ℕ) → IsWellFormed f → IsDepths f members depths → IsStaged f members stages → (i : ℕ) → slice_index depths i ≤ slice_index stages i)
-    (f : Program) (limits : Limits) (shrink : Bool) (split other : List Part) (formed : IsWellFormed f) (chosen : IsChosen f limits shrink split) where
+module _ (f : Program) (limits : Limits) (shrink : Bool) (split other : List Part) (formed : IsWellFormed f) (chosen : IsChosen f limits shrink split) where
   pub lowest_before : GoesByStages f (pre_stage other) → pre_marks other ≡ pre_marks split → greatest (pre_stages split) ≤ greatest (pre_stages other)
   lowest_before goes same =
       let kept = chosen_is_kept f limits shrink split chosen in
       let staged : IsStaged f (pre_marks split) (pre_stages other) =
       subst (λ (m : List Bool). IsStaged f m (pre_stages other)) same (staged_by f (pre_stage other) (pre_marks other) (pre_stages other) (pre_at other) (pre_stage_at other) goes) in
-      lower_greatest (pre_stages split) (pre_stages other) (least f (pre_marks split) (pre_stages split) (pre_stages other) formed kept.kept.greatest.pre_depths staged)
+      lower_greatest (pre_stages split) (pre_stages other) (depths_are_least-least f (pre_marks split) (pre_stages split) (pre_stages other) formed kept.kept.greatest.pre_depths staged)
 
   pub lowest_after : GoesByStages f (post_stage other) → post_marks other ≡ post_marks split → greatest (post_stages split) ≤ greatest (post_stages other)
   lowest_after goes same =
       let kept = chosen_is_kept f limits shrink split chosen in
       let staged : IsStaged f (post_marks split) (post_stages other) =
       subst (λ (m : List Bool). IsStaged f m (post_stages other)) same (staged_by f (post_stage other) (post_marks other) (post_stages other) (post_at other) (post_stage_at other) goes) in
-      lower_greatest (post_stages split) (post_stages other) (least f (post_marks split) (post_stages split) (post_stages other) formed kept.kept.greatest.post_depths staged)
+      lower_greatest (post_stages split) (post_stages other) (depths_are_least-least f (post_marks split) (post_stages split) (post_stages other) formed kept.kept.greatest.post_depths staged)

@@ -1,8 +1,8 @@
 -- What preprocessing takes by itself, it also takes among more instructions.
-use Rattle.std.proofs.Common.{◌≡◌, ℕ, zero, suc, ◌+◌, ◌*◌, ◌≤◌, Bool, true, false, ◌&&◌, ◌||◌, not, List, [], ◌∷◌, ◌++◌, Some, None, inl, inr, refl, sym, ap, ◌∙◌, subst, arith, length, replicate}
-use Rattle.std.specs.Prelude.{slice_index, All, if◌then◌else◌}
+use Rattle.std.proofs.Common.{◌≡◌, ℕ, zero, suc, ◌+◌, ◌*◌, ◌≤◌, Bool, true, false, ◌&&◌, ◌||◌, not, List, [], ◌∷◌, ◌++◌, Some, None, inl, inr, refl, sym, ap, ◌∙◌, subst, arith, length}
+use Rattle.std.specs.Prelude.{All, if◌then◌else◌}
 use Rattle.std.specs.List.{find}
-use Rattle.std.proofs.lemmas.Bool.{cases_Bool, or_cases, or_left, or_right}
+use Rattle.std.proofs.lemmas.Bool.{cases_Bool, or_cases, or_left, or_right, false_from_ne_true}
 use Rattle.std.proofs.lemmas.List.Elements.{All-nil, All-cons, All-head, All-tail, All-append}
 use Rattle.gal_bits.specs.Fitting.{sum_of}
 use Rattle.state_store.specs.declared.object.ObjectDecl.{ObjectDecl}
@@ -10,7 +10,7 @@ use Rattle.state_store.specs.Kinds.{is_table, is_constant}
 use Rattle.flat_ir.specs.Program.{Program, any_below, step_at}
 use Rattle.flat_ir.specs.WellFormed.{IsWellFormed}
 use Rattle.flat_ir.specs.Sets.{IsMarked, IsWithin}
-use Rattle.flat_ir.specs.Stages.{IsDepths, IsStaged}
+use Rattle.flat_ir.specs.Stages.{IsStaged}
 use Rattle.split_model.specs.declared.split.Part.{Part}
 use Rattle.split_model.specs.Split.{is_pre, is_post, pre_stage, post_stage}
 use Rattle.split_model.specs.Shown.{looks_at, writes_to, is_shown, is_replicated}
@@ -24,7 +24,10 @@ use Rattle.resource_limits.specs.Counts.{first_numbers, counts_of}
 use Rattle.resource_limits.specs.Kept.{Keeps, KeepsLimits, first_over, of_objects, of_all, exceeds}
 use Rattle.partition.specs.Choice.{IsKept}
 use Rattle.partition.specs.Tried.{IsTooMuch}
-use Rattle.partition.proofs.Lawful.{pre_at, post_at, pre_stage_at, post_stage_at, no_more}
+use Rattle.partition.proofs.Lawful.{pre_at, post_at, pre_stage_at, post_stage_at}
+use Rattle.dependence.proofs.Marking.{unset_marked}
+use Rattle.dependence.proofs.Laws.{depths_are_least-least, depths_are_least-staged}
+use Rattle.resource_limits.proofs.Laws.{kept_limits_are_not_exceeded}
 
 -- ## Numbers that grow
 
@@ -63,11 +66,6 @@ fewer_kept number other most (suc n) less h =
     (fewer_kept number other most n less (front_of (λ m. m ≤ most) (first_numbers n other) (other n) h))
     (All-cons (λ m. m ≤ most) (number n) [] here (All-nil (λ m. m ≤ most)))
 
-unset : (n i : ℕ) → IsMarked (replicate n false) i → ⊥
-unset zero i h = cc
-unset (suc n) zero h = cc
-unset (suc n) (suc i) h = unset n i h
-
 both_more : (a b c : Bool) → (a ≡ true → b ≡ true) → (a && c) ≡ true → (b && c) ≡ true
 both_more true b c h k = rw (h refl) k
 both_more false b c h k = cc
@@ -85,9 +83,7 @@ bits_more false a b c d rows both h k = if_more a c both h
 
 -- ## Preprocessing among fewer instructions, and no postprocessing
 
-module _ (least : (f : Program) (members : List Bool) (depths stages : List ℕ) → IsWellFormed f → IsDepths f members depths → IsStaged f members stages → (i : ℕ) → slice_index depths i ≤ slice_index stages i)
-    (staged : (f : Program) (members : List Bool) (depths : List ℕ) → IsWellFormed f → IsDepths f members depths → IsStaged f members depths)
-    (f : Program) (well : IsWellFormed f) (k n : ℕ) (fewer : k ≤ n) (all : Bool) (split other : List Part)
+module _ (f : Program) (well : IsWellFormed f) (k n : ℕ) (fewer : k ≤ n) (all : Bool) (split other : List Part)
     (is : IsGreatestSplit f k false split) (more : IsGreatestSplit f n all other) where
   within : IsWithin (pre_marks split) (pre_marks other)
   within = more.pre.greatest (pre_marks split) (record {
@@ -100,20 +96,20 @@ module _ (least : (f : Program) (members : List Bool) (depths stages : List ℕ)
   in_pre i h = sym (pre_at other i) ∙ within i (pre_at split i ∙ h)
 
   no_post : (i : ℕ) → is_post split i ≡ false
-  no_post i = no_more (is_post split i) (λ h. unset (length f.code) i (subst (λ (marks : List Bool). IsMarked marks i) is.post (post_at split i ∙ h)))
+  no_post i = false_from_ne_true (is_post split i) (λ h. unset_marked (length f.code) i (subst (λ (marks : List Bool). IsMarked marks i) is.post (post_at split i ∙ h)))
 
   in_post : (i : ℕ) → is_post split i ≡ true → is_post other i ≡ true
   in_post i h = absurd (let n = no_post i in cc)
 
   lower_pre : (i : ℕ) → stage_or_zero (pre_stage split i) ≤ stage_or_zero (pre_stage other i)
   lower_pre i =
-      let all_staged = staged f (pre_marks other) (pre_stages other) well more.pre_depths in
+      let all_staged = depths_are_least-staged f (pre_marks other) (pre_stages other) well more.pre_depths in
       let some_staged : IsStaged f (pre_marks split) (pre_stages other) = record {
         given = λ i one m at input. all_staged.given i one (within i m) at input;
         later = λ i one m at input. all_staged.later i one (within i m) at input;
         rising = λ i j one m at r n. all_staged.rising i j one (within i m) at r (within j n);
       } in
-      let l = least f (pre_marks split) (pre_stages split) (pre_stages other) well is.pre_depths some_staged i in
+      let l = depths_are_least-least f (pre_marks split) (pre_stages split) (pre_stages other) well is.pre_depths some_staged i in
       let a = pre_stage_at split i in
       let b = pre_stage_at other i in
       omega (arith, l, a, b)
@@ -216,14 +212,11 @@ of_headers c bytes l over none some =
     ap (λ (o : Over). o.limit) (all none over some)
 
 -- no split on as many instructions or more keeps the limits
-pub none_kept : ((f : Program) (members : List Bool) (depths stages : List ℕ) → IsWellFormed f → IsDepths f members depths → IsStaged f members stages → (i : ℕ) → slice_index depths i ≤ slice_index stages i)
-    → ((f : Program) (members : List Bool) (depths : List ℕ) → IsWellFormed f → IsDepths f members depths → IsStaged f members depths)
-    → ((c : Counts) (l : Limits) → ((first_over c l ≡ None) → Keeps c l) × (Keeps c l → (first_over c l ≡ None)))
-    → (f : Program) → IsWellFormed f → (limits : Limits) (k : ℕ) → IsTooMuch f limits k → (n : ℕ) → k ≤ n
+pub none_kept : (f : Program) → IsWellFormed f → (limits : Limits) (k : ℕ) → IsTooMuch f limits k → (n : ℕ) → k ≤ n
     → (all : Bool) (other : List Part) → IsKept f limits n all other → ⊥
-none_kept least staged law f well limits k much n fewer all other kept =
+none_kept f well limits k much n fewer all other kept =
     let split : List Part = much.exceeded.split in
-    let keeps = aside_kept least staged f well k n fewer all split other much.exceeded.greatest kept.greatest limits kept.keeps in
+    let keeps = aside_kept f well k n fewer all split other much.exceeded.greatest kept.greatest limits kept.keeps in
     let c : Counts = counts_of f split limits.writeback in
-    let none = (law (aside least staged f well k n fewer all split other much.exceeded.greatest kept.greatest limits.writeback) limits).1 keeps in
+    let none = (kept_limits_are_not_exceeded (aside f well k n fewer all split other much.exceeded.greatest kept.greatest limits.writeback) limits).1 keeps in
     much.other (of_headers c 0 limits much.over none much.exceeded.exceeds)

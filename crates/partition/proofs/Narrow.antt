@@ -1,83 +1,43 @@
 -- The sets of preprocessing on one instruction fewer.
-use Rattle.std.proofs.Common.{◌≡◌, ℕ, zero, suc, ◌<◌, Bool, false, List, [], ◌∷◌, inl, inr, refl, sym, ap, ◌∙◌, subst, arith, length}
+use Rattle.std.proofs.Common.{◌≡◌, ℕ, suc, ◌<◌, Bool, false, get_or, List, [], ◌∷◌, inl, inr, refl, sym, ap, ◌∙◌, subst, arith}
 use Rattle.std.specs.Prelude.{slice_index, slice_index_or, slice_set, if◌then◌else◌}
 use Rattle.std.specs.List.{AllByRecursion as Each}
-use Rattle.std.proofs.lemmas.Bool.{cases_eq}
+use Rattle.std.proofs.lemmas.Bool.{cases_eq, false_from_ne_true}
+use Rattle.std.proofs.lemmas.List.{get_or-set_other}
 use Rattle.std.proofs.lemmas.Option.{slice_get_within}
 use Rattle.flat_ir.specs.declared.program.ValueId.{ValueId}
-use Rattle.flat_ir.specs.Program.{Program, Step, Work, operands}
-use Rattle.flat_ir.specs.Program.Work.{const, field, apply, shift, select, byte, look, put, del}
-use Rattle.flat_ir.specs.Kinds.{needed, is_input}
+use Rattle.flat_ir.specs.Program.{Program, Step, operands}
+use Rattle.flat_ir.specs.Kinds.{is_input}
 use Rattle.flat_ir.specs.WellFormed.{IsWellFormed}
 use Rattle.flat_ir.specs.Sets.{IsMarked, IsAt, Reads, IsPreClosed, IsCarriedClosed, IsGreatest}
 use Rattle.flat_ir.specs.Stages.{IsDepths, deepest, depth_of}
 use Rattle.split_model.specs.declared.split.Part.{Part}
 use Rattle.split_model.specs.Greatest.{pre_marks, IsGreatestSplit}
-use Rattle.partition.proofs.Lawful.{no_more, step_there}
+use Rattle.dependence.proofs.Placing.{each_read, step_there}
+use Rattle.dependence.proofs.Rising.{needs_operand}
+use Rattle.lemmas.proofs.Lists.{length_slice_set}
 
 -- ## One mark less
 
-length_set : {X : Type 0} (xs : List X) (k : ℕ) (x : X) → length (slice_set xs k x) ≡ length xs
-length_set [] k x = refl
-length_set (y ∷ ys) zero x = refl
-length_set (y ∷ ys) (suc k) x = ap suc (length_set ys k x)
-
-other_mark : (xs : List Bool) (k i : ℕ) → (i ≡ k → ⊥) → slice_index_or (slice_set xs k false) i false ≡ slice_index_or xs i false
-other_mark [] k i h = refl
-other_mark (x ∷ xs) zero zero h = absurd (h refl)
-other_mark (x ∷ xs) zero (suc i) h = refl
-other_mark (x ∷ xs) (suc k) zero h = refl
-other_mark (x ∷ xs) (suc k) (suc i) h = other_mark xs k i (λ e. h (ap suc e))
-
-no_mark : (xs : List Bool) (k : ℕ) → slice_index_or (slice_set xs k false) k false ≡ false
-no_mark [] k = refl
-no_mark (x ∷ xs) zero = refl
-no_mark (x ∷ xs) (suc k) = no_mark xs k
-
-other_number : (xs : List ℕ) (k i : ℕ) → (i ≡ k → ⊥) → slice_index (slice_set xs k 0) i ≡ slice_index xs i
-other_number [] k i h = refl
-other_number (x ∷ xs) zero zero h = absurd (h refl)
-other_number (x ∷ xs) zero (suc i) h = refl
-other_number (x ∷ xs) (suc k) zero h = refl
-other_number (x ∷ xs) (suc k) (suc i) h = other_number xs k i (λ e. h (ap suc e))
-
-no_number : (xs : List ℕ) (k : ℕ) → slice_index (slice_set xs k 0) k ≡ 0
-no_number [] k = refl
-no_number (x ∷ xs) zero = refl
-no_number (x ∷ xs) (suc k) = no_number xs k
+none_at : {X : Type 0} (d : X) (xs : List X) (k : ℕ) → get_or (slice_set xs k d) k d ≡ d
+none_at d (x ∷ xs) (suc k) = none_at d xs k
+none_at d _ _ = refl
 
 -- what is still marked was marked, and isn't this one
 still : (xs : List Bool) (k i : ℕ) → IsMarked (slice_set xs k false) i → IsMarked xs i × (i ≡ k → ⊥)
 still xs k i m =
-    let apart : i ≡ k → ⊥ = λ e. (let n = no_mark xs k in let o = ap (λ j. slice_index_or (slice_set xs k false) j false) e in cc) in
-    (sym (other_mark xs k i apart) ∙ m, apart)
+    let apart : i ≡ k → ⊥ = λ e. (let n = none_at false xs k in let o = ap (λ j. slice_index_or (slice_set xs k false) j false) e in cc) in
+    (sym (get_or-set_other xs k i false false apart) ∙ m, apart)
 
 stays : (xs : List Bool) (k i : ℕ) → IsMarked xs i → (i ≡ k → ⊥) → IsMarked (slice_set xs k false) i
-stays xs k i m h = other_mark xs k i h ∙ m
+stays xs k i m h = get_or-set_other xs k i false false h ∙ m
 
 -- ## Operands stand before what reads them
-
-each_read : (P : ℕ → Type 0) (vs : List ValueId) → Each (λ v. P v.instruction) vs → (j : ℕ) → Reads vs j → P j
-each_read P [] all j r = absurd r
-each_read P (v ∷ vs) all j (inl e) = subst P e all.0
-each_read P (v ∷ vs) all j (inr r) = each_read P vs all.1 j r
 
 before : (f : Program) → IsWellFormed f → (i j : ℕ) (one : Step) → IsAt f i one → Reads (operands one.work) j → j < i
 before f well i j one at r =
     each_read (λ n. n < i) (operands one.work)
     (subst (λ (s : Step). Each (λ v. v.instruction < i) (operands s.work)) (step_there f i one at) (well.after_operands i (slice_get_within f.code i one at))) j r
-
-needed_read : (work : Work) (j : ℕ) → Reads (needed work) j → Reads (operands work) j
-needed_read (const width number) j r = r
-needed_read (field name) j r = r
-needed_read (apply op width args) j r = r
-needed_read (shift op width arg by) j r = r
-needed_read (select width cond first second) j (inl e) = inl e
-needed_read (select width cond first second) j (inr r) = absurd r
-needed_read (byte index) j r = r
-needed_read (look object keys) j r = r
-needed_read (put object keys values) j r = r
-needed_read (del object keys) j r = r
 
 -- ## The sets on one instruction fewer
 
@@ -93,13 +53,10 @@ fewer f k others out closed = record {
   below = λ i m.
       let l = closed.below i m in
       let apart : i ≡ k → ⊥ = λ e. (let o = ap (λ j. slice_index_or others j false) e in cc) in
-      under i k l apart;
+      omega (arith, l, apart);
   kinds = closed.kinds;
   needs = closed.needs;
 }
-  where
-    under : (i k : ℕ) → i < suc k → (i ≡ k → ⊥) → i < k
-    under i k l apart = elim (cases_eq i k) [ inl e ↦ absurd (apart e) | inr n ↦ omega (arith, l, n) ]
 
 module _ (f : Program) (well : IsWellFormed f) (k : ℕ) (pre carried : List Bool) (depths : List ℕ)
     (old : IsGreatest f (IsPreClosed f (suc k)) pre) (handed : IsGreatest f (IsCarriedClosed f pre) carried) (deep : IsDepths f pre depths) where
@@ -107,18 +64,17 @@ module _ (f : Program) (well : IsWellFormed f) (k : ℕ) (pre carried : List Boo
   left_below : (i : ℕ) → IsMarked (slice_set pre k false) i → i < k
   left_below i m =
       let s = still pre k i m in
-      let l = old.closed.below i s.0 in
-      elim (cases_eq i k) [ inl e ↦ absurd (s.1 e) | inr n ↦ omega (arith, l, n) ]
+      omega (arith, old.closed.below i s.0, s.1)
 
   pub pre_left : IsGreatest f (IsPreClosed f k) (slice_set pre k false)
   pre_left = record {
-    count = length_set pre k false ∙ old.count;
+    count = length_slice_set pre k false ∙ old.count;
     closed = record {
       below = left_below;
       kinds = λ i m. old.closed.kinds i (still pre k i m).0;
       needs = λ i j one m at r.
           let l = left_below i m in
-          let b = before f well i j one at (needed_read one.work j r) in
+          let b = before f well i j one at (needs_operand one.work j r) in
           stays pre k j (old.closed.needs i j one (still pre k i m).0 at r) (λ e. omega (arith, l, b, e));
     };
     greatest = λ others closed i m.
@@ -128,7 +84,7 @@ module _ (f : Program) (well : IsWellFormed f) (k : ℕ) (pre carried : List Boo
 
   pub carried_left : IsGreatest f (IsCarriedClosed f (slice_set pre k false)) (slice_set carried k false)
   carried_left = record {
-    count = length_set carried k false ∙ handed.count;
+    count = length_slice_set carried k false ∙ handed.count;
     closed = record {
       within = λ i m. let s = still carried k i m in stays pre k i (handed.closed.within i s.0) s.1;
       looks = λ i m. handed.closed.looks i (still carried k i m).0;
@@ -150,8 +106,8 @@ module _ (f : Program) (well : IsWellFormed f) (k : ℕ) (pre carried : List Boo
   same_deepest : (vs : List ValueId) → ((j : ℕ) → Reads vs j → j ≡ k → ⊥) → deepest (slice_set pre k false) (slice_set depths k 0) vs ≡ deepest pre depths vs
   same_deepest [] h = refl
   same_deepest (v ∷ vs) h =
-      let m = other_mark pre k v.instruction (h v.instruction (inl refl)) in
-      let n = other_number depths k v.instruction (h v.instruction (inl refl)) in
+      let m = get_or-set_other pre k v.instruction false false (h v.instruction (inl refl)) in
+      let n = get_or-set_other depths k v.instruction 0 0 (h v.instruction (inl refl)) in
       let r = same_deepest vs (λ j q. h j (inr q)) in
       rw (m, n, r) refl
 
@@ -160,15 +116,15 @@ module _ (f : Program) (well : IsWellFormed f) (k : ℕ) (pre carried : List Boo
 
   pub depths_left : IsDepths f (slice_set pre k false) (slice_set depths k 0)
   depths_left = record {
-    count = length_set depths k 0 ∙ deep.count;
+    count = length_slice_set depths k 0 ∙ deep.count;
     others = λ i out. elim (cases_eq i k) [
-      | inl e ↦ ap (λ j. slice_index (slice_set depths k 0) j) e ∙ no_number depths k
-      | inr n ↦ other_number depths k i n ∙ deep.others i (sym (other_mark pre k i n) ∙ out)
+      | inl e ↦ ap (λ j. slice_index (slice_set depths k 0) j) e ∙ none_at 0 depths k
+      | inr n ↦ get_or-set_other depths k i 0 0 n ∙ deep.others i (sym (get_or-set_other pre k i false false n) ∙ out)
     ];
     depth = λ i one m at.
         let s = still pre k i m in
         let l = left_below i m in
-        other_number depths k i s.1 ∙ deep.depth i one s.0 at
+        get_or-set_other depths k i 0 0 s.1 ∙ deep.depth i one s.0 at
         ∙ sym (same_depth one (λ j r e. let b = before f well i j one at r in omega (arith, l, b, e)));
   }
 
@@ -178,7 +134,7 @@ module _ (f : Program) (well : IsWellFormed f) (k : ℕ) (pre carried : List Boo
     pre = record {
       count = is.pre.count;
       closed = more f k (pre_marks split) is.pre.closed;
-      greatest = λ others closed. is.pre.greatest others (fewer f k others (no_more (slice_index_or others k false) (λ m. let p = old.greatest others closed k m in cc)) closed);
+      greatest = λ others closed. is.pre.greatest others (fewer f k others (false_from_ne_true (slice_index_or others k false) (λ m. let p = old.greatest others closed k m in cc)) closed);
     };
     carried = is.carried;
     post = is.post;
@@ -190,7 +146,7 @@ module _ (f : Program) (well : IsWellFormed f) (k : ℕ) (pre carried : List Boo
   as_without out all split is = record {
     pre = record {
       count = is.pre.count;
-      closed = fewer f k (pre_marks split) (no_more (slice_index_or (pre_marks split) k false) (λ m. let p = old.greatest (pre_marks split) is.pre.closed k m in cc)) is.pre.closed;
+      closed = fewer f k (pre_marks split) (false_from_ne_true (slice_index_or (pre_marks split) k false) (λ m. let p = old.greatest (pre_marks split) is.pre.closed k m in cc)) is.pre.closed;
       greatest = λ others closed. is.pre.greatest others (more f k others closed);
     };
     carried = is.carried;

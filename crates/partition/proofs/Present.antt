@@ -4,7 +4,7 @@ use Rattle.std.specs.Prelude.{slice_index, slice_index_or}
 use Rattle.std.proofs.lemmas.Bool.{cases_lt}
 use Rattle.flat_ir.specs.Program.{Program}
 use Rattle.flat_ir.specs.WellFormed.{IsWellFormed}
-use Rattle.flat_ir.specs.Sets.{IsPreClosed, IsCarriedClosed, IsPostClosed, IsGreatest}
+use Rattle.flat_ir.specs.Sets.{IsPreClosed, IsCarriedClosed, IsGreatest}
 use Rattle.flat_ir.specs.Stages.{IsDepths}
 use Rattle.split_model.specs.declared.split.Part.{Part}
 use Rattle.split_model.specs.declared.split.Slow.{Slow}
@@ -16,8 +16,13 @@ use Rattle.resource_limits.specs.declared.limits.Limits.{Limits}
 use Rattle.resource_limits.specs.declared.counting.Counts.{Counts}
 use Rattle.resource_limits.specs.declared.exceeding.Over.{Over}
 use Rattle.resource_limits.specs.Counts.{counts_of}
-use Rattle.resource_limits.specs.Kept.{Keeps, KeepsLimits, first_over}
+use Rattle.resource_limits.specs.Kept.{first_over}
 use Rattle.partition.specs.Choice.{IsKept, IsExceeded, AllExceeded, IsFirstKept, IsChosen, IsRefused, IsUnrefused, shrinking}
+use Rattle.lemmas.proofs.Lists.{replicate_false}
+use Rattle.dependence.proofs.Laws.{closed_sets_have_a_greatest-carried, closed_sets_have_a_greatest-depths, closed_sets_have_a_greatest-post, closed_sets_have_a_greatest-pre}
+use Rattle.resource_limits.proofs.Laws.{kept_limits_are_not_exceeded}
+use Rattle.partition.proofs.Last.{last_exact}
+use Rattle.partition.proofs.Unique.{same_splits}
 
 -- ## A list with an element for each number below n
 
@@ -30,21 +35,19 @@ marks_listed : {X : Type 0} (h : X → Bool) (n : ℕ) (g : ℕ → X) (marks : 
     → ((i : ℕ) → h (g i) ≡ slice_index_or marks i false) → map h (listed n g) ≡ marks
 unfolding listed
 marks_listed h zero g [] count each = refl
-marks_listed h zero g (m ∷ ms) count each = absurd (omega arith)
-marks_listed h (suc n) g [] count each = absurd (omega arith)
 marks_listed h (suc n) g (m ∷ ms) count each =
     ap (λ b. b ∷ map h (listed n (λ i. g (suc i)))) (each 0)
     ∙ ap (λ (bs : List Bool). m ∷ bs) (marks_listed h n (λ i. g (suc i)) ms (omega arith) (λ i. each (suc i)))
+marks_listed h _ g _ count each = absurd (omega arith)
 
 numbers_listed : {X : Type 0} (h : X → ℕ) (n : ℕ) (g : ℕ → X) (numbers : List ℕ) → length numbers ≡ n
     → ((i : ℕ) → h (g i) ≡ slice_index numbers i) → map h (listed n g) ≡ numbers
 unfolding listed
 numbers_listed h zero g [] count each = refl
-numbers_listed h zero g (m ∷ ms) count each = absurd (omega arith)
-numbers_listed h (suc n) g [] count each = absurd (omega arith)
 numbers_listed h (suc n) g (m ∷ ms) count each =
     ap (λ b. b ∷ map h (listed n (λ i. g (suc i)))) (each 0)
     ∙ ap (λ (bs : List ℕ). m ∷ bs) (numbers_listed h n (λ i. g (suc i)) ms (omega arith) (λ i. each (suc i)))
+numbers_listed h _ g _ count each = absurd (omega arith)
 
 -- ## A part from its marks and stages
 
@@ -90,21 +93,9 @@ post_stage_is false false stage apart none = sym (none refl)
 
 -- ## The greatest split from its sets
 
--- what dependence gives of every program
-pub record HasSets : Type 0 where
-  pub pre : (f : Program) (k : ℕ) → IsWellFormed f → (pre : List Bool) × IsGreatest f (IsPreClosed f k) pre
-  pub carried : (f : Program) (pre : List Bool) → IsWellFormed f → (carried : List Bool) × IsGreatest f (IsCarriedClosed f pre) carried
-  pub post : (f : Program) (carried : List Bool) → IsWellFormed f → (post : List Bool) × IsGreatest f (IsPostClosed f carried) post
-  pub depths : (f : Program) (members : List Bool) → IsWellFormed f → (depths : List ℕ) × IsDepths f members depths
-
 length_replicate : (n : ℕ) → length (replicate n false) ≡ n
 length_replicate zero = refl
 length_replicate (suc n) = ap suc (length_replicate n)
-
-unset : (n i : ℕ) → slice_index_or (replicate n false) i false ≡ false
-unset zero i = refl
-unset (suc n) zero = refl
-unset (suc n) (suc i) = unset n i
 
 -- a set of postprocessing has a mark for each instruction, and is apart from what is carried
 record IsApart (f : Program) (carried post : List Bool) : Type 0 where
@@ -115,12 +106,12 @@ apart_post : (f : Program) (all : Bool) (carried post : List Bool) → IsPostSet
 apart_post f true carried post is = record { count = is.count; apart = is.closed.apart }
 apart_post f false carried post is = record {
   count = ap (λ (m : List Bool). length m) is ∙ length_replicate (length f.code);
-  apart = λ i m. absurd (let u = ap (λ (m : List Bool). slice_index_or m i false) is ∙ unset (length f.code) i in let e : true ≡ false = sym m ∙ u in cc);
+  apart = λ i m. absurd (let u = ap (λ (m : List Bool). slice_index_or m i false) is ∙ replicate_false (length f.code) i in let e : true ≡ false = sym m ∙ u in cc);
 }
 
-post_set : HasSets → (f : Program) (all : Bool) (carried : List Bool) → IsWellFormed f → (post : List Bool) × IsPostSet f all carried post
-post_set sets f true carried formed = sets.post f carried formed
-post_set sets f false carried formed = (replicate (length f.code) false, refl)
+post_set : (f : Program) (all : Bool) (carried : List Bool) → IsWellFormed f → (post : List Bool) × IsPostSet f all carried post
+post_set f true carried formed = closed_sets_have_a_greatest-post f carried formed
+post_set f false carried formed = (replicate (length f.code) false, refl)
 
 module _ (f : Program) (k : ℕ) (all : Bool) (pre carried post : List Bool) (before after : List ℕ)
     (is_pre : IsGreatest f (IsPreClosed f k) pre) (is_carried : IsGreatest f (IsCarriedClosed f pre) carried) (is_post : IsPostSet f all carried post)
@@ -183,43 +174,36 @@ module _ (f : Program) (k : ℕ) (all : Bool) (pre carried post : List Bool) (be
   present : (split : List Part) × IsGreatestSplit f k all split
   present = (joined, joined_greatest)
 
-pub greatest_present : HasSets → (f : Program) (k : ℕ) (all : Bool) → IsWellFormed f → (split : List Part) × IsGreatestSplit f k all split
-greatest_present sets f k all formed =
-    let pre = sets.pre f k formed in
-    let carried = sets.carried f pre.0 formed in
-    let post = post_set sets f all carried.0 formed in
-    let before = sets.depths f pre.0 formed in
-    let after = sets.depths f post.0 formed in
+pub greatest_present : (f : Program) (k : ℕ) (all : Bool) → IsWellFormed f → (split : List Part) × IsGreatestSplit f k all split
+greatest_present f k all formed =
+    let pre = closed_sets_have_a_greatest-pre f k formed in
+    let carried = closed_sets_have_a_greatest-carried f pre.0 formed in
+    let post = post_set f all carried.0 formed in
+    let before = closed_sets_have_a_greatest-depths f pre.0 formed in
+    let after = closed_sets_have_a_greatest-depths f post.0 formed in
     present f k all pre.0 carried.0 post.0 before.0 after.0 pre.1 carried.1 post.1 before.1 after.1
 
 -- ## What is chosen of it
-
--- what holds of greatest splits and of limits
-pub record HasChoice : Type 0 where
-  pub some : (f : Program) (k : ℕ) (all : Bool) → IsWellFormed f → (split : List Part) × IsGreatestSplit f k all split
-  pub one : (f : Program) (k : ℕ) (all : Bool) (split other : List Part) → IsWellFormed f
-      → IsGreatestSplit f k all split → IsGreatestSplit f k all other → split ≡ other
-  pub kept : (c : Counts) (l : Limits) → (first_over c l ≡ None) ↔ Keeps c l
 
 none_or_some : (x : Option Over) → (x ≡ None) ⊎ ((over : Over) × (x ≡ Some over))
 none_or_some None = inl refl
 none_or_some (Some over) = inr (over, refl)
 
-module _ (laws : HasChoice) (f : Program) (limits : Limits) (formed : IsWellFormed f) where
+module _ (f : Program) (limits : Limits) (formed : IsWellFormed f) where
   kept_or_exceeded : (k : ℕ) (all : Bool) → ((split : List Part) × IsKept f limits k all split) ⊎ ((over : Over) × IsExceeded f limits k all over)
   kept_or_exceeded k all =
-      let greatest = laws.some f k all formed in
+      let greatest = greatest_present f k all formed in
       let counts : Counts = counts_of f greatest.0 limits.writeback in
       elim (none_or_some (first_over counts limits)) [
-        | inl none ↦ inl (greatest.0, record { greatest = greatest.1; keeps = (laws.kept counts limits).0 none })
+        | inl none ↦ inl (greatest.0, record { greatest = greatest.1; keeps = (kept_limits_are_not_exceeded counts limits).0 none })
         | inr some ↦ inr (some.0, record { split = greatest.0; greatest = greatest.1; exceeds = some.1 })
       ]
 
   none_kept : (k : ℕ) (all : Bool) (over : Over) → IsExceeded f limits k all over → (other : List Part) → IsKept f limits k all other → ⊥
   none_kept k all over exceeded other kept =
       let first : List Part → Option Over = λ parts. first_over (counts_of f parts limits.writeback) limits in
-      let same : other ≡ exceeded.split = laws.one f k all other exceeded.split formed kept.greatest exceeded.greatest in
-      let none : first other ≡ None = (laws.kept (counts_of f other limits.writeback) limits).1 kept.keeps in
+      let same : other ≡ exceeded.split = same_splits f k all other exceeded.split formed kept.greatest exceeded.greatest in
+      let none : first other ≡ None = (kept_limits_are_not_exceeded (counts_of f other limits.writeback) limits).1 kept.keeps in
       let some : first other ≡ Some over = ap first same ∙ exceeded.exceeds in
       let e : Some over ≡ None = sym some ∙ none in
       cc
@@ -260,9 +244,8 @@ module _ (laws : HasChoice) (f : Program) (limits : Limits) (formed : IsWellForm
     ]
   ]
 
-  pub shrunk_present : ((split : List Part) → IsGreatestSplit f 0 false split → 2 ≤ limits.transfer_bytes → KeepsLimits f split limits)
-      → ((split : List Part) × IsChosen f limits true split) ⊎ ((limits.transfer_bytes < 2) × AllExceeded f limits (length f.code))
-  shrunk_present last = elim (first_or_none (length f.code)) [
+  pub shrunk_present : ((split : List Part) × IsChosen f limits true split) ⊎ ((limits.transfer_bytes < 2) × AllExceeded f limits (length f.code))
+  shrunk_present = elim (first_or_none (length f.code)) [
     | inl first ↦ inl first
     | inr none ↦ inr (narrow none, none)
   ]
@@ -271,19 +254,18 @@ module _ (laws : HasChoice) (f : Program) (limits : Limits) (formed : IsWellForm
       narrow none = elim (cases_lt limits.transfer_bytes 2) [
         | inl lt ↦ lt
         | inr ge ↦
-            let s = laws.some f 0 false formed in
+            let s = greatest_present f 0 false formed in
             let e = none 0 false (omega arith) in
-            absurd (none_kept 0 false e.0 e.1 s.0 (record { greatest = s.1; keeps = last s.0 s.1 ge }))
+            absurd (none_kept 0 false e.0 e.1 s.0 (record { greatest = s.1; keeps = (last_exact f limits s.0 formed s.1).1 ge }))
       ]
 
   -- what isn't refused is chosen, and the other way round
-  pub unrefused_present : ((split : List Part) → IsGreatestSplit f 0 false split → 2 ≤ limits.transfer_bytes → KeepsLimits f split limits)
-      → 2 ≤ limits.transfer_bytes → (shrink : Bool) → IsUnrefused f limits shrink ↔ ((split : List Part) × IsChosen f limits shrink split)
-  unrefused_present last room false = (
+  pub unrefused_present : 2 ≤ limits.transfer_bytes → (shrink : Bool) → IsUnrefused f limits shrink ↔ ((split : List Part) × IsChosen f limits shrink split)
+  unrefused_present room false = (
     λ none. elim strict_present [ inl chosen ↦ chosen | inr refused ↦ absurd (none refused.0 refused.1) ],
     λ chosen over refused. none_kept (length f.code) true over refused chosen.0 chosen.1,
   )
-  unrefused_present last room true = (
-    λ none. elim (shrunk_present last) [ inl chosen ↦ chosen | inr narrow ↦ absurd (omega (arith, room, narrow.0)) ],
+  unrefused_present room true = (
+    λ none. elim shrunk_present [ inl chosen ↦ chosen | inr narrow ↦ absurd (omega (arith, room, narrow.0)) ],
     λ chosen over refused. refused,
   )

@@ -21,9 +21,8 @@ abbrev pub IsBlank : List Part → Type 0
 IsBlank split = (i : ℕ) → part_at split i ≡ left
 
 pub blank : (n : ℕ) → IsBlank (replicate n left)
-blank zero i = refl
-blank (suc n) zero = refl
 blank (suc n) (suc i) = blank n i
+blank _ _ = refl
 
 map_same : {X Y : Type 0} (g : X → Y) (n : ℕ) (x : X) → map g (replicate n x) ≡ replicate n (g x)
 map_same g zero x = refl

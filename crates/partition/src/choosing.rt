@@ -19,14 +19,10 @@ ghost use Rattle.partition.specs.Deeper.{is_deeper};
 use crate::basis::Basis;
 use crate::front::Front;
 use crate::greatest::all_on_server;
-use crate::laws::greatest_split_is_one;
 use crate::trying::{Tried, is_of_preprocessing, most_left, try_split};
-use dependence::depths_are_least;
 use flat_ir::Flat;
 use gal_io::NoMemory;
-use resource_limits::{
-    Limits, Over, count_by_guards, first_exceeded, kept_limits_are_not_exceeded,
-};
+use resource_limits::{Limits, Over, count_by_guards, first_exceeded};
 use split_model::{Part, Split, stage_or_zero};
 use std::alloc::Global;
 use thiserror::Error;
@@ -106,7 +102,6 @@ fn find(
     requires front { IsFront (program_of f.now) front.now }
     ensures { IfOk result (λ found. IsFound (program_of f.now) limits.now front.now.count all found) }
 {
-    greatest_split_is_one();
     let split = front.split(alloc, f, basis, all)?;
     if keeps(alloc, f, basis, &split, limits)? {
         Ok(Some(split))
@@ -132,8 +127,6 @@ fn left_after(
     requires exceeded { IsExceeded (program_of f.now) limits.now count false over }
     ensures { IfOk result (λ left. IsLeft (program_of f.now) limits.now count left) }
 {
-    depths_are_least();
-    kept_limits_are_not_exceeded();
     if is_of_preprocessing(&over) {
         most_left(alloc, f, basis, limits, count)
     } else {
@@ -156,7 +149,6 @@ fn try_two(
     requires some { 0 < front.now.count }
     ensures { IfOk result (λ outcome. IsStep (program_of f.now) limits.now front.now.count outcome) }
 {
-    greatest_split_is_one();
     if let Some(split) = find(alloc, f, basis, limits, front, true)? {
         return Ok(Outcome::Found(split));
     }
@@ -228,7 +220,6 @@ pub fn partition(alloc: Global, f: &Flat, limits: &Limits, shrink: bool) -> Resu
     ensures not_chosen { (over : Over) → IsRefused (program_of f.now) limits.now shrink over
         → IfOk result (λ split. ⊥) }
 {
-    greatest_split_is_one();
     let basis = Basis::of(alloc, f)?;
     if shrink {
         let split = shrunk(alloc, f, &basis, limits)?;

@@ -1,11 +1,12 @@
 -- Numbers and their bytes.
 use Rattle.std.proofs.Common.{◌≡◌, ℕ, zero, suc, ◌+◌, ◌<◌, ◌≤◌, ◌^◌, Bool, true, false, List, [], ◌∷◌, ◌++◌, length, get_or, take, drop, refl, sym, ap, ◌∙◌, add-zero, append_assoc, lit<, arith}
 use Rattle.std.specs.Int.{Width, w16, w32, from_be_bytes, from_le_bytes, to_be_bytes, to_le_bytes}
-use Rattle.std.proofs.lemmas.List.{drop-drop, drop_at, get_or-drop, length-append, length-drop, take_all, take_at}
+use Rattle.std.proofs.lemmas.List.{drop-drop, get_or-drop, length-append, length-drop, take_all}
 use Rattle.std.proofs.Math.Seq.{take-add}
 use Rattle.std.proofs.lemmas.Nat.{be_bytes_4, le_bytes_4, from_be_bytes-to_be_bytes_4, from_le_bytes-to_le_bytes_4}
 use Rattle.packet_fields.specs.Several.{AreBytes}
 use Rattle.pcap_trace.specs.Format.{ethernet, front, header, magic, number, record_header}
+use Rattle.lemmas.proofs.Lists.{first_parts, second_parts}
 
 pub number_big : (big : Bool) (width : Width) (n : ℕ) → big ≡ true → number big width n ≡ to_be_bytes width n
 unfolding number
@@ -74,17 +75,6 @@ one_number true m n m_fits n_fits same =
 one_number false m n m_fits n_fits same =
     sym (from_le_bytes-to_le_bytes_4 m m_fits)
     ∙ (ap (λ (bytes : List ℕ). from_le_bytes w32 bytes) same ∙ from_le_bytes-to_le_bytes_4 n n_fits)
-
--- bytes in two parts, of which the first are as long
-pub first_parts : (a b x y : List ℕ) → length a ≡ length b → a ++ x ≡ b ++ y → a ≡ b
-first_parts a b x y long same =
-    sym (take_at a x (length b) long)
-    ∙ (ap (λ (bytes : List ℕ). take (length b) bytes) same ∙ take_at b y (length b) refl)
-
-pub second_parts : (a b x y : List ℕ) → length a ≡ length b → a ++ x ≡ b ++ y → x ≡ y
-second_parts a b x y long same =
-    sym (drop_at a x (length b) long)
-    ∙ (ap (λ (bytes : List ℕ). drop (length b) bytes) same ∙ drop_at b y (length b) refl)
 
 -- a number in front of other bytes
 pub number_in_front : (big : Bool) (m n : ℕ) (x y : List ℕ) → m < 2 ^ 32 → n < 2 ^ 32

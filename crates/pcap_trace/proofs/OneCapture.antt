@@ -7,8 +7,9 @@ use Rattle.pcap_trace.specs.declared.pcap.Pcap.{Pcap}
 use Rattle.pcap_trace.specs.declared.records.Record.{Record}
 use Rattle.pcap_trace.specs.Format.{IsCapture, ethernet, front, header, number, pcap_bytes, record_bytes}
 use Rattle.pcap_trace.specs.Refused.{Begins}
-use Rattle.pcap_trace.proofs.NumberLemmas.{behind_number, first_parts, length-front, length-header, length-number_4, number_in_front, one_number, second_parts}
+use Rattle.pcap_trace.proofs.NumberLemmas.{behind_number, length-front, length-header, length-number_4, number_in_front, one_number}
 use Rattle.pcap_trace.proofs.OneRecord.{IsStuck, one_list}
+use Rattle.lemmas.proofs.Lists.{first_parts, second_parts}
 
 -- the same order and unit
 pub record SameKind (big nano big' nano' : Bool) : Type 0 where
@@ -165,15 +166,3 @@ link_of bytes p x same =
 pub other_link : (big : Bool) (bytes : List ℕ) (n : ℕ) → n < 2 ^ 32 → number big w32 n ≡ take 4 (drop 20 bytes) → (n ≡ ethernet → ⊥)
     → take 4 (drop 20 bytes) ≡ number big w32 ethernet → ⊥
 other_link big bytes n fits is other same = other (one_number big n ethernet fits (lit< tt) (is ∙ same))
-
--- none of two units
-pub neither_unit : (bytes : List ℕ) (big : Bool) → (Begins bytes big true → ⊥) → (Begins bytes big false → ⊥)
-    → (nano : Bool) → Begins bytes big nano → ⊥
-neither_unit bytes big nanoseconds microseconds true begins = nanoseconds begins
-neither_unit bytes big nanoseconds microseconds false begins = microseconds begins
-
--- none of two orders
-pub neither_order : (bytes : List ℕ) → ((nano : Bool) → Begins bytes true nano → ⊥) → ((nano : Bool) → Begins bytes false nano → ⊥)
-    → (big nano : Bool) → Begins bytes big nano → ⊥
-neither_order bytes high low true nano begins = high nano begins
-neither_order bytes high low false nano begins = low nano begins

@@ -7,7 +7,8 @@ use Rattle.pcap_trace.specs.declared.records.Record.{Record}
 use Rattle.pcap_trace.specs.Format.{number, record_bytes, record_header}
 use Rattle.pcap_trace.specs.Records.{IsRecord}
 use Rattle.pcap_trace.specs.Refused.{IsCut, IsLong, Tells}
-use Rattle.pcap_trace.proofs.NumberLemmas.{behind_number, first_parts, length-number_4, length-record_header, number_in_front, one_number, second_parts}
+use Rattle.pcap_trace.proofs.NumberLemmas.{behind_number, length-number_4, length-record_header, number_in_front, one_number}
+use Rattle.lemmas.proofs.Lists.{first_parts, second_parts}
 
 pub length-record_bytes : (big : Bool) (r : Record) → length (record_bytes big r) ≡ 16 + length r.bytes
 unfolding record_bytes

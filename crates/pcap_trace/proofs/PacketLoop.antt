@@ -1,29 +1,14 @@
 -- Records of a capture, one after another: those that are made of packets, the packets of them, and their bytes.
-use Rattle.std.proofs.Common.{◌≡◌, ℕ, zero, suc, ◌+◌, ◌<◌, ◌≤◌, ◌^◌, Bool, List, [], ◌∷◌, ◌++◌, length, map, get_or, take, refl, sym, ap, ◌∙◌, append_assoc, subst, arith}
+use Rattle.std.proofs.Common.{◌≡◌, ℕ, zero, suc, ◌+◌, ◌<◌, ◌≤◌, ◌^◌, Bool, List, [], ◌∷◌, ◌++◌, length, get_or, take, refl, sym, ap, ◌∙◌, append_assoc, subst, arith}
 use Rattle.std.specs.List.{AllByRecursion as Each, flat_map}
-use Rattle.std.proofs.lemmas.List.{flat_map_more, length-take-le, map-append, take_all, take_more}
+use Rattle.std.proofs.lemmas.List.{length-take-le, take_all, take_more}
 use Rattle.packet_fields.specs.declared.packet.Packet.{Packet}
 use Rattle.pcap_trace.specs.declared.pcap.Pcap.{Pcap}
 use Rattle.pcap_trace.specs.declared.records.Record.{Record}
 use Rattle.pcap_trace.specs.Format.{IsPcap, header, pcap_bytes, record_bytes, record_header}
 use Rattle.pcap_trace.specs.Packets.{records_from, whole_record}
 use Rattle.pcap_trace.specs.Records.{AreRecords, IsRecord, most_records}
-
--- a record of a list
-record_in : (rs : List Record) (i : ℕ) (d : Record) → i < length rs → Each IsRecord rs → IsRecord (get_or rs i d)
-record_in [] i d inside are = absurd (omega arith)
-record_in (r ∷ rs) zero d inside are = are.0
-record_in (r ∷ rs) (suc i) d inside are = record_in rs i d (omega arith) are.1
-
-pub item_is_record : (items rs : List Record) (i : ℕ) (item : Record) → items ≡ rs → item ≡ get_or items i item → i < length items
-    → AreRecords rs → IsRecord item
-item_is_record items rs i item same is inside are =
-    let each : Each IsRecord items = subst (λ (xs : List Record). Each IsRecord xs) (sym same) are.each in
-    subst (λ (r : Record). IsRecord r) (sym is) (record_in items i item inside each)
-
-each_more : (rs : List Record) (r : Record) → Each IsRecord rs → IsRecord r → Each IsRecord (rs ++ r ∷ [])
-each_more [] r are is = (is, tt)
-each_more (x ∷ rs) r are is = (are.0, each_more rs r are.1 is)
+use Rattle.pcap_trace.proofs.RecordLoop.{Each-append}
 
 -- one more of a list
 next_item : {X : Type 0} (xs : List X) (i : ℕ) (x : X) → i < length xs → x ≡ get_or xs i x → take (i + 1) xs ≡ take i xs ++ x ∷ []
@@ -48,9 +33,6 @@ pub record AreOf (made : List Record) (packets : List Packet) : Type 0 where
   pub records : made ≡ records_from 0 packets
   pub each : Each IsRecord made
 
-pub none_made : AreOf [] []
-none_made = record { records = refl; each = tt }
-
 pub one_made : (made after : List Record) (packets : List Packet) (i : ℕ) (packet : Packet) (r : Record) → AreOf made (take i packets)
     → i < length packets → packet ≡ get_or packets i packet → r ≡ whole_record i packet.bytes → IsRecord r → after ≡ made ++ r ∷ []
     → AreOf after (take (i + 1) packets)
@@ -62,7 +44,7 @@ one_made made after packets i packet r so_far inside is r_is r_fits after_is =
           ∙ (ap (λ (rs : List Record). rs ++ r ∷ []) so_far.records
           ∙ (ap (λ (x : Record). records_from 0 (take i packets) ++ x ∷ []) (sym last)
           ∙ (sym (records_more 0 (take i packets) packet) ∙ ap (λ (ps : List Packet). records_from 0 ps) (sym (next_item packets i packet inside is)))));
-      each = subst (λ (rs : List Record). Each IsRecord rs) (sym after_is) (each_more made r so_far.each r_fits);
+      each = subst (λ (rs : List Record). Each IsRecord rs) (sym after_is) (Each-append made r so_far.each r_fits);
     }
 
 pub all_made : (made : List Record) (packets : List Packet) (i : ℕ) → AreOf made (take i packets) → length packets ≤ i
@@ -75,25 +57,6 @@ made_are_records made packets i so_far end few = record {
   each = so_far.each;
   few = omega (arith, ap (λ (rs : List Record). length rs) (all_made made packets i so_far end), length-records_from 0 packets);
 }
-
--- a packet, or what else is made, of each record
-pub one_mapped : {X : Type 0} (f : Record → X) (made after : List X) (items : List Record) (i : ℕ) (item : Record) (x : X) → made ≡ map f (take i items)
-    → i < length items → item ≡ get_or items i item → x ≡ f item → after ≡ made ++ x ∷ [] → after ≡ map f (take (i + 1) items)
-one_mapped {X = X} f made after items i item x so_far inside is x_is after_is =
-    after_is
-    ∙ (ap (λ (xs : List X). xs ++ x ∷ []) so_far
-    ∙ (ap (λ (y : X). map f (take i items) ++ y ∷ []) x_is
-    ∙ (sym (map-append f (take i items) (item ∷ [])) ∙ ap (λ (rs : List Record). map f rs) (sym (next_item items i item inside is)))))
-
--- the bytes of each record
-pub one_printed : (lead text after : List ℕ) (big : Bool) (items : List Record) (i : ℕ) (item : Record)
-    → text ≡ lead ++ flat_map (record_bytes big) (take i items) → i < length items → item ≡ get_or items i item
-    → after ≡ text ++ record_bytes big item → after ≡ lead ++ flat_map (record_bytes big) (take (i + 1) items)
-one_printed lead text after big items i item so_far inside is after_is =
-    after_is
-    ∙ (ap (λ (t : List ℕ). t ++ record_bytes big item) so_far
-    ∙ (flat_map_more (record_bytes big) lead (take i items) item
-    ∙ ap (λ (rs : List Record). lead ++ flat_map (record_bytes big) rs) (sym (next_item items i item inside is))))
 
 pub all_printed : (p : Pcap) (text : List ℕ) (items : List Record) (i : ℕ) → items ≡ p.records → length items ≤ i
     → text ≡ header p.big p.nano p.zone p.sigfigs p.snaplen ++ flat_map (record_bytes p.big) (take i items) → text ≡ pcap_bytes p

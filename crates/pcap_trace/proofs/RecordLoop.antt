@@ -9,13 +9,12 @@ use Rattle.packet_fields.specs.Several.{AreBytes}
 use Rattle.pcap_trace.specs.declared.header.Header.{Header}
 use Rattle.pcap_trace.specs.declared.records.Record.{Record}
 use Rattle.pcap_trace.specs.declared.records.RecordHeader.{RecordHeader}
-use Rattle.pcap_trace.specs.declared.refusal.PcapError.{PcapError}
 use Rattle.pcap_trace.specs.declared.refusal.PcapError.TheVariants as errors
 use Rattle.pcap_trace.specs.Format.{IsCapture, IsPcap, header, number, pcap_bytes, record_bytes, record_header}
 use Rattle.pcap_trace.specs.Header.{IsHeader, capture_of}
-use Rattle.pcap_trace.specs.Reading.{HasFields, IsStop, IsWhole, record_with}
+use Rattle.pcap_trace.specs.Reading.{HasFields, IsWhole, record_with}
 use Rattle.pcap_trace.specs.Records.{AreRecords, IsRecord, most_records}
-use Rattle.pcap_trace.specs.Refused.{IsRefused, StandsIn, Tells}
+use Rattle.pcap_trace.specs.Refused.{StandsIn, Tells}
 use Rattle.pcap_trace.proofs.NumberLemmas.{length-number_4}
 use Rattle.pcap_trace.proofs.OneRecord.{length-record_bytes}
 use Rattle.pcap_trace.proofs.OneCapture.{length-pcap_bytes}
@@ -80,7 +79,7 @@ none_so_far h bytes is =
       within = is.long;
     }
 
-Each-append : (xs : List Record) (x : Record) → Each IsRecord xs → IsRecord x → Each IsRecord (xs ++ x ∷ [])
+pub Each-append : (xs : List Record) (x : Record) → Each IsRecord xs → IsRecord x → Each IsRecord (xs ++ x ∷ [])
 Each-append [] x are is = (is, tt)
 Each-append (y ∷ ys) x are is = (are.0, Each-append ys x are.1 is)
 
@@ -150,18 +149,6 @@ one_more f bytes records after count place end h body so_far whole inside end_is
       within = omega (arith, so_far.within);
     }
 
--- where no record stands, the bytes are refused
-pub stop_is_refused : (h : Header) (bytes : List ℕ) (records : List Record) (count place : ℕ) (e : PcapError)
-    → SoFar h bytes records count place → IsStop h.big (drop place bytes) place e → IsRefused bytes e
-stop_is_refused h bytes records count place (errors.Long at) so_far stop =
-    (capture_of h so_far.read, drop place bytes, subst (λ (i : ℕ). StandsIn bytes (capture_of h so_far.read) (drop place bytes) i) (sym stop.0) so_far.stands, stop.1)
-stop_is_refused h bytes records count place (errors.Record at) so_far stop =
-    (capture_of h so_far.read, drop place bytes, subst (λ (i : ℕ). StandsIn bytes (capture_of h so_far.read) (drop place bytes) i) (sym stop.0) so_far.stands, stop.1)
-stop_is_refused h bytes records count place errors.Header so_far stop = absurd stop
-stop_is_refused h bytes records count place errors.Link so_far stop = absurd stop
-stop_is_refused h bytes records count place (errors.TooMany have) so_far stop = absurd stop
-stop_is_refused h bytes records count place errors.NoMemory so_far stop = absurd stop
-
 -- at the end, the bytes are those of the capture of all records
 all_read : (h : Header) (bytes : List ℕ) (records : List Record) (count place : ℕ) (so_far : SoFar h bytes records count place)
     → length bytes ≤ place → pcap_bytes (capture_of h so_far.read) ≡ bytes
@@ -171,11 +158,6 @@ all_read h bytes records count place so_far end =
     let long : length (drop place bytes) ≡ 0 = omega (arith, length-drop place bytes) in
     sym (take_at text (drop place bytes) (length text) refl)
     ∙ (ap (λ (b : List ℕ). take (length text) b) (sym so_far.stands.parts) ∙ take_all (length text) bytes (omega arith))
-
-pub too_many : (h : Header) (bytes : List ℕ) (records : List Record) (count place : ℕ) → SoFar h bytes records count place
-    → length bytes ≤ place → most_records < count → IsRefused bytes (errors.TooMany count)
-too_many h bytes records count place so_far end many =
-    (capture_of h so_far.read, so_far.stands.capture, all_read h bytes records count place so_far end, sym so_far.counted, many)
 
 -- then all are kept, where there are few
 all_kept : (h : Header) (bytes : List ℕ) (records : List Record) (count place : ℕ) (so_far : SoFar h bytes records count place)

@@ -9,7 +9,7 @@ use Rattle.switch_ir.specs.Port.{PortState}
 use Rattle.switch_ir.specs.Tables.{Told}
 use Rattle.switch_ir.specs.declared.journal.Entry.{Entry}
 use Rattle.replay_state.specs.Journal.{Call, CalledUp, CalledStageUp, CalledCommand, CalledDown, CalledStageDown}
-use Rattle.replay_state.specs.Journal.{Finished, SentUp, GoingUp, Released, GoingDown}
+use Rattle.replay_state.specs.Journal.{GoingUp, GoingDown}
 use Rattle.replay_contracts.specs.Called.{WasCalled, WasMade, calls_in, entry_of, is_of_replay, journal_of, told_then, told_through}
 
 -- what one call leaves
@@ -26,7 +26,7 @@ same_told call (Some told) same = ap (λ t. Some t) (sym (same told))
 alone : (e : Entry) → is_of_replay e ≡ true → filter is_of_replay (e ∷ []) ≡ e ∷ []
 alone e h = rw h refl
 
-one_entry : (journal more : List Entry) (entry : Entry) → is_of_replay entry ≡ true → more ≡ journal ++ entry ∷ [] → calls_in more ≡ calls_in journal ++ entry ∷ []
+pub one_entry : (journal more : List Entry) (entry : Entry) → is_of_replay entry ≡ true → more ≡ journal ++ entry ∷ [] → calls_in more ≡ calls_in journal ++ entry ∷ []
 one_entry journal more entry counts is = ap calls_in is ∙ filter-append is_of_replay journal (entry ∷ []) ∙ ap (λ l. calls_in journal ++ l) (alone entry counts)
 
 -- a call that leaves the tables
@@ -40,23 +40,19 @@ leaves_tables call old new same counts loaded told journal faults = record {
 }
 
 pub made_leaves : (call : Call) (old new : PortState) → WasMade call old new → Leaves call old new
-made_leaves (CalledUp false n packet (Finished y)) old new h = leaves_tables (CalledUp false n packet (Finished y)) old new (λ t. refl) refl h.kept.code h.kept.told h.journal h.faults
-made_leaves (CalledUp false n packet (SentUp frame)) old new h = leaves_tables (CalledUp false n packet (SentUp frame)) old new (λ t. refl) refl h.kept.code h.kept.told h.journal h.faults
 made_leaves (CalledUp false n packet GoingUp) old new h = absurd h.ends
-made_leaves (CalledUp true n packet (Finished y)) old new h = leaves_tables (CalledUp true n packet (Finished y)) old new (λ t. refl) refl h.1.kept.code h.1.kept.told h.1.journal h.1.faults
-made_leaves (CalledUp true n packet (SentUp frame)) old new h = leaves_tables (CalledUp true n packet (SentUp frame)) old new (λ t. refl) refl h.1.kept.code h.1.kept.told h.1.journal h.1.faults
+made_leaves (CalledUp false n packet answer) old new h = leaves_tables (CalledUp false n packet answer) old new
+    (λ t. refl) refl h.kept.code h.kept.told h.journal h.faults
 made_leaves (CalledUp true n packet GoingUp) old new h = leaves_tables (CalledUp true n packet GoingUp) old new (λ t. refl) refl h.1.kept.code h.1.kept.told h.1.journal h.1.faults
-made_leaves (CalledStageUp n (Finished y)) old new h = leaves_tables (CalledStageUp n (Finished y)) old new (λ t. refl) refl h.1.kept.code h.1.kept.told h.1.journal h.1.faults
-made_leaves (CalledStageUp n (SentUp frame)) old new h = leaves_tables (CalledStageUp n (SentUp frame)) old new (λ t. refl) refl h.1.kept.code h.1.kept.told h.1.journal h.1.faults
 made_leaves (CalledStageUp n GoingUp) old new h = leaves_tables (CalledStageUp n GoingUp) old new (λ t. refl) refl h.1.kept.code h.1.kept.told h.1.journal h.1.faults
 made_leaves (CalledCommand c) old new h =
     record { loaded = h.code; told = h.told; journal = one_entry old.journal new.journal (entry_of (CalledCommand c)) refl h.journal; faults = h.faults }
-made_leaves (CalledDown false n frame (Released y)) old new h = leaves_tables (CalledDown false n frame (Released y)) old new (λ t. refl) refl h.kept.code h.kept.told h.journal h.faults
 made_leaves (CalledDown false n frame GoingDown) old new h = absurd h.ends
-made_leaves (CalledDown true n frame (Released y)) old new h = leaves_tables (CalledDown true n frame (Released y)) old new (λ t. refl) refl h.1.kept.code h.1.kept.told h.1.journal h.1.faults
+made_leaves (CalledDown false n frame answer) old new h = leaves_tables (CalledDown false n frame answer) old new
+    (λ t. refl) refl h.kept.code h.kept.told h.journal h.faults
 made_leaves (CalledDown true n frame GoingDown) old new h = leaves_tables (CalledDown true n frame GoingDown) old new (λ t. refl) refl h.1.kept.code h.1.kept.told h.1.journal h.1.faults
-made_leaves (CalledStageDown n (Released y)) old new h = leaves_tables (CalledStageDown n (Released y)) old new (λ t. refl) refl h.1.kept.code h.1.kept.told h.1.journal h.1.faults
 made_leaves (CalledStageDown n GoingDown) old new h = leaves_tables (CalledStageDown n GoingDown) old new (λ t. refl) refl h.1.kept.code h.1.kept.told h.1.journal h.1.faults
+made_leaves call old new h = leaves_tables call old new (λ t. refl) refl h.1.kept.code h.1.kept.told h.1.journal h.1.faults
 
 -- what several leave, one after the other
 pub record LeaveAll (calls : List Call) (old new : PortState) : Type 0 where

@@ -9,15 +9,15 @@ use Rattle.std.proofs.lemmas.List.{append-nil, append_assoc, length-map}
 use Rattle.packet_fields.specs.declared.packet.Packet.{Packet}
 use Rattle.writeback_table.specs.declared.command.Command.{Command}
 use Rattle.run_model.specs.declared.event.Event.{Event}
-use Rattle.run_model.specs.declared.event.Event.TheVariants.{Admit, Stage, Serve, Send, Apply, Ack, Hold, Down}
+use Rattle.run_model.specs.declared.event.Event.TheVariants.{Stage, Apply, Down}
 use Rattle.switch_ir.specs.Code.{Code}
-use Rattle.switch_ir.specs.Port.{PortState, IsCommandOf}
+use Rattle.switch_ir.specs.Port.{PortState}
 use Rattle.switch_ir.specs.Tables.{Told, told_after}
 use Rattle.switch_ir.specs.declared.journal.Entry.TheVariants as entry
 use Rattle.replay_state.specs.Answers.{Answers, Setup}
 use Rattle.replay_state.specs.Commands.{applied_by, commands_at, one_or_none}
-use Rattle.replay_state.specs.Journal.{Call, CalledUp, CalledStageUp, CalledCommand, CalledDown, CalledStageDown}
-use Rattle.replay_state.specs.Journal.{Question, AsksUp, AsksStageUp, AsksCommand, AsksDown, AsksStageDown, asks, asked, asks_stage, asks_command, asks_down, question_of}
+use Rattle.replay_state.specs.Journal.{Call, CalledUp, CalledCommand, CalledDown}
+use Rattle.replay_state.specs.Journal.{Question, AsksCommand, asks, asked, asks_stage, asks_command, asks_down, question_of}
 use Rattle.replay_state.specs.Program.{SplitProgram}
 use Rattle.output_commit.specs.Batches.{commands_in}
 use Rattle.replay_state.specs.declared.pass.Pass.{Pass}
@@ -28,6 +28,7 @@ use Rattle.split_answers.specs.Over.{AreAnswersOver, IsAnswerOver, IsGiven}
 use Rattle.split_answers.specs.Through.{IsThrough}
 use Rattle.split_answers.specs.UnderWay.{KnowTheirOwn, SeeTheirOwn}
 use Rattle.replay_contracts.specs.Called.{HasCalls, WasCalled, WasMade, command_in, commands_among, entry_of, journal_of, told_through}
+use Rattle.split_answers.proofs.Laws.{a_told_command_goes_through}
 use Rattle.replay_contracts.proofs.Calls.{called_leave}
 use Rattle.replay_contracts.specs.Given.{Given, setup_for, whole, code_for}
 use Rattle.replay_contracts.specs.Replay.{IsReplay, IsTold, answered}
@@ -35,11 +36,8 @@ use Rattle.replay_contracts.specs.Replay.{IsReplay, IsTold, answered}
 -- ---- the commands among questions
 
 abbrev commands_of : Question → List Command
-commands_of (AsksUp fine n packet ends) = []
-commands_of (AsksStageUp n ends) = []
 commands_of (AsksCommand command) = command ∷ []
-commands_of (AsksDown fine n frame ends) = []
-commands_of (AsksStageDown n ends) = []
+commands_of question = []
 
 abbrev all_commands : List Question → List Command
 all_commands [] = []
@@ -47,10 +45,7 @@ all_commands (q ∷ qs) = commands_of q ++ all_commands qs
 
 call_commands : (call : Call) → commands_of (question_of call) ≡ command_in call
 call_commands (CalledUp fine n packet answer) = refl
-call_commands (CalledStageUp n answer) = refl
-call_commands (CalledCommand c) = refl
-call_commands (CalledDown fine n frame answer) = refl
-call_commands (CalledStageDown n answer) = refl
+call_commands call = refl
 
 calls_commands : (calls : List Call) → all_commands (map question_of calls) ≡ commands_among calls
 calls_commands [] = refl
@@ -70,47 +65,32 @@ module _ (setup : Setup) (s : SplitProgram) (packets : List Packet) (calls : Lis
   down_commands w (Some n) = refl
 
   asks_commands : (w : State) (e : Event) → all_commands (asks setup s packets calls w e) ≡ commands_at w e
-  asks_commands w Admit = refl
   asks_commands w (Stage j) = stage_commands (slice_get w.passes j)
-  asks_commands w (Serve j) = refl
-  asks_commands w Send = refl
   asks_commands w Apply = command_commands (slice_get (commands_in w.batches) w.done)
-  asks_commands w Ack = refl
-  asks_commands w (Hold j) = refl
   asks_commands w (Down j) = down_commands w (slice_get w.down j)
+  asks_commands w e = refl
 
   asked_commands : (w : State) (e : Event) → all_commands (asked setup s packets calls w e) ≡ applied_by setup w e
   asked_commands w e = elim (cases_Bool (applies setup w e)) [ inl t ↦ rw t (asks_commands w e) | inr t ↦ rw t refl ]
 
 -- ---- the tables that are told
 
-abbrev ThroughLaw : Type 0
-ThroughLaw = (code : Code) (commands : List Command) (command : Command) (told : Told)
-    → IsThrough code commands told → IsCommandOf code command → IsThrough code (commands ++ command ∷ []) (told_after command told)
-
-goes_through : ThroughLaw → (code : Code) (commands : List Command) (now : Told) (calls : List Call) → IsThrough code commands now → Each (IsGiven code) calls
+goes_through : (code : Code) (commands : List Command) (now : Told) (calls : List Call) → IsThrough code commands now → Each (IsGiven code) calls
     → IsThrough code (commands ++ commands_among calls) (told_through calls now)
-goes_through law code commands now [] h given = subst (λ cs. IsThrough code cs now) (sym (append-nil commands)) h
-goes_through law code commands now (CalledUp fine n packet answer ∷ calls) h given = goes_through law code commands now calls h given.1
-goes_through law code commands now (CalledStageUp n answer ∷ calls) h given = goes_through law code commands now calls h given.1
-goes_through law code commands now (CalledCommand c ∷ calls) h given =
+goes_through code commands now [] h given = subst (λ cs. IsThrough code cs now) (sym (append-nil commands)) h
+goes_through code commands now (CalledCommand c ∷ calls) h given =
     subst (λ cs. IsThrough code cs (told_through calls (told_after c now))) (append_assoc commands (c ∷ []) (commands_among calls))
-    (goes_through law code (commands ++ c ∷ []) (told_after c now) calls (law code commands c now h given.0) given.1)
-goes_through law code commands now (CalledDown fine n frame answer ∷ calls) h given = goes_through law code commands now calls h given.1
-goes_through law code commands now (CalledStageDown n answer ∷ calls) h given = goes_through law code commands now calls h given.1
+    (goes_through code (commands ++ c ∷ []) (told_after c now) calls (a_told_command_goes_through code commands c now h given.0) given.1)
+goes_through code commands now (call ∷ calls) h given = goes_through code commands now calls h given.1
 
 -- tables that are told after calls were told before them
 told_before : (calls : List Call) (o : Option Told) (tables : Told) → option_map (told_through calls) o ≡ Some tables → (before : Told) × (o ≡ Some before) × (told_through calls before ≡ tables)
 told_before calls None tables h = absurd (none-some tables h)
 told_before calls (Some before) tables h = (before, refl, same_Some _ _ h)
 
-pub each_append : {X : Type 0} (P : X → Type 0) (xs ys : List X) → Each P xs → Each P ys → Each P (xs ++ ys)
-each_append P [] ys h k = k
-each_append P (x ∷ xs) ys h k = (h.0, each_append P xs ys h.1 k)
-
 -- ---- the journal
 
-journal_append : (calls more : List Call) → journal_of (calls ++ more) ≡ journal_of calls ++ journal_of more
+pub journal_append : (calls more : List Call) → journal_of (calls ++ more) ≡ journal_of calls ++ journal_of more
 journal_append [] more = refl
 journal_append (call ∷ calls) more = ap (λ l. entry_of call ∷ l) (journal_append calls more)
 
@@ -129,11 +109,9 @@ all_given code (call ∷ calls) old new h = (h.1, all_given code calls h.0 new h
 made_answers : (code : Code) (call : Call) (told : Told) (old new : PortState) → old.code ≡ Some code → old.told ≡ Some told → WasMade call old new → IsAnswerOver code told call
 made_answers code (CalledUp false n packet answer) told old new loaded is h = h.told code told loaded is
 made_answers code (CalledUp true n packet answer) told old new loaded is h = h.1.told code told loaded is
-made_answers code (CalledStageUp n answer) told old new loaded is h = tt
-made_answers code (CalledCommand c) told old new loaded is h = tt
 made_answers code (CalledDown false n frame answer) told old new loaded is h = h.told code told loaded is
 made_answers code (CalledDown true n frame answer) told old new loaded is h = h.1.told code told loaded is
-made_answers code (CalledStageDown n answer) told old new loaded is h = tt
+made_answers code call told old new loaded is h = tt
 
 -- one call at most
 pub one_answers : (code : Code) (calls : List Call) (told : Told) (old new : PortState) → length calls ≤ 1 → old.code ≡ Some code → old.told ≡ Some told → WasCalled code calls old new → AreAnswersOver code told calls
@@ -156,14 +134,10 @@ module _ (setup : Setup) (s : SplitProgram) (packets : List Packet) (calls : Lis
   down_few w (Some n) = omega arith
 
   asks_few : (w : State) (e : Event) → length (asks setup s packets calls w e) ≤ 1
-  asks_few w Admit = omega arith
   asks_few w (Stage j) = stage_few (slice_get w.passes j)
-  asks_few w (Serve j) = omega arith
-  asks_few w Send = omega arith
   asks_few w Apply = command_few (slice_get (commands_in w.batches) w.done)
-  asks_few w Ack = omega arith
-  asks_few w (Hold j) = omega arith
   asks_few w (Down j) = down_few w (slice_get w.down j)
+  asks_few w e = omega arith
 
   asked_few : (w : State) (e : Event) → length (asked setup s packets calls w e) ≤ 1
   asked_few w e = elim (cases_Bool (applies setup w e)) [ inl t ↦ rw t (asks_few w e) | inr t ↦ rw t (omega arith) ]
@@ -189,23 +163,21 @@ module _ (x : Given) (events : List Event) (event : Event) (calls one : List Cal
   abbrev next : State
   next = step setup a st event
 
-  pub next_through : ThroughLaw
-      → applied_commands next ≡ applied_commands st ++ applied_by setup st event
+  next_through : applied_commands next ≡ applied_commands st ++ applied_by setup st event
       → (before : Told) → IsThrough (code_for x) (applied_commands st) before → IsThrough (code_for x) (applied_commands next) (told_through one before)
-  next_through law order before through =
+  next_through order before through =
       let asked_is = ap all_commands asks_so ∙ asked_commands setup (whole x) x.packets (calls ++ one) st event in
       let same : commands_among one ≡ applied_by setup st event = sym (calls_commands one) ∙ asked_is in
       subst (λ cs. IsThrough (code_for x) cs (told_through one before)) (ap (λ cs. applied_commands st ++ cs) same ∙ sym order)
-      (goes_through law (code_for x) (applied_commands st) before one through (all_given (code_for x) one old new called))
+      (goes_through (code_for x) (applied_commands st) before one through (all_given (code_for x) one old new called))
 
-  pub next_told : ThroughLaw
-      → applied_commands next ≡ applied_commands st ++ applied_by setup st event
+  pub next_told : applied_commands next ≡ applied_commands st ++ applied_by setup st event
       → ((before : Told) → old.told ≡ Some before → IsTold x events calls st before old.passes → Each (IsGiven (code_for x)) one → AreAnswersOver (code_for x) before one
       → IsTied setup (whole x) x.packets (calls ++ one) (events ++ event ∷ []) next
       × KnowTheirOwn x.program x.split x.writeback x.packets (calls ++ one) next new.passes)
       → ((tables : Told) → IsThrough (code_for x) (applied_commands next) tables → IsTied setup (whole x) x.packets (calls ++ one) (events ++ event ∷ []) next → SeeTheirOwn x.program x.split next tables)
       → (tables : Told) → new.told ≡ Some tables → IsTold x (events ++ event ∷ []) (calls ++ one) next tables new.passes
-  next_told law order tie see tables is =
+  next_told order tie see tables is =
       let leave = called_leave (code_for x) one old new called in
       let was = told_before one old.told tables (sym leave.told ∙ is) in
       let before = was.0 in
@@ -213,7 +185,7 @@ module _ (x : Given) (events : List Event) (event : Event) (calls one : List Cal
       let given = all_given (code_for x) one old new called in
       let few = few_calls setup (whole x) x.packets (calls ++ one) one st event asks_so in
       let both = tie before was.1 told given (one_answers (code_for x) one before old new few h.called.loaded was.1 called) in
-      let through = subst (IsThrough (code_for x) (applied_commands next)) was.2 (next_through law order before told.through) in
+      let through = subst (IsThrough (code_for x) (applied_commands next)) was.2 (next_through order before told.through) in
       record {
         tied = both.0;
         through = through;

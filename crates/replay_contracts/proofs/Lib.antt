@@ -1,12 +1,13 @@
-mod Going
+pub mod Going
 mod Picking
 mod Reporting
 mod Determined
 mod Formed
-mod Calls
-mod Asked
+pub mod Calls
+pub mod Asked
 mod OnSwitch
 mod Passing
 mod PassingOn
 mod Turns
-mod KnowingOn
+pub mod KnowingOn
+pub mod Laws

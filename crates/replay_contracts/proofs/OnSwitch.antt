@@ -2,42 +2,19 @@
 use Rattle.std.proofs.Common.{◌≡◌, ℕ, zero, suc, ◌<◌, ◌≤◌, Bool, true, false, List, [], ◌∷◌, ◌++◌, ◌⊎◌, Some, None, inl, inr, length, set, refl, sym, ap, ◌∙◌, subst, arith}
 use Rattle.std.specs.Prelude.{slice_get, remove}
 use Rattle.std.proofs.lemmas.Bool.{cases_eq, cases_lt}
-use Rattle.std.proofs.lemmas.Option.{same_Some, none-some}
+use Rattle.std.proofs.lemmas.Option.{same_Some, none-some, slice_get_within}
 use Rattle.packet_fields.specs.declared.packet.Packet.{Packet}
 use Rattle.switch_ir.specs.UnderWay.{PassState, UnderWay, none_under_way}
 use Rattle.replay_state.specs.Answers.{Setup}
 use Rattle.replay_state.specs.declared.pass.Pass.{Pass}
 use Rattle.replay_state.specs.State.{State}
 use Rattle.split_answers.specs.UnderWay.{AreOnSwitch, IsOnSwitch, passes_of}
+use Rattle.lemmas.proofs.Lists.{get_before_pushed, get_front, get_pushed, get_set_other, get_set_same}
 
 -- ## Lists
 
-pub get_set_same : {X : Type 0} (xs : List X) (k : ℕ) (x y : X) → slice_get xs k ≡ Some x → slice_get (set xs k y) k ≡ Some y
-get_set_same [] k x y h = cc
-get_set_same (z ∷ xs) zero x y h = refl
-get_set_same (z ∷ xs) (suc k) x y h = get_set_same xs k x y h
-
-pub get_set_other : {X : Type 0} (xs : List X) (k n : ℕ) (y : X) → (n ≡ k → ⊥) → slice_get (set xs k y) n ≡ slice_get xs n
-get_set_other [] k n y h = refl
-get_set_other (z ∷ xs) zero zero y h = absurd (h refl)
-get_set_other (z ∷ xs) zero (suc n) y h = refl
-get_set_other (z ∷ xs) (suc k) zero y h = refl
-get_set_other (z ∷ xs) (suc k) (suc n) y h = get_set_other xs k n y (λ e. h (ap suc e))
-
-get_push_same : {X : Type 0} (xs : List X) (y : X) → slice_get (xs ++ y ∷ []) (length xs) ≡ Some y
-get_push_same [] y = refl
-get_push_same (z ∷ xs) y = get_push_same xs y
-
 pub get_push_old : {X : Type 0} (xs : List X) (y x : X) (n : ℕ) → slice_get xs n ≡ Some x → slice_get (xs ++ y ∷ []) n ≡ Some x
-get_push_old [] y x n h = cc
-get_push_old (z ∷ xs) y x zero h = h
-get_push_old (z ∷ xs) y x (suc n) h = get_push_old xs y x n h
-
-pub push_cases : {X : Type 0} (xs : List X) (y z : X) (n : ℕ) → slice_get (xs ++ y ∷ []) n ≡ Some z → (y ≡ z) ⊎ (slice_get xs n ≡ Some z)
-push_cases [] y z zero h = inl (same_Some _ _ h)
-push_cases [] y z (suc n) h = cc
-push_cases (x ∷ xs) y z zero h = inr h
-push_cases (x ∷ xs) y z (suc n) h = push_cases xs y z n h
+get_push_old xs y x n h = get_front xs (y ∷ []) n (slice_get_within xs n x h) ∙ h
 
 get_removed_low : {X : Type 0} (xs : List X) (j i : ℕ) → i < j → slice_get (remove xs j) i ≡ slice_get xs i
 get_removed_low [] zero i h = refl
@@ -79,6 +56,13 @@ same_bool true false = inr (λ e. cc)
 same_bool false true = inr (λ e. cc)
 same_bool false false = inl refl
 
+-- it is the pass of this kind over this packet, or another one
+own_or_other : (kind pre : Bool) (number n : ℕ) (Goal : Type 0) → (pre ≡ kind → n ≡ number → Goal) → ((pre ≡ kind → n ≡ number → ⊥) → Goal) → Goal
+own_or_other kind pre number n Goal own other = elim (same_bool pre kind) [
+  | inl k ↦ elim (cases_eq n number) [ inl m ↦ own k m | inr d ↦ other (λ g f. d f) ]
+  | inr d ↦ other (λ g f. d g)
+]
+
 -- ## Passes
 
 -- no two are of one kind and over one packet
@@ -114,10 +98,8 @@ module _ (setup : Setup) (packets : List Packet) where
 
   -- a call after which its pass is as before leaves all
   pub all_same : (pre : Bool) (n : ℕ) (u w : UnderWay) → Others pre n u w → passes_of pre w n ≡ passes_of pre u n → (k : Bool) (m : ℕ) → passes_of k w m ≡ passes_of k u m
-  all_same pre n u w others own k m = elim (same_bool k pre) [
-    | inl e ↦ elim (cases_eq m n) [ inl f ↦ rw (e, f) own | inr d ↦ others k m (λ g f. d f) ]
-    | inr d ↦ others k m (λ g f. d g)
-  ]
+  all_same pre n u w others own k m =
+      own_or_other pre k n m (passes_of k w m ≡ passes_of k u m) (λ e f. rw (e, f) own) (others k m)
 
   pub at_own : (u : UnderWay) (p q : Pass) → q.pre ≡ p.pre → q.number ≡ p.number → passes_of q.pre u q.number ≡ passes_of p.pre u p.number
   at_own u p q k m = ap (λ b. passes_of b u q.number) k ∙ ap (λ n. passes_of p.pre u n) m
@@ -125,24 +107,25 @@ module _ (setup : Setup) (packets : List Packet) where
   -- a pass enters
   pub entered_on : (xs : List Pass) (p : Pass) (u w : UnderWay) → Others p.pre p.number u w → passes_of p.pre u p.number ≡ None → IsOnSwitch setup packets w p → OnList xs u → OnList (xs ++ p ∷ []) w
   entered_on xs p u w others none own on = record {
-    each = λ j q e. elim (push_cases xs p q j e) [
-      | inl new ↦ subst (IsOnSwitch setup packets w) new own
+    each = λ j q e. elim (get_before_pushed xs p q j e) [
+      | inl new ↦ subst (IsOnSwitch setup packets w) new.1 own
       | inr old ↦ let h = on.each j q old in
           still_there u w q (others q.pre q.number (λ k m. none-some h.own (sym (at_own u p q k m ∙ none) ∙ h.there))) h
     ];
-    only = λ pre n found e. elim (same_bool pre p.pre) [
-      | inl k ↦ elim (cases_eq n p.number) [
-        | inl m ↦ (length xs, p, get_push_same xs p, sym k, sym m)
-        | inr d ↦ old_one pre n found (λ g f. d f) e
-      ]
-      | inr d ↦ old_one pre n found (λ g f. d g) e
-    ];
+    only = λ pre n found e. own_or_other p.pre pre p.number n _ (λ k m. (length xs, p, get_pushed xs p, sym k, sym m))
+        (λ other. let r = on.only pre n found (sym (others pre n other) ∙ e) in (r.0, r.1, get_push_old xs p r.1 r.0 r.2, r.3, r.4));
   }
-    where
-      old_one : (pre : Bool) (n : ℕ) (found : PassState) → (pre ≡ p.pre → n ≡ p.number → ⊥) → passes_of pre w n ≡ Some found
-          → (j : ℕ) × (q : Pass) × (slice_get (xs ++ p ∷ []) j ≡ Some q) × (q.pre ≡ pre) × (q.number ≡ n)
-      old_one pre n found other e =
-          let r = on.only pre n found (sym (others pre n other) ∙ e) in (r.0, r.1, get_push_old xs p r.1 r.0 r.2, r.3, r.4)
+
+  -- a pass but that at place j stands elsewhere
+  elsewhere : (xs : List Pass) (j : ℕ) (p : Pass) (u w : UnderWay) → slice_get xs j ≡ Some p → Others p.pre p.number u w → OnList xs u
+      → (pre : Bool) (n : ℕ) (found : PassState) → (pre ≡ p.pre → n ≡ p.number → ⊥) → passes_of pre w n ≡ Some found
+      → (i : ℕ) × (r : Pass) × (slice_get xs i ≡ Some r) × (r.pre ≡ pre) × (r.number ≡ n) × (i ≡ j → ⊥)
+  elsewhere xs j p u w here others on pre n found other e =
+      let r = on.only pre n found (sym (others pre n other) ∙ e) in
+      let apart : r.0 ≡ j → ⊥ = λ same.
+      let is : r.1 ≡ p = same_Some _ _ (sym r.2 ∙ ap (λ k. slice_get xs k) same ∙ here) in
+      other (sym r.3 ∙ ap (λ (z : Pass). z.pre) is) (sym r.4 ∙ ap (λ (z : Pass). z.number) is) in
+      (r.0, r.1, r.2, r.3, r.4, apart)
 
   -- the pass at place j goes on
   pub moved_on : (xs : List Pass) (j : ℕ) (p q : Pass) (u w : UnderWay) → slice_get xs j ≡ Some p → q.pre ≡ p.pre → q.number ≡ p.number → Others p.pre p.number u w → Once xs → IsOnSwitch setup packets w q
@@ -153,23 +136,11 @@ module _ (setup : Setup) (packets : List Packet) where
       | inr d ↦ let old = sym (get_set_other xs j i q d) ∙ e in
           still_there u w r (others r.pre r.number (λ k m. d (once i j r p old here k m))) (on.each i r old)
     ];
-    only = λ pre n found e. elim (same_bool pre p.pre) [
-      | inl k ↦ elim (cases_eq n p.number) [
-        | inl m ↦ (j, q, get_set_same xs j p q here, kind ∙ sym k, number ∙ sym m)
-        | inr d ↦ old_one pre n found (λ g f. d f) e
-      ]
-      | inr d ↦ old_one pre n found (λ g f. d g) e
-    ];
+    only = λ pre n found e. own_or_other p.pre pre p.number n _ (λ k m. (j, q, get_set_same xs j p q here, kind ∙ sym k, number ∙ sym m))
+        (λ other.
+        let r = elsewhere xs j p u w here others on pre n found other e in
+        (r.0, r.1, get_set_other xs j r.0 q r.5 ∙ r.2, r.3, r.4));
   }
-    where
-      old_one : (pre : Bool) (n : ℕ) (found : PassState) → (pre ≡ p.pre → n ≡ p.number → ⊥) → passes_of pre w n ≡ Some found
-          → (i : ℕ) × (r : Pass) × (slice_get (set xs j q) i ≡ Some r) × (r.pre ≡ pre) × (r.number ≡ n)
-      old_one pre n found other e =
-          let r = on.only pre n found (sym (others pre n other) ∙ e) in
-          let apart : r.0 ≡ j → ⊥ = λ same.
-          let is : r.1 ≡ p = same_Some _ _ (sym r.2 ∙ ap (λ k. slice_get xs k) same ∙ here) in
-          other (sym r.3 ∙ ap (λ (z : Pass). z.pre) is) (sym r.4 ∙ ap (λ (z : Pass). z.number) is) in
-          (r.0, r.1, get_set_other xs j r.0 q apart ∙ r.2, r.3, r.4)
 
   -- the pass at place j has ended
   pub ended_on : (xs : List Pass) (j : ℕ) (p : Pass) (u w : UnderWay) → slice_get xs j ≡ Some p → Others p.pre p.number u w → passes_of p.pre w p.number ≡ None → Once xs → OnList xs u → OnList (remove xs j) w
@@ -177,24 +148,13 @@ module _ (setup : Setup) (packets : List Packet) where
     each = λ i r e.
         let was = was_elsewhere xs j i r e in
         still_there u w r (others r.pre r.number (λ k m. was.2 (once was.0 j r p was.1 here k m))) (on.each was.0 r was.1);
-    only = λ pre n found e. elim (same_bool pre p.pre) [
-      | inl k ↦ elim (cases_eq n p.number) [
-        | inl m ↦ absurd (none-some found (sym none ∙ sym (ap (λ b. passes_of b w n) k ∙ ap (λ a. passes_of p.pre w a) m) ∙ e))
-        | inr d ↦ old_one pre n found (λ g f. d f) e
-      ]
-      | inr d ↦ old_one pre n found (λ g f. d g) e
-    ];
+    only = λ pre n found e. own_or_other p.pre pre p.number n _
+        (λ k m. absurd (none-some found (sym none ∙ sym (ap (λ b. passes_of b w n) k ∙ ap (λ a. passes_of p.pre w a) m) ∙ e)))
+        (λ other.
+        let r = elsewhere xs j p u w here others on pre n found other e in
+        let left = is_left xs j r.0 r.1 r.2 r.5 in
+        (left.0, r.1, left.1, r.3, r.4));
   }
-    where
-      old_one : (pre : Bool) (n : ℕ) (found : PassState) → (pre ≡ p.pre → n ≡ p.number → ⊥) → passes_of pre w n ≡ Some found
-          → (i : ℕ) × (r : Pass) × (slice_get (remove xs j) i ≡ Some r) × (r.pre ≡ pre) × (r.number ≡ n)
-      old_one pre n found other e =
-          let r = on.only pre n found (sym (others pre n other) ∙ e) in
-          let apart : r.0 ≡ j → ⊥ = λ same.
-          let is : r.1 ≡ p = same_Some _ _ (sym r.2 ∙ ap (λ k. slice_get xs k) same ∙ here) in
-          other (sym r.3 ∙ ap (λ (z : Pass). z.pre) is) (sym r.4 ∙ ap (λ (z : Pass). z.number) is) in
-          let left = is_left xs j r.0 r.1 r.2 apart in
-          (left.0, r.1, left.1, r.3, r.4)
 
   -- none are under way
   no_pass : (pre : Bool) (n : ℕ) (own : PassState) → passes_of pre none_under_way n ≡ Some own → ⊥
@@ -202,7 +162,4 @@ module _ (setup : Setup) (packets : List Packet) where
   no_pass false n own e = cc
 
   pub none_on : OnList [] none_under_way
-  none_on = record { each = λ j p e. absurd (no_place j p e); only = λ pre n own e. absurd (no_pass pre n own e) }
-    where
-      no_place : (j : ℕ) (p : Pass) → slice_get [] j ≡ Some p → ⊥
-      no_place j p e = cc
+  none_on = record { each = λ j p e. cc; only = λ pre n own e. absurd (no_pass pre n own e) }

@@ -20,7 +20,7 @@ use Rattle.writeback_table.specs.declared.command.Update.{Update}
 use Rattle.output_commit.specs.Batches.{commands_in}
 use Rattle.replay_state.specs.Answers.{Answers, Setup}
 use Rattle.replay_state.specs.Journal.{Call, CalledUp, CalledDown}
-use Rattle.replay_state.specs.Journal.{UpAnswer, Finished, SentUp, GoingUp, DownAnswer, Released, GoingDown, is_up_end, is_down_end}
+use Rattle.replay_state.specs.Journal.{UpAnswer, GoingUp, DownAnswer, Released, GoingDown, is_up_end, is_down_end}
 use Rattle.replay_state.specs.Journal.{asks, asked, asks_stage, asks_command, asks_down, down_frame, question_of}
 use Rattle.replay_state.specs.Places.{HavePlaces}
 use Rattle.replay_state.specs.Program.{SplitProgram, packet_at}
@@ -31,9 +31,11 @@ use Rattle.split_answers.specs.Through.{down_end_of, end_of}
 use Rattle.split_answers.specs.UnderWay.{highest_of, passes_of, staging}
 use Rattle.replay_contracts.specs.Called.{KeepsCalls, WasCalled, WasMade}
 use Rattle.replay_contracts.proofs.Asked.{asked_up, asked_stage_up, asked_down, asked_stage_down, asked_command, none_asked}
-use Rattle.replay_contracts.proofs.Formed.{Parts}
-use Rattle.replay_contracts.proofs.OnSwitch.{OnList, Others, all_same, get_push_old, get_set_other}
+use Rattle.replay_state.proofs.AtOnce.{ended_passes, go_passes, served_passes}
+use Rattle.transfer_header.proofs.Laws.{frames_are_told_by_place-parts}
+use Rattle.replay_contracts.proofs.OnSwitch.{OnList, Others, all_same, get_push_old}
 use Rattle.replay_contracts.proofs.Turns.{Around, Enters, Turn, Stay, Come, Move, End, less}
+use Rattle.lemmas.proofs.Lists.{get_set_other, get_within}
 
 -- ## What the calls leave
 
@@ -53,17 +55,15 @@ record Left (pre : Bool) (n : ℕ) (u w : UnderWay) (ends : Bool) (IsNew : PassS
 
 begun_up : (code : Code) (n : ℕ) (packet : Packet) (answer : UpAnswer) (old new : PortState) → old.code ≡ Some code → BeginsUp (end_of answer) n packet.port packet.bytes old new
     → Left true n old.passes new.passes (is_up_end answer) (HasEntered (pre_staging code) IsNothing packet old.told)
-begun_up code n packet (Finished y) old new loaded h = record { others = others_up n old.passes new.passes h.post h.others; gone = λ g. h.pass code loaded; new = λ g. absurd (true≢false g) }
-begun_up code n packet (SentUp frame) old new loaded h = record { others = others_up n old.passes new.passes h.post h.others; gone = λ g. h.pass code loaded; new = λ g. absurd (true≢false g) }
 begun_up code n packet GoingUp old new loaded h =
     record { others = others_up n old.passes new.passes h.post h.others; gone = λ g. absurd (false≢true g); new = λ g. h.pass code loaded }
+begun_up code n packet answer old new loaded h = record { others = others_up n old.passes new.passes h.post h.others; gone = λ g. h.pass code loaded; new = λ g. absurd (true≢false g) }
 
 gone_up : (code : Code) (n : ℕ) (answer : UpAnswer) (own : PassState) (old new : PortState) → old.code ≡ Some code → old.passes.pre n ≡ Some own → StagesUp (end_of answer) n old new
     → Left true n old.passes new.passes (is_up_end answer) (HasGoneOn (pre_staging code) old.told own)
-gone_up code n (Finished y) own old new loaded there h = record { others = others_up n old.passes new.passes h.post h.others; gone = λ g. h.pass code own loaded there; new = λ g. absurd (true≢false g) }
-gone_up code n (SentUp frame) own old new loaded there h = record { others = others_up n old.passes new.passes h.post h.others; gone = λ g. h.pass code own loaded there; new = λ g. absurd (true≢false g) }
 gone_up code n GoingUp own old new loaded there h =
     record { others = others_up n old.passes new.passes h.post h.others; gone = λ g. absurd (false≢true g); new = λ g. h.pass code own loaded there }
+gone_up code n answer own old new loaded there h = record { others = others_up n old.passes new.passes h.post h.others; gone = λ g. h.pass code own loaded there; new = λ g. absurd (true≢false g) }
 
 gone_down : (code : Code) (n : ℕ) (answer : DownAnswer) (own : PassState) (old new : PortState) → old.code ≡ Some code → old.passes.post n ≡ Some own → StagesDown (down_end_of answer) n old new
     → Left false n old.passes new.passes (is_down_end answer) (HasGoneOn (post_staging code) old.told own)
@@ -75,14 +75,15 @@ gone_down code n GoingDown own old new loaded there h =
 abbrev HasBegunDown : Code → Option Told → List ℕ → PassState → Type 0
 HasBegunDown code tables frame own = OfItsParts code frame (λ number packet values. HasEntered (post_staging code) (IsHandedDown code values packet) packet tables own)
 
-begun_down : (parts : Parts) (code : Code) (frame : List ℕ) (framed : IsFrame 2 code.down frame) (answer : DownAnswer) (old new : PortState) → old.code ≡ Some code → BeginsDown (down_end_of answer) frame old new
+begun_down : (code : Code) (frame : List ℕ) (framed : IsFrame 2 code.down frame) (answer : DownAnswer) (old new : PortState) → old.code ≡ Some code
+    → BeginsDown (down_end_of answer) frame old new
     → Left false framed.number old.passes new.passes (is_down_end answer) (HasBegunDown code old.told frame)
-begun_down parts code frame framed (Released y) old new loaded h = record {
+begun_down code frame framed (Released y) old new loaded h = record {
   others = others_down framed.number old.passes new.passes h.pre (h.others code loaded framed.number framed.port framed.values framed.packet framed.is);
   gone = λ g. h.pass code loaded framed.number framed.port framed.values framed.packet framed.is;
   new = λ g. absurd (true≢false g);
 }
-begun_down parts code frame framed GoingDown old new loaded h =
+begun_down code frame framed GoingDown old new loaded h =
     let begun = h.pass code loaded framed.number framed.port framed.values framed.packet framed.is in
     record {
       others = others_down framed.number old.passes new.passes h.pre (h.others code loaded framed.number framed.port framed.values framed.packet framed.is);
@@ -92,7 +93,7 @@ begun_down parts code frame framed GoingDown old new loaded h =
         begun.1,
         λ number port values packet is.
             let other = h.pass code loaded number port values packet is in
-            let one_number : framed.number ≡ number = sym (parts 2 code.down framed.number framed.port framed.values framed.packet frame framed.is).numbered ∙ (parts 2 code.down number port values packet frame is).numbered in
+            let one_number : framed.number ≡ number = sym (frames_are_told_by_place-parts 2 code.down framed.number framed.port framed.values framed.packet frame framed.is).numbered ∙ (frames_are_told_by_place-parts 2 code.down number port values packet frame is).numbered in
             let same : other.0 ≡ begun.0 = same_Some _ _ (sym other.1 ∙ ap new.passes.post (sym one_number) ∙ begun.1) in
             subst (HasEntered (post_staging code) (IsHandedDown code values (record { port = port; bytes = packet })) (record { port = port; bytes = packet }) old.told) same other.2,
       );
@@ -100,18 +101,16 @@ begun_down parts code frame framed GoingDown old new loaded h =
 
 -- ## What the state's passes, stores and progress are
 
-passes_came_in : (w : State) (n : ℕ) (o : Option Verdict) → (came_in w n o).passes ≡ w.passes
-passes_came_in w n None = refl
-passes_came_in w n (Some y) = refl
+passes_entered : (setup : Setup) (a : Answers) (w : State) (p : Pass) → (entered a w p).passes ≡ (if p.left == 0 then w.passes else w.passes ++ p ∷ [])
+passes_entered setup a w p = elim (cases_Bool (eqb p.left 0)) [ inl t ↦ rw t (ended_passes setup a w p) | inr t ↦ rw t refl ]
 
-passes_ended : (a : Answers) (w : State) (p : Pass) → (ended a w p).passes ≡ w.passes
-passes_ended a w p = elim (cases_Bool p.pre) [ inl t ↦ rw t (passes_came_in w p.number _) | inr t ↦ rw t refl ]
-
-passes_entered : (a : Answers) (w : State) (p : Pass) → (entered a w p).passes ≡ (if p.left == 0 then w.passes else w.passes ++ p ∷ [])
-passes_entered a w p = elim (cases_Bool (eqb p.left 0)) [ inl t ↦ rw t (passes_ended a w p) | inr t ↦ rw t refl ]
-
-passes_staged : (a : Answers) (w : State) (j : ℕ) (p : Pass) → (staged a w j (Some p)).passes ≡ (if nat_le p.left 1 then remove w.passes j else set w.passes j (less p))
-passes_staged a w j p = elim (cases_Bool (leb p.left 1)) [ inl t ↦ rw t (passes_ended a (record w { passes = remove w.passes j }) p) | inr t ↦ rw t refl ]
+passes_staged : (setup : Setup) (a : Answers) (w : State) (j : ℕ) (p : Pass)
+    → (staged a w j (Some p)).passes ≡ (if nat_le p.left 1 then remove w.passes j else set w.passes j (less p))
+passes_staged setup a w j p = elim (cases_Bool (leb p.left 1)) [
+  | inl t ↦ rw t
+      (ended_passes setup a (record w { passes = remove w.passes j }) p)
+  | inr t ↦ rw t refl
+]
 
 -- two states have the same stores, and packets for which a test holds have come as far in both
 record Same (w v : State) (P : ℕ → Type 0) : Type 0 where
@@ -142,11 +141,6 @@ same_staged a w j p = elim (cases_Bool (leb p.left 1)) [
   | inl t ↦ let s = same_ended a (record w { passes = remove w.passes j }) p in rw t (record { stores = s.stores; progress = λ m d. s.progress m (d refl) })
   | inr t ↦ rw t (record { stores = refl; progress = λ m d. refl })
 ]
-
-there_at : {X : Type 0} (xs : List X) (j : ℕ) → j < length xs → (x : X) × (slice_get xs j ≡ Some x)
-there_at [] j h = absurd (omega arith)
-there_at (x ∷ xs) zero h = (x, refl)
-there_at (x ∷ xs) (suc j) h = there_at xs j (omega arith)
 
 -- ## One effect
 
@@ -181,14 +175,8 @@ module _ (g : Around) where
 
 -- the places of passes that an event leaves alone
 abbrev pub Free : Event → ℕ → Type 0
-Free Admit i = ⊤
 Free (Stage j) i = i ≡ j → ⊥
-Free (Serve j) i = ⊤
-Free Send i = ⊤
-Free Apply i = ⊤
-Free Ack i = ⊤
-Free (Hold j) i = ⊤
-Free (Down j) i = ⊤
+Free event i = ⊤
 
 -- what stands around an event of a replay, and what it does to the passes under way
 abbrev pub around : Setup → SplitProgram → List Packet → List Call → Code → State → PortState → Around
@@ -198,7 +186,7 @@ around setup s packets calls code st old =
 abbrev pub Turns : Around → State → PortState → PortState → Event → State → Type 0
 Turns g st old new event next = Turn g (Free event) (Kept st next) st.passes next.passes old.passes new.passes
 
-module _ (setup : Setup) (s : SplitProgram) (packets : List Packet) (calls one : List Call) (a : Answers) (code : Code) (parts : Parts) (st : State) (old new : PortState)
+module _ (setup : Setup) (s : SplitProgram) (packets : List Packet) (calls one : List Call) (a : Answers) (code : Code) (st : State) (old new : PortState)
     (plain : setup.fine ≡ false → (setup.pre_stages ≡ 0) × (setup.post_stages ≡ 0))
     (loaded : old.code ≡ Some code) (places : HavePlaces st) (on : OnList setup packets st.passes old.passes) (called : WasCalled code one old new) where
   abbrev w : State
@@ -239,7 +227,7 @@ module _ (setup : Setup) (s : SplitProgram) (packets : List Packet) (calls one :
       let xs = if setup.pre_stages == 0 then st.passes else st.passes ++ p ∷ [] in
       let Q : Pass → Type 0 = Kept st next in
       let q : Q p = (same.stores, λ behind. absurd (true≢false behind)) in
-      subst (λ l. Turn g (Free Admit) Q st.passes l old.passes new.passes) (sym (passes_entered a (came w) p))
+      subst (λ l. Turn g (Free Admit) Q st.passes l old.passes new.passes) (sym (passes_entered setup a (came w) p))
       (kept_so (Free Admit) Q mid xs made.3 (elim (cases_Bool setup.fine) [
         | inl t ↦ let begun = subst (λ b. WasMade (CalledUp b n packet u.answer) old mid) t made.2 in
             let IsNew : PassState → Type 0 = HasEntered (pre_staging code) IsNothing packet old.told in
@@ -263,7 +251,7 @@ module _ (setup : Setup) (s : SplitProgram) (packets : List Packet) (calls one :
         ap (λ (v : State). v.stores) is_next ∙ same.stores,
         λ behind. ap (λ (v : State). slice_get v.progress p.number) is_next ∙ same.progress p.number (λ t d. true≢false (sym t ∙ more)),
       ) in
-      subst (λ l. Turn g (Free (Stage j)) Q st.passes l old.passes new.passes) (sym (ap (λ (v : State). v.passes) is_next ∙ passes_staged a w j p))
+      subst (λ l. Turn g (Free (Stage j)) Q st.passes l old.passes new.passes) (sym (ap (λ (v : State). v.passes) is_next ∙ passes_staged setup a w j p))
       (elim (cases_Bool p.pre) [
         | inl t ↦ let call = asked_stage_up one p.number (leb p.left 1) (rw t at asked_so) in
             let made = subst (λ cs. WasCalled code cs old new) call.is called in
@@ -288,7 +276,7 @@ module _ (setup : Setup) (s : SplitProgram) (packets : List Packet) (calls one :
       let mid = made.0 in
       let framed = made.1.0 in
       let xs = if setup.post_stages == 0 then st.passes else st.passes ++ p ∷ [] in
-      let number : framed.number ≡ n = sym (parts 2 code.down framed.number framed.port framed.values framed.packet frame framed.is).numbered ∙ made.1.1 in
+      let number : framed.number ≡ n = sym (frames_are_told_by_place-parts 2 code.down framed.number framed.port framed.values framed.packet frame framed.is).numbered ∙ made.1.1 in
       let next = happens setup a w (Down j) in
       let is_next : next ≡ entered a (record w { down = remove w.down j }) p = ap (λ o. came_down setup a w j o) here in
       let same = same_entered a (record w { down = remove w.down j }) p in
@@ -297,13 +285,15 @@ module _ (setup : Setup) (s : SplitProgram) (packets : List Packet) (calls one :
         ap (λ (v : State). v.stores) is_next ∙ same.stores,
         λ behind. ap (λ (v : State). slice_get v.progress n) is_next ∙ same.progress n (λ t d. true≢false (sym t ∙ more)),
       ) in
-      subst (λ l. Turn g (Free (Down j)) Q st.passes l old.passes new.passes) (sym (ap (λ (v : State). v.passes) is_next ∙ passes_entered a (record w { down = remove w.down j }) p))
+      subst (λ l. Turn g (Free (Down j)) Q st.passes l old.passes new.passes)
+      (sym (ap (λ (v : State). v.passes) is_next ∙ passes_entered setup a (record w { down = remove w.down j }) p))
       (kept_so (Free (Down j)) Q mid xs made.3 (elim (cases_Bool setup.fine) [
         | inl t ↦ let begun = subst (λ b. WasMade (CalledDown b n frame call.answer) old mid) t made.2 in
             let none_of_frame = subst (λ o. IfSome o (λ c. OfItsParts c frame (λ m packet values. old.passes.post m ≡ None))) loaded begun.0 in
             let none : old.passes.post n ≡ None = subst (λ m. old.passes.post m ≡ None) number (none_of_frame framed.number framed.port framed.values framed.packet framed.is) in
             let IsNew : PassState → Type 0 = HasBegunDown code old.told frame in
-            let by_frame = subst (λ b. Left false framed.number old.passes mid.passes b IsNew) call.ended (begun_down parts code frame framed call.answer old mid loaded begun.1) in
+            let by_frame = subst (λ b. Left false framed.number old.passes mid.passes b IsNew) call.ended
+            (begun_down code frame framed call.answer old mid loaded begun.1) in
             let left = subst (λ m. Left false m old.passes mid.passes (eqb setup.post_stages 0) IsNew) number by_frame in
             enters g (Free (Down j)) Q st.passes p old.passes mid.passes IsNew (λ i r at. tt) left none refl refl refl q
             (λ own some is. record { full = refl; some = some; up = λ z. absurd (false≢true z); down = λ z. (framed, is) })
@@ -320,41 +310,23 @@ module _ (setup : Setup) (s : SplitProgram) (packets : List Packet) (calls one :
           let made = subst (λ cs. WasCalled code cs old new) (asked_command one c e) called in
           kept_so (Free Apply) (Kept st (happens setup a w Apply)) made.0 st.passes made.3 (left_all (Free Apply) (Kept st (happens setup a w Apply)) made.0 (λ i r at. tt) made.2.passes)
 
-  passes_served : (j : ℕ) (o : Option ℕ) → (served a w j o).passes ≡ st.passes
-  passes_served j None = refl
-  passes_served j (Some n) = by_changes (a.changes st.store n)
-    where
-      by_changes : (us : List Update) → (ran a w (with_changes (a.after st.store n) us w) j n).passes ≡ st.passes
-      by_changes [] = refl
-      by_changes (u ∷ us) = refl
-
-  passes_let_go : (j : ℕ) (o : Option (ℕ × ℕ)) → (let_go w j o).passes ≡ st.passes
-  passes_let_go j None = refl
-  passes_let_go j (Some (n, need)) = refl
-
   alone : (event : Event) (next : State) → ((i : ℕ) (r : Pass) → slice_get st.passes i ≡ Some r → Free event i) → next.passes ≡ st.passes → one ≡ [] → Does event next
   alone event next all same e = subst (λ l. Turn g (Free event) (Kept st next) st.passes l old.passes new.passes) (sym same) (no_call (Free event) (Kept st next) all e)
 
   turn_happens : (event : Event) → applies setup st event ≡ true → map question_of one ≡ asks setup s packets calls st event → Does event (happens setup a w event)
   turn_happens Admit t e = turn_admit e
-  turn_happens (Stage j) t e = let p = there_at st.passes j (ltb-true j (length st.passes) t) in turn_stage j p.0 p.1 e
-  turn_happens (Serve j) t e = alone (Serve j) (happens setup a w (Serve j)) (λ i r at. tt) (passes_served j (slice_get st.up j)) (none_asked one e)
+  turn_happens (Stage j) t e = let p = get_within st.passes j (ltb-true j (length st.passes) t) in turn_stage j p.0 p.1 e
+  turn_happens (Serve j) t e = alone (Serve j) (happens setup a w (Serve j)) (λ i r at. tt) (served_passes setup a w j (slice_get st.up j)) (none_asked one e)
   turn_happens Send t e = alone Send (happens setup a w Send) (λ i r at. tt) refl (none_asked one e)
   turn_happens Apply t e = turn_apply e
   turn_happens Ack t e = alone Ack (happens setup a w Ack) (λ i r at. tt) refl (none_asked one e)
-  turn_happens (Hold j) t e = alone (Hold j) (happens setup a w (Hold j)) (λ i r at. tt) (passes_let_go j (slice_get st.held j)) (none_asked one e)
-  turn_happens (Down j) t e = let n = there_at st.down j (ltb-true j (length st.down) t) in turn_down j n.0 n.1 e
+  turn_happens (Hold j) t e = alone (Hold j) (happens setup a w (Hold j)) (λ i r at. tt) (go_passes setup a w j (slice_get st.held j)) (none_asked one e)
+  turn_happens (Down j) t e = let n = get_within st.down j (ltb-true j (length st.down) t) in turn_down j n.0 n.1 e
 
   -- a stage that doesn't apply is of no pass
   all_free : (event : Event) → applies setup st event ≡ false → (i : ℕ) (r : Pass) → slice_get st.passes i ≡ Some r → Free event i
-  all_free Admit t i r at = tt
   all_free (Stage j) t i r at = λ e. let past = ltb-false j (length st.passes) t in let within = slice_get_within st.passes i r at in omega arith
-  all_free (Serve j) t i r at = tt
-  all_free Send t i r at = tt
-  all_free Apply t i r at = tt
-  all_free Ack t i r at = tt
-  all_free (Hold j) t i r at = tt
-  all_free (Down j) t i r at = tt
+  all_free event t i r at = tt
 
   pub turn_step : (event : Event) → map question_of one ≡ asked setup s packets calls st event → Does event (step setup a st event)
   turn_step event e = elim (cases_Bool (applies setup st event)) [
@@ -441,13 +413,11 @@ module _ (setup : Setup) (a : Answers) (st : State) (places : HavePlaces st) whe
 
   rests_happens : (event : Event) → applies setup st event ≡ true → Rests st (happens setup a v event) event
   rests_happens Admit t = rests_admit
-  rests_happens (Stage j) t = let p = there_at st.passes j (ltb-true j (length st.passes) t) in rests_stage j p.0 p.1
-  rests_happens (Serve j) t = let n = there_at st.up j (ltb-true j (length st.up) t) in rests_serve j n.0 n.1
-  rests_happens Send t = record { stores = λ k low. refl; progress = λ i r at free behind. refl }
-  rests_happens Apply t = record { stores = λ k low. refl; progress = λ i r at free behind. refl }
-  rests_happens Ack t = record { stores = λ k low. refl; progress = λ i r at free behind. refl }
+  rests_happens (Stage j) t = let p = get_within st.passes j (ltb-true j (length st.passes) t) in rests_stage j p.0 p.1
+  rests_happens (Serve j) t = let n = get_within st.up j (ltb-true j (length st.up) t) in rests_serve j n.0 n.1
   rests_happens (Hold j) t = rests_let_go j (slice_get st.held j)
-  rests_happens (Down j) t = let n = there_at st.down j (ltb-true j (length st.down) t) in rests_down j n.0 n.1
+  rests_happens (Down j) t = let n = get_within st.down j (ltb-true j (length st.down) t) in rests_down j n.0 n.1
+  rests_happens event t = record { stores = λ k low. refl; progress = λ i r at free behind. refl }
 
   pub rests_step : (event : Event) → Rests st (step setup a st event) event
   rests_step event = elim (cases_Bool (applies setup st event)) [

@@ -15,7 +15,8 @@ use Rattle.replay_state.specs.Answers.{Setup}
 use Rattle.replay_state.specs.Program.{packet_at}
 use Rattle.replay_state.specs.declared.pass.Pass.{Pass}
 use Rattle.split_answers.specs.UnderWay.{IsOnSwitch, highest_of, passes_of, staging}
-use Rattle.replay_contracts.proofs.OnSwitch.{OnList, Once, Others, at_own, ended_on, entered_on, get_set_other, get_set_same, moved_on, push_cases, same_on, was_elsewhere}
+use Rattle.replay_contracts.proofs.OnSwitch.{OnList, Once, Others, at_own, ended_on, entered_on, moved_on, same_on, was_elsewhere}
+use Rattle.lemmas.proofs.Lists.{get_before_pushed, get_set_other, get_set_same}
 
 -- the pass with a stage less to go
 abbrev pub less : Pass → Pass
@@ -127,8 +128,8 @@ module _ (g : Around) (free : ℕ → Type 0) (Q : Pass → Type 0) (K : Pass �
     (stays : (i : ℕ) (r : Pass) (own : PassState) → slice_get xs i ≡ Some r → passes_of r.pre u r.number ≡ Some own → free i → K r own) where
   come_all : (p : Pass) (w : UnderWay) → ((i : ℕ) (r : Pass) → slice_get xs i ≡ Some r → free i) → Others p.pre p.number u w → passes_of p.pre u p.number ≡ None
       → ((own : PassState) → passes_of p.pre w p.number ≡ Some own → K p own) → AllOn K (xs ++ p ∷ []) w
-  come_all p w all others none own j r found here there = elim (push_cases xs p r j here) [
-    | inl new ↦ subst (λ (q : Pass). (s : PassState) → passes_of q.pre w q.number ≡ Some s → K q s) new own found there
+  come_all p w all others none own j r found here there = elim (get_before_pushed xs p r j here) [
+    | inl new ↦ subst (λ (q : Pass). (s : PassState) → passes_of q.pre w q.number ≡ Some s → K q s) new.1 own found there
     | inr old ↦ let h = on.each j r old in
         stays j r found old (sym (others r.pre r.number (λ k m. none-some h.own (sym (at_own g.setup g.packets u p r k m ∙ none) ∙ h.there))) ∙ there) (all j r old)
   ]

@@ -33,16 +33,9 @@ journal_of calls = map entry_of calls
 
 -- it is no call for room or for rows
 abbrev pub is_of_replay : Entry → Bool
-is_of_replay entry.Load = true
 is_of_replay (entry.Room commands) = false
-is_of_replay (entry.Up number port packet answer) = true
-is_of_replay (entry.Down frame answer) = true
-is_of_replay (entry.BeginUp number port packet answer) = true
-is_of_replay (entry.StageUp number answer) = true
-is_of_replay (entry.BeginDown frame answer) = true
-is_of_replay (entry.StageDown number answer) = true
-is_of_replay (entry.Command c end) = true
 is_of_replay (entry.Visible object) = false
+is_of_replay entry = true
 
 -- the journal without calls for room and for rows
 abbrev pub calls_in : List Entry → List Entry
@@ -57,11 +50,8 @@ pub record HasCalls (code : Code) (calls : List Call) (port : PortState) : Type 
 
 -- the tables after a call
 abbrev pub told_then : Call → Told → Told
-told_then (CalledUp fine n packet answer) told = told
-told_then (CalledStageUp n answer) told = told
 told_then (CalledCommand c) told = told_after c told
-told_then (CalledDown fine n frame answer) told = told
-told_then (CalledStageDown n answer) told = told
+told_then call told = told
 
 abbrev pub told_through : List Call → Told → Told
 told_through [] told = told
@@ -69,11 +59,8 @@ told_through (call ∷ calls) told = told_through calls (told_then call told)
 
 -- the commands among calls
 abbrev pub command_in : Call → List Command
-command_in (CalledUp fine n packet answer) = []
-command_in (CalledStageUp n answer) = []
 command_in (CalledCommand c) = c ∷ []
-command_in (CalledDown fine n frame answer) = []
-command_in (CalledStageDown n answer) = []
+command_in call = []
 
 abbrev pub commands_among : List Call → List Command
 commands_among [] = []
@@ -86,9 +73,7 @@ abbrev pub IsFormed : Code → List Packet → Call → Type 0
 IsFormed code packets (CalledUp fine n packet answer) = IsUpFrame code n packet.port packet.bytes (end_of answer)
 IsFormed code packets (CalledStageUp n answer) =
     let packet = packet_at packets n in IsUpFrame code n packet.port packet.bytes (end_of answer)
-IsFormed code packets (CalledCommand c) = ⊤
-IsFormed code packets (CalledDown fine n frame answer) = ⊤
-IsFormed code packets (CalledStageDown n answer) = ⊤
+IsFormed code packets call = ⊤
 
 -- ## Calls
 

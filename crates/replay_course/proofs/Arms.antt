@@ -2,15 +2,13 @@
 use Rattle.std.proofs.Common.{◌≡◌, ◌<◌, ◌≤◌, ◌+◌, ◌-◌, ℕ, zero, suc, Bool, true, false, eqb, leb, List, [], ◌∷◌, ◌++◌, Some, None, inl, inr, refl, sym, ap, subst, ◌∙◌, arith, length, get_or, map}
 use Rattle.std.specs.Prelude.{slice_get, slice_set, remove, nat_lt, not, ◌&&◌, IfSome, IsSome, if◌then◌else◌}
 use Rattle.std.specs.List.{AllByRecursion as Each}
-use Rattle.std.proofs.lemmas.Bool.{cases_Bool, cases_lt, eqb-true, le-ltb, leb-false, leb-true, lt-ltb}
-use Rattle.std.proofs.lemmas.Bool.Decides.{nat_tests}
+use Rattle.std.proofs.lemmas.Bool.{cases_Bool, cases_lt, eqb-true, le-ltb, leb-false, leb-true, lt-ltb, eqb-true as same_is, le-ltb as past_is, leb-true as within_is}
 use Rattle.std.proofs.lemmas.Option.{same_Some, slice_get-get_or, slice_get_past, slice_get_within}
 use Rattle.packet_fields.specs.declared.packet.Packet.{Packet}
 use Rattle.flat_ir.specs.Arrivals.{IsArrival}
 use Rattle.transfer_header.specs.Frames.{IsFrame}
 use Rattle.transfer_header.specs.Told.{number_in}
-use Rattle.output_commit.specs.Batches.{commands_in, fits, visible}
-use Rattle.output_commit.specs.Commit.{Commit, commands}
+use Rattle.output_commit.specs.Batches.{commands_in, visible}
 use Rattle.run_model.specs.declared.event.Event.{Event}
 use Rattle.run_model.specs.declared.event.Event.TheVariants as event
 use Rattle.switch_ir.specs.Port.{PortState, HasDownPass, HasUpPass, IsDownFrame, IsUpFrame, StagesDown, StagesUp}
@@ -38,17 +36,21 @@ use Rattle.replay_contracts.specs.Replayer.{stepped_by}
 use Rattle.replay_contracts.specs.declared.job.Stepped.{Stepped}
 use Rattle.replay_contracts.specs.declared.job.Stepped.TheVariants.{Did, Idle}
 use Rattle.replay_course.specs.declared.course.Course.{Course}
-use Rattle.replay_course.specs.Going.{FitsDown, FitsUp, HasStage, HasTurned, IsGoing, IsSound, MayComeIn, MayComeOut, TakesDown, TakesOneMore, TakesUp, came_to, less_one, pass_for, unapplied}
+use Rattle.replay_course.specs.Going.{FitsDown, FitsUp, HasTurned, IsGoing, IsSound, MayComeIn, MayComeOut, TakesDown, TakesOneMore, TakesUp, came_to, less_one, pass_for, unapplied}
 use Rattle.replay_course.specs.Idle.{finds_nothing}
 use Rattle.replay_course.specs.Shown.{IsShown}
 use Rattle.replay_course.proofs.Calling.{keeps_all}
-use Rattle.replay_course.proofs.Costs.{enough}
 use Rattle.replay_course.proofs.Counting.{before_server, each_set, remove_at_most, remove_before, set_count}
-use Rattle.replay_course.proofs.Lists.{each_at, each_remove, get_last, get_member, get_removed, length_map, map_remove, none_at_end}
-use Rattle.replay_course.proofs.Showing.{down_at, number_of, still_up}
-use Rattle.replay_course.proofs.Sounding.{FramedDown, HasLeft, taken_room, taken_sound}
-use Rattle.replay_course.proofs.Travelling.{pass_is, staged_shown, taken_out}
-use Rattle.replay_course.proofs.Turning.{FreshDownLaw, FreshUpLaw, GoneLaw, OnceLaw, PlaceLaw, StepLaw, answers_down, answers_up, call_turned, came_is, carried_down, carried_passes, down_call, fates_count, fits_same, have_places, idle_turned, placed_after, quiet_turned, stage_down_call, stage_up_call, up_call}
+use Rattle.replay_course.proofs.Lists.{each_remove, get_member, get_removed}
+use Rattle.replay_course.proofs.Showing.{down_at, moved_shown, number_of}
+use Rattle.replay_course.proofs.Sounding.{FramedDown, HasLeft, makes_room, taken_sound}
+use Rattle.replay_course.proofs.Costs.{one_less_undecided}
+use Rattle.replay_course.proofs.Travelling.{pass_is, passes_shown}
+use Rattle.replay_course.proofs.Turning.{answers_down, answers_up, call_turned, came_is, carried_down, carried_passes, down_call, fates_count, have_gone, have_places, idle_turned, placed_after, quiet_turned, stage_down_call, stage_up_call, up_call}
+use Rattle.lemmas.proofs.Lists.{each_got, get_past, get_pushed, map_remove}
+use Rattle.lemmas.proofs.Numbers.{le_trans, same_within}
+use Rattle.replay_contracts.proofs.KnowingOn.{answer_stays}
+use Rattle.replay_course.proofs.Draining.{map_length}
 
 -- ## Events that can't apply
 
@@ -57,75 +59,12 @@ abbrev pub ShowsIdle : Course → Course → Type 0
 ShowsIdle c after = (s : SplitProgram) (setup : Setup) (a : Answers) (calls : List Call) (st : State) (ev : Event) → applies setup st ev ≡ false
     → IsShown s calls st c → IsShown s calls (step setup a st ev) after
 
-past_is : (a n : ℕ) → n ≤ a → nat_lt a n ≡ false
-past_is a n h = grind (arith, nat_tests)
-
-within_is : (n a : ℕ) → leb n a ≡ true → n ≤ a
-within_is n a h = grind (arith, nat_tests, h)
-
-same_is : (a b : ℕ) → eqb a b ≡ true → a ≡ b
-same_is a b h = eqb-true a b h
-
-same_within : (n a : ℕ) → n ≡ a → n ≤ a
-same_within n a e = omega (arith, e)
-
-length_is : {X Y : Type 0} (f : X → Y) (xs : List X) (ys : List Y) → map f xs ≡ ys → length xs ≡ length ys
-length_is f xs ys e = sym (length_map f xs) ∙ ap length e
-
-idles : (x : Given) (ev : Event) (stepped : Stepped) (c after : Course) (port : PortState) → IsGoing x c port → stepped ≡ Idle
-    → ((y : Given) → IsSound y c → IsSound y after) → unapplied after ≡ unapplied c → after.events ≡ c.events + 1 → ShowsIdle c after
-    → ((calls : List Call) (st : State) → IsShown (whole x) calls st c → applies (setup_for x) st ev ≡ false) → HasTurned x ev stepped c port after port
-idles x ev stepped c after port going idle sound same counted shows never =
-    idle_turned x ev stepped c after port going idle (sound x going.sound) same counted never
-    (λ calls st off h. shows (whole x) (setup_for x) (answered x calls) calls st ev off h)
-
-pub stage_idles : (x : Given) (stepped : Stepped) (c after : Course) (port : PortState) (j : ℕ) → IsGoing x c port → length c.passes ≤ j → stepped ≡ Idle
-    → ((y : Given) → IsSound y c → IsSound y after) → unapplied after ≡ unapplied c → after.events ≡ c.events + 1 → ShowsIdle c after → HasTurned x (event.Stage j) stepped c port after port
-stage_idles x stepped c after port j going past idle sound same counted shows =
-    idles x (event.Stage j) stepped c after port going idle sound same counted shows
-    (λ calls st h. past_is _ _ (subst (λ (l : List Pass). length l ≤ j) h.passes past))
-
-pub admit_idles : (x : Given) (stepped : Stepped) (c after : Course) (port : PortState) (number : ℕ) (list : List Packet) → IsGoing x c port
-    → number ≡ length c.fates.items → list ≡ x.packets → length list ≤ number → stepped ≡ Idle
-    → ((y : Given) → IsSound y c → IsSound y after) → unapplied after ≡ unapplied c → after.events ≡ c.events + 1 → ShowsIdle c after → HasTurned x event.Admit stepped c port after port
-admit_idles x stepped c after port number list going is same_list past idle sound same counted shows =
-    let far : length x.packets ≤ length c.fates.items = subst (λ n. length x.packets ≤ n) is (subst (λ l. length l ≤ number) same_list past) in
-    idles x event.Admit stepped c after port going idle sound same counted shows
-    (λ calls st h. past_is _ _ (subst (λ n. length x.packets ≤ n) (fates_count (whole x) calls st c h) far))
-
-pub serve_idles : (x : Given) (stepped : Stepped) (c after : Course) (port : PortState) (j : ℕ) → IsGoing x c port → length c.up.items ≤ j → stepped ≡ Idle
-    → ((y : Given) → IsSound y c → IsSound y after) → unapplied after ≡ unapplied c → after.events ≡ c.events + 1 → ShowsIdle c after → HasTurned x (event.Serve j) stepped c port after port
-serve_idles x stepped c after port j going past idle sound same counted shows =
-    idles x (event.Serve j) stepped c after port going idle sound same counted shows
-    (λ calls st h. past_is _ _ (subst (λ n. n ≤ j) (length_is _ c.up.items st.up h.up) past))
-
-pub down_idles : (x : Given) (stepped : Stepped) (c after : Course) (port : PortState) (j : ℕ) → IsGoing x c port → length c.down.items ≤ j → stepped ≡ Idle
-    → ((y : Given) → IsSound y c → IsSound y after) → unapplied after ≡ unapplied c → after.events ≡ c.events + 1 → ShowsIdle c after → HasTurned x (event.Down j) stepped c port after port
-down_idles x stepped c after port j going past idle sound same counted shows =
-    idles x (event.Down j) stepped c after port going idle sound same counted shows
-    (λ calls st h. past_is _ _ (subst (λ n. n ≤ j) (length_is _ c.down.items st.down h.down) past))
-
--- the same from a course that is the one before
-pub serve_idles_from : (x : Given) (stepped : Stepped) (before c after : Course) (port : PortState) (j : ℕ) → before ≡ c → IsGoing x c port → length c.up.items ≤ j → stepped ≡ Idle
-    → ((y : Given) → IsSound y before → IsSound y after) → unapplied after ≡ unapplied before → after.events ≡ before.events + 1 → ShowsIdle before after
-    → HasTurned x (event.Serve j) stepped c port after port
-serve_idles_from x stepped before c after port j is going past idle sound same counted shows =
-    subst (λ (z : Course). HasTurned x (event.Serve j) stepped z port after port) is
-    (serve_idles x stepped before after port j (subst (λ (z : Course). IsGoing x z port) (sym is) going) (subst (λ (z : Course). length z.up.items ≤ j) (sym is) past) idle sound same counted shows)
-
-pub down_idles_from : (x : Given) (stepped : Stepped) (before c after : Course) (port : PortState) (j : ℕ) → before ≡ c → IsGoing x c port → length c.down.items ≤ j → stepped ≡ Idle
-    → ((y : Given) → IsSound y before → IsSound y after) → unapplied after ≡ unapplied before → after.events ≡ before.events + 1 → ShowsIdle before after
-    → HasTurned x (event.Down j) stepped c port after port
-down_idles_from x stepped before c after port j is going past idle sound same counted shows =
-    subst (λ (z : Course). HasTurned x (event.Down j) stepped z port after port) is
-    (down_idles x stepped before after port j (subst (λ (z : Course). IsGoing x z port) (sym is) going) (subst (λ (z : Course). length z.down.items ≤ j) (sym is) past) idle sound same counted shows)
-
 -- an event that finds nothing doesn't apply
 nothing_applies : (x : Given) (calls : List Call) (st : State) (c : Course) (ev : Event) → IsShown (whole x) calls st c
     → finds_nothing (length x.packets) c ev ≡ true → applies (setup_for x) st ev ≡ false
 nothing_applies x calls st c event.Admit h none = past_is _ _ (subst (λ n. length x.packets ≤ n) (fates_count (whole x) calls st c h) (within_is _ _ none))
 nothing_applies x calls st c (event.Stage j) h none = past_is _ _ (subst (λ (l : List Pass). length l ≤ j) h.passes (within_is _ _ none))
-nothing_applies x calls st c (event.Serve j) h none = past_is _ _ (subst (λ n. n ≤ j) (length_is _ c.up.items st.up h.up) (within_is _ _ none))
+nothing_applies x calls st c (event.Serve j) h none = past_is _ _ (subst (λ n. n ≤ j) (map_length _ c.up.items st.up h.up) (within_is _ _ none))
 nothing_applies x calls st c event.Send h none =
     past_is _ _ (same_within _ _ (sym (ap (λ bs. length (commands_in bs)) h.batches) ∙ sym (same_is _ _ none) ∙ h.sent))
 nothing_applies x calls st c event.Apply h none =
@@ -133,45 +72,32 @@ nothing_applies x calls st c event.Apply h none =
     (past_is _ _ (same_within _ _ (sym h.sent ∙ sym (same_is _ _ none) ∙ h.done)))
 nothing_applies x calls st c event.Ack h none = past_is _ _ (same_within _ _ (sym h.done ∙ sym (same_is _ _ none) ∙ h.acked))
 nothing_applies x calls st c (event.Hold j) h none =
-    ap (may_go (visible st.batches st.acked)) (slice_get_past st.held j (subst (λ n. n ≤ j) (length_is _ c.commit.held st.held h.held) (within_is _ _ none)))
-nothing_applies x calls st c (event.Down j) h none = past_is _ _ (subst (λ n. n ≤ j) (length_is _ c.down.items st.down h.down) (within_is _ _ none))
+    ap (may_go (visible st.batches st.acked)) (slice_get_past st.held j (subst (λ n. n ≤ j) (map_length _ c.commit.held st.held h.held) (within_is _ _ none)))
+nothing_applies x calls st c (event.Down j) h none = past_is _ _ (subst (λ n. n ≤ j) (map_length _ c.down.items st.down h.down) (within_is _ _ none))
 
-pub nothing_turned : (x : Given) (ev : Event) (packets : ℕ) (stepped : Stepped) (c after : Course) (port : PortState) → IsGoing x c port
-    → packets ≡ length x.packets → finds_nothing packets c ev ≡ true → stepped ≡ Idle
-    → ((y : Given) → IsSound y c → IsSound y after) → unapplied after ≡ unapplied c → after.events ≡ c.events + 1 → ShowsIdle c after → HasTurned x ev stepped c port after port
-nothing_turned x ev packets stepped c after port going is none idle sound same counted shows =
-    idles x ev stepped c after port going idle sound same counted shows
-    (λ calls st h. nothing_applies x calls st c ev h (ap (λ n. finds_nothing n c ev) (sym is) ∙ none))
+-- from a course that is the one before
+pub nothing_turned : (x : Given) (ev : Event) (stepped : Stepped) (before c after : Course) (port : PortState) → before ≡ c → IsGoing x c port
+    → finds_nothing (length x.packets) c ev ≡ true → stepped ≡ Idle
+    → ((y : Given) → IsSound y before → IsSound y after) → unapplied after ≡ unapplied before → after.events ≡ before.events + 1 → ShowsIdle before after
+    → HasTurned x ev stepped c port after port
+nothing_turned x ev stepped before c after port is going none idle sound same counted shows =
+    let there = subst (λ (z : Course). IsGoing x z port) (sym is) going in
+    let nothing = subst (λ (z : Course). finds_nothing (length x.packets) z ev ≡ true) (sym is) none in
+    subst (λ (z : Course). HasTurned x ev stepped z port after port) is
+    (idle_turned x ev stepped before after port there idle (sound x there.sound) same counted
+    (λ calls st h. nothing_applies x calls st before ev h nothing)
+    (λ calls st off h. shows (whole x) (setup_for x) (answered x calls) calls st ev off h))
 
 -- ## Events that call for nothing
 
--- what a call shows that applies or is idle by itself
-abbrev pub Shows : Course → Event → Course → Type 0
-Shows c ev after = (s : SplitProgram) (setup : Setup) (a : Answers) (calls : List Call) (st : State) → IsShown s calls st c → IsShown s calls (step setup a st ev) after
-
-abbrev pub StepsSo : Course → Event → Stepped → Type 0
-StepsSo c ev stepped = (s : SplitProgram) (setup : Setup) (calls : List Call) (st : State) → IsShown s calls st c → stepped ≡ stepped_by (applies setup st ev)
-
-pub acknowledged_turned : (x : Given) (stepped : Stepped) (c after : Course) (port : PortState) → IsGoing x c port → StepsSo c event.Ack stepped → Shows c event.Ack after
-    → ((y : Given) → IsSound y c → IsSound y after) → unapplied after ≡ unapplied c → after.events ≡ c.events + 1 → HasTurned x event.Ack stepped c port after port
-acknowledged_turned x stepped c after port going so shows sound same counted =
-    quiet_turned x event.Ack stepped c after port port going (keeps_all port) (sound x going.sound) (subst (λ n. n ≤ port.spare) (sym same) going.spare) counted
-    (λ calls st h may. refl) (λ events calls st replay h. (so (whole x) (setup_for x) calls st h, shows (whole x) (setup_for x) (answered x calls) calls st h))
-
-pub held_turned : (x : Given) (stepped : Stepped) (c after : Course) (port : PortState) (j : ℕ) → IsGoing x c port → StepsSo c (event.Hold j) stepped → Shows c (event.Hold j) after
-    → ((y : Given) → IsSound y c → IsSound y after) → unapplied after ≡ unapplied c → after.events ≡ c.events + 1 → HasTurned x (event.Hold j) stepped c port after port
-held_turned x stepped c after port j going so shows sound same counted =
-    quiet_turned x (event.Hold j) stepped c after port port going (keeps_all port) (sound x going.sound) (subst (λ n. n ≤ port.spare) (sym same) going.spare) counted
-    (λ calls st h may. refl) (λ events calls st replay h. (so (whole x) (setup_for x) calls st h, shows (whole x) (setup_for x) (answered x calls) calls st h))
-
-pub sent_turned : (x : Given) (stepped : Stepped) (c after : Course) (port : PortState) → IsGoing x c port → StepsSo c event.Send stepped
-    → ((s : SplitProgram) (setup : Setup) (a : Answers) (calls : List Call) (st : State) → setup.fits ≡ fits c.commit.writeback
-    → IsShown s calls st c → IsShown s calls (step setup a st event.Send) after)
-    → ((y : Given) → IsSound y c → IsSound y after) → unapplied after ≤ unapplied c → after.events ≡ c.events + 1 → HasTurned x event.Send stepped c port after port
-sent_turned x stepped c after port going so shows sound fewer counted =
-    quiet_turned x event.Send stepped c after port port going (keeps_all port) (sound x going.sound) (enough _ _ _ fewer going.spare) counted
-    (λ calls st h may. refl)
-    (λ events calls st replay h. (so (whole x) (setup_for x) calls st h, shows (whole x) (setup_for x) (answered x calls) calls st (fits_same x c going.prepared going.sound) h))
+pub counted_turned : (x : Given) (ev : Event) (stepped : Stepped) (c after : Course) (port : PortState) → IsGoing x c port
+    → ((calls : List Call) (st : State) → asks (setup_for x) (whole x) x.packets calls st ev ≡ [])
+    → ((calls : List Call) (st : State) → IsShown (whole x) calls st c → stepped ≡ stepped_by (applies (setup_for x) st ev))
+    → ((calls : List Call) (st : State) → IsShown (whole x) calls st c → IsShown (whole x) calls (step (setup_for x) (answered x calls) st ev) after)
+    → ((y : Given) → IsSound y c → IsSound y after) → unapplied after ≤ unapplied c → after.events ≡ c.events + 1 → HasTurned x ev stepped c port after port
+counted_turned x ev stepped c after port going none so shows sound fewer counted =
+    quiet_turned x ev stepped c after port port going (keeps_all port) (sound x going.sound) (le_trans _ _ _ fewer going.spare) counted
+    (λ calls st h may. none calls st) (λ events calls st replay h. (so calls st h, shows calls st h))
 
 -- ## How calls end
 
@@ -278,17 +204,17 @@ may_come_in : (calls : List Call) (st : State) (stages : ℕ) → Carried (HasGo
 may_come_in calls st stages gone = record {
   gone = record { up = gone.up; held = gone.held; down = gone.down; passes = gone.passes };
   pre = refl;
-  entered = (st.events + 1, get_last st.progress (Entered (st.events + 1) (seen st)));
+  entered = (st.events + 1, get_pushed st.progress (Entered (st.events + 1) (seen st)));
 }
 
-pub admit_turned : OnceLaw → FreshUpLaw → GoneLaw → (x : Given) (c mid after : Course) (old new : PortState) (packet : Packet) (pass : Pass) (end : UpEnd) (answer : UpAnswer)
+pub admit_turned : (x : Given) (c mid after : Course) (old new : PortState) (packet : Packet) (pass : Pass) (end : UpEnd) (answer : UpAnswer)
     → end ≡ end_of answer → IsGoing x c old → slice_get x.packets (length c.fates.items) ≡ Some packet → pass ≡ pass_for c true (length c.fates.items)
     → TakesUp x.manner.fine end pass.number packet old new
     → ((s : SplitProgram) (calls : List Call) (st : State) → IsShown s calls st c → IsShown s calls (came (tick st)) mid)
     → ((y : Given) → IsSound y c → length c.fates.items < length y.packets → IsSound y mid × TakesOneMore y mid)
     → ShowsUp mid pass end after → ((y : Given) → IsSound y mid → TakesOneMore y mid → FitsUp y pass end → IsSound y after)
     → unapplied after ≡ unapplied c → after.events ≡ c.events + 1 → HasTurned x event.Admit Did c old after new
-admit_turned once fresh gone x c mid after old new packet pass end answer end_is going here pass_so takes_so mid_shown mid_sound shows sound same counted =
+admit_turned x c mid after old new packet pass end answer end_is going here pass_so takes_so mid_shown mid_sound shows sound same counted =
     let setup = setup_for x in
     let n = length c.fates.items in
     let fine = x.manner.fine in
@@ -303,7 +229,7 @@ admit_turned once fresh gone x c mid after old new packet pass end answer end_is
     let fits : FitsUp x pass (end_of answer) = up_fits x pass n packet.port packet.bytes answer (framed x answer n packet old new loaded fine takes)
     (λ off. subst (λ k. 0 < k) (sym left) (has_some setup.pre_stages (is_up_end answer) ends off)) in
     let spare : unapplied after ≤ new.spare = let more = up_spare x answer n packet old new loaded fine takes in let before = going.spare in subst (λ k. k ≤ new.spare) (sym same) (omega arith) in
-    let arrival : IsArrival packet = each_at IsArrival x.packets n packet going.prepared.ready.arrivals here in
+    let arrival : IsArrival packet = each_got IsArrival x.packets n packet going.prepared.ready.arrivals here in
     call_turned x event.Admit c after old new (CalledUp fine n packet answer) going arrival (up_made x answer n packet old new loaded fine takes)
     (sound x first.0 first.1 (subst (FitsUp x pass) (sym end_is) fits)) spare counted
     (λ events calls st replay h.
@@ -316,9 +242,9 @@ admit_turned once fresh gone x c mid after old new packet pass end answer end_is
     let now : pass ≡ pass_of (tick st) true (length st.progress) setup.pre_stages =
     pass_so ∙ pass_is (whole x) calls st c true n h ∙ (λ i. pass_of (tick st) true (count i) (stages i)) in
     let told : up_answer all pass.number ≡ up_end answer = subst (λ k. up_answer all k ≡ up_end answer) (sym number)
-    (answers_up once fresh x events calls st n answer call None replay.answered (ap (slice_get st.progress) count ∙ none_at_end st.progress) refl (up_call fine n packet answer)) in
+    (answers_up x events calls st n answer call None replay.answered (ap (slice_get st.progress) count ∙ get_past st.progress) refl (up_call fine n packet answer)) in
     let came_shown = shows (whole x) calls (call ∷ []) (came (tick st)) answer (mid_shown (whole x) calls st h)
-    (subst (MayComeIn calls (came (tick st))) (sym now) (may_come_in calls st setup.pre_stages (gone setup (whole x) x.packets events calls st replay.answered))) end_is told in
+    (subst (MayComeIn calls (came (tick st))) (sym now) (may_come_in calls st setup.pre_stages (have_gone x events calls st replay.answered))) end_is told in
     let a = answered x all in
     record {
       may = may;
@@ -401,74 +327,50 @@ asks_behind x calls st j pass ends at post is =
 one_left : (left : ℕ) → 1 < left → 0 < left - 1
 one_left left h = omega arith
 
--- a course whose pass has a stage less
-module _ (x : Given) (c after : Course) (j : ℕ) (pass : Pass) (here : slice_get c.passes j ≡ Some pass)
-    (is : HasStage (record c { events = c.events + 1 }) j pass after) where
-  abbrev less : Pass
-  less = less_one pass
-
-  with_less : after.passes ≡ slice_set c.passes j less
-  with_less = is.passes
-
-  with_less_sound : IsSound x c → 1 < pass.left → IsSound x after
-  with_less_sound h more =
-      taken_sound x c after h (subst (Each HasLeft) (sym with_less) (each_set HasLeft c.passes j less h.left (one_left pass.left more)))
-      (let same : before_server after.passes ≡ before_server c.passes = ap before_server with_less ∙ set_count (λ (p : Pass). p.pre) c.passes j pass less here refl in omega arith)
-      is.pre_stages is.post_stages (ap (λ q. q.items) is.up) is.server is.commit
-      (subst (Each (FramedDown x)) (sym (ap (λ q. q.items) is.down)) h.down) (ap (λ q. q.items) is.fates)
-      (let i = h.within.idle in let e = is.events in let f = is.idle in omega arith)
-
-  with_less_shown : (calls more : List Call) (st : State) → IsShown (whole x) calls st c → Carried (HasGoneUp calls) st
-      → IsShown (whole x) (calls ++ more) (record (tick st) { passes = slice_set st.passes j less }) after
-  with_less_shown calls more st h gone =
-      staged_shown (whole x) calls more st c after pass h gone (slice_set st.passes j less) (with_less ∙ ap (λ l. slice_set l j less) h.passes)
-      is.up is.server is.commit is.down is.fates is.events is.idle
-
--- the pass goes on
-pub stage_goes_on : GoneLaw → (x : Given) (c after : Course) (old new : PortState) (j : ℕ) (pass : Pass) (call : Call)
+-- the pass goes on, with a stage less
+pub stage_goes_on : (x : Given) (c after : Course) (old new : PortState) (j : ℕ) (pass : Pass) (call : Call)
     → IsGoing x c old → slice_get c.passes j ≡ Some pass → IsGiven (code_for x) call → WasMade call old new → old.spare ≤ new.spare → leb pass.left 1 ≡ false
     → ((calls : List Call) (st : State) → slice_get st.passes j ≡ Some pass → question_of call ∷ [] ≡ asks (setup_for x) (whole x) x.packets (calls ++ call ∷ []) st (event.Stage j))
-    → HasStage (record c { events = c.events + 1 }) j pass after → HasTurned x (event.Stage j) Did c old after new
-stage_goes_on gone x c after old new j pass call going here given was more some asks_so is =
-    let same : unapplied after ≡ unapplied c = ap (λ (k : Commit). length (commands k) - k.done) is.commit in
-    call_turned x (event.Stage j) c after old new call going given was (with_less_sound x c after j pass here is going.sound (leb-false pass.left 1 some))
-    (let before = going.spare in subst (λ k. k ≤ new.spare) (sym same) (omega arith)) is.events
+    → after ≡ record c { passes = slice_set c.passes j (less_one pass); events = c.events + 1 } → HasTurned x (event.Stage j) Did c old after new
+stage_goes_on x c after old new j pass call going here given was more some asks_so is =
+    let less = less_one pass in
+    let later : Course = record c { passes = slice_set c.passes j less; events = c.events + 1 } in
+    let same : before_server later.passes ≡ before_server c.passes = set_count (λ (p : Pass). p.pre) c.passes j pass less here refl in
+    let left = one_left pass.left (leb-false pass.left 1 some) in
+    subst (λ (z : Course). HasTurned x (event.Stage j) Did c old z new) (sym is)
+    (call_turned x (event.Stage j) c later old new call going given was
+    (taken_sound x c later going.sound refl (each_set HasLeft c.passes j less going.sound.left left) (omega arith) going.sound.down)
+    (le_trans _ _ _ going.spare more) refl
     (λ events calls st replay h.
     let at = staged_at x calls st c j pass h here in
     let a = answered x (calls ++ call ∷ []) in
+    let now : State = record (tick st) { passes = slice_set st.passes j less } in
     record {
       may = stage_applies x st j pass at;
       asks_so = asks_so calls st at;
-      shown = subst (λ w. IsShown (whole x) (calls ++ call ∷ []) w after)
+      shown = subst (λ w. IsShown (whole x) (calls ++ call ∷ []) w later)
           (sym (staged_is a st j pass at
           ∙ ap (λ (b : Bool). if b then ended a (record (tick st) { passes = remove st.passes j }) pass else record (tick st) { passes = slice_set st.passes j (record pass { left = pass.left - 1 }) }) some))
-          (with_less_shown x c after j pass here is calls (call ∷ []) st h (gone (setup_for x) (whole x) x.packets events calls st replay.answered));
-    })
+          (passes_shown (whole x) calls (call ∷ []) st c later pass h (have_gone x events calls st replay.answered) now refl refl
+          (ap (λ l. slice_set l j less) h.passes) (ap (λ n. n + 1) h.events));
+    }))
 
-pub stage_up_goes_on : GoneLaw → (x : Given) (c after : Course) (old new : PortState) (j : ℕ) (pass : Pass) → IsGoing x c old
+pub stage_up_goes_on : (x : Given) (c after : Course) (old new : PortState) (j : ℕ) (pass : Pass) → IsGoing x c old
     → slice_get c.passes j ≡ Some pass → IsOnSwitch (setup_for x) x.packets old.passes pass → pass.pre ≡ true → StagesUp up.Going pass.number old new
-    → HasStage (record c { events = c.events + 1 }) j pass after → HasTurned x (event.Stage j) Did c old after new
-stage_up_goes_on gone x c after old new j pass going here on pre stages is =
+    → after ≡ record c { passes = slice_set c.passes j (less_one pass); events = c.events + 1 } → HasTurned x (event.Stage j) Did c old after new
+stage_up_goes_on x c after old new j pass going here on pre stages is =
     let call = CalledStageUp pass.number GoingUp in
     let more : false ≡ leb pass.left 1 = stage_ends x c old new j pass going here on pre GoingUp stages in
-    stage_goes_on gone x c after old new j pass call going here tt (has_up_pass x c old new j pass going here on pre, stages) stages.kept.spare (sym more)
+    stage_goes_on x c after old new j pass call going here tt (has_up_pass x c old new j pass going here on pre, stages) stages.kept.spare (sym more)
     (λ calls st at. asks_up x (calls ++ call ∷ []) st j pass false at pre more) is
 
-pub more_stages_up : (x : Given) (c : Course) (old new : PortState) (j : ℕ) (pass : Pass) → IsGoing x c old → slice_get c.passes j ≡ Some pass
-    → IsOnSwitch (setup_for x) x.packets old.passes pass → pass.pre ≡ true → StagesUp up.Going pass.number old new → 1 < pass.left
-more_stages_up x c old new j pass going here on pre stages = leb-false pass.left 1 (sym (stage_ends x c old new j pass going here on pre GoingUp stages))
-
-pub more_stages_down : (x : Given) (c : Course) (old new : PortState) (j : ℕ) (pass : Pass) → IsGoing x c old → slice_get c.passes j ≡ Some pass
-    → IsOnSwitch (setup_for x) x.packets old.passes pass → pass.pre ≡ false → StagesDown down.Going pass.number old new → 1 < pass.left
-more_stages_down x c old new j pass going here on post stages = leb-false pass.left 1 (sym (stage_down_ends x c old new j pass going here on post GoingDown stages))
-
-pub stage_down_goes_on : GoneLaw → (x : Given) (c after : Course) (old new : PortState) (j : ℕ) (pass : Pass) → IsGoing x c old
+pub stage_down_goes_on : (x : Given) (c after : Course) (old new : PortState) (j : ℕ) (pass : Pass) → IsGoing x c old
     → slice_get c.passes j ≡ Some pass → IsOnSwitch (setup_for x) x.packets old.passes pass → pass.pre ≡ false → StagesDown down.Going pass.number old new
-    → HasStage (record c { events = c.events + 1 }) j pass after → HasTurned x (event.Stage j) Did c old after new
-stage_down_goes_on gone x c after old new j pass going here on post stages is =
+    → after ≡ record c { passes = slice_set c.passes j (less_one pass); events = c.events + 1 } → HasTurned x (event.Stage j) Did c old after new
+stage_down_goes_on x c after old new j pass going here on post stages is =
     let call = CalledStageDown pass.number GoingDown in
     let more : false ≡ leb pass.left 1 = stage_down_ends x c old new j pass going here on post GoingDown stages in
-    stage_goes_on gone x c after old new j pass call going here tt (has_down_pass x c old new j pass going here on post, stages) stages.kept.spare (sym more)
+    stage_goes_on x c after old new j pass call going here tt (has_down_pass x c old new j pass going here on post, stages) stages.kept.spare (sym more)
     (λ calls st at. asks_behind x (calls ++ call ∷ []) st j pass false at post more) is
 
 -- a stage call that isn't going on has ended the pass
@@ -488,52 +390,48 @@ ended_is a st j pass at last =
     sym (staged_is a st j pass at
     ∙ ap (λ (b : Bool). if b then ended a (record (tick st) { passes = remove st.passes j }) pass else record (tick st) { passes = slice_set st.passes j (record pass { left = pass.left - 1 }) }) last)
 
-without_shown : (x : Given) (calls : List Call) (st : State) (c mid : Course) (j : ℕ) → IsShown (whole x) calls st c
-    → mid.passes ≡ remove c.passes j → mid.up ≡ c.up → mid.server ≡ c.server → mid.commit ≡ c.commit → mid.down ≡ c.down → mid.fates ≡ c.fates
-    → mid.events ≡ c.events + 1 → mid.idle ≡ c.idle → IsShown (whole x) calls (record (tick st) { passes = remove st.passes j }) mid
-without_shown x calls st c mid j h passes up server commit down fates events idle =
-    taken_out (whole x) calls st c mid (remove st.passes j) st.down h (passes ∙ ap (λ l. remove l j) h.passes) (ap (λ q. q.items) up) server commit
-    (ap (λ q. map number_of q.items) down ∙ h.down) (λ k item e. (k, sym (ap (λ q. slice_get q.items k) down) ∙ e)) (ap (λ q. q.items) fates) events idle
-
 module _ (x : Given) (c mid after : Course) (old new : PortState) (j : ℕ) (pass : Pass) (going : IsGoing x c old) (here : slice_get c.passes j ≡ Some pass)
-    (on : IsOnSwitch (setup_for x) x.packets old.passes pass) (pre_stages : mid.pre_stages ≡ c.pre_stages) (post_stages : mid.post_stages ≡ c.post_stages)
-    (passes : mid.passes ≡ remove c.passes j) (up : mid.up ≡ c.up) (server : mid.server ≡ c.server) (commit : mid.commit ≡ c.commit) (down : mid.down ≡ c.down)
-    (fates : mid.fates ≡ c.fates) (events_are : mid.events ≡ c.events + 1) (idle : mid.idle ≡ c.idle)
+    (on : IsOnSwitch (setup_for x) x.packets old.passes pass) (is : mid ≡ record c { passes = remove c.passes j; events = c.events + 1 })
     (same : unapplied after ≡ unapplied mid) (counted : after.events ≡ mid.events) where
-  mid_sound : IsSound x mid
-  mid_sound =
-      let less = remove_at_most c.passes j pass here in
-      taken_sound x c mid going.sound (subst (Each HasLeft) (sym passes) (each_remove HasLeft c.passes j going.sound.left))
-      (let p = ap before_server passes in omega arith) pre_stages post_stages (ap (λ q. q.items) up) server commit
-      (subst (Each (FramedDown x)) (sym (ap (λ q. q.items) down)) going.sound.down) (ap (λ q. q.items) fates)
-      (let i = going.sound.within.idle in omega arith)
+  abbrev without : Course
+  without = record c { passes = remove c.passes j; events = c.events + 1 }
 
-  same_left : unapplied after ≡ unapplied c
-  same_left = same ∙ ap (λ (k : Commit). length (commands k) - k.done) commit
+  mid_sound : IsSound x mid
+  mid_sound = subst (IsSound x) (sym is) (taken_sound x c without going.sound refl (each_remove HasLeft c.passes j going.sound.left)
+      (remove_at_most c.passes j pass here) going.sound.down)
+
+  mid_shown : (calls : List Call) (st : State) → IsShown (whole x) calls st c → IsShown (whole x) calls (record (tick st) { passes = remove st.passes j }) mid
+  mid_shown calls st h = subst (IsShown (whole x) calls (record (tick st) { passes = remove st.passes j })) (sym is)
+      (moved_shown (whole x) calls calls st (record (tick st) { passes = remove st.passes j }) c without h refl refl (ap (λ l. remove l j) h.passes)
+      h.up h.up_frames (λ k n need at. refl) h.down h.down_frames h.fates (ap (λ n. n + 1) h.events) h.idle)
 
   enough_spare : old.spare ≤ new.spare → unapplied after ≤ new.spare
-  enough_spare more = let before = going.spare in subst (λ k. k ≤ new.spare) (sym same_left) (omega arith)
+  enough_spare more = subst (λ k. k ≤ new.spare) (sym (same ∙ ap unapplied is)) (le_trans _ _ _ going.spare more)
+
+  counted_so : after.events ≡ c.events + 1
+  counted_so = counted ∙ ap (λ (z : Course). z.events) is
 
   -- a packet that arrived
-  pub stage_up_ends : PlaceLaw → OnceLaw → FreshUpLaw → GoneLaw → (end : UpEnd) (answer : UpAnswer) → end ≡ end_of answer → is_up_end answer ≡ true → pass.pre ≡ true
+  pub stage_up_ends : (end : UpEnd) (answer : UpAnswer) → end ≡ end_of answer → is_up_end answer ≡ true → pass.pre ≡ true
       → StagesUp end pass.number old new → ShowsUp mid pass end after → ((y : Given) → IsSound y mid → TakesOneMore y mid → FitsUp y pass end → IsSound y after)
       → HasTurned x (event.Stage j) Did c old after new
-  stage_up_ends places once fresh gone end answer end_is ends pre stages_so shows sound =
+  stage_up_ends end answer end_is ends pre stages_so shows sound =
       let stages = subst (λ e. StagesUp e pass.number old new) end_is stages_so in
       let call = CalledStageUp pass.number answer in
       let last : is_up_end answer ≡ leb pass.left 1 = stage_ends x c old new j pass going here on pre answer stages in
       let fits = up_fits x pass pass.number on.own.packet.port on.own.packet.bytes answer (stage_frame x c old new j pass going here on pre answer stages) (λ off. let bad = sym ends ∙ off in cc) in
-      let room : TakesOneMore x mid = taken_room x c mid going.sound (let p = ap before_server passes in let r = remove_before c.passes j pass here pre in omega arith) (ap (λ q. q.items) up) server commit (ap (λ q. q.items) fates) in
+      let room : TakesOneMore x mid = subst (TakesOneMore x) (sym is) (makes_room x c without going.sound.within
+      (one_less_undecided _ _ _ _ _ _ _ (let r = remove_before c.passes j pass here pre in omega arith) refl refl) refl) in
       call_turned x (event.Stage j) c after old new call going tt (has_up_pass x c old new j pass going here on pre, stages)
-      (sound x mid_sound room (subst (FitsUp x pass) (sym end_is) fits)) (enough_spare stages.kept.spare) (counted ∙ events_are)
+      (sound x mid_sound room (subst (FitsUp x pass) (sym end_is) fits)) (enough_spare stages.kept.spare) counted_so
       (λ events calls st replay h.
       let at = staged_at x calls st c j pass h here in
       let may = stage_applies x st j pass at in
-      let stand = have_places places (setup_for x) (whole x) x.packets events calls st replay.answered in
+      let stand = have_places x events calls st replay.answered in
       let entered = stand.entered j pass at pre in
-      let carried = gone (setup_for x) (whole x) x.packets events calls st replay.answered in
-      let told = answers_up once fresh x events calls st pass.number answer call _ replay.answered entered.1 refl (stage_up_call pass.number answer) in
-      let came_shown = shows (whole x) calls (call ∷ []) (record (tick st) { passes = remove st.passes j }) answer (without_shown x calls st c mid j h passes up server commit down fates events_are idle)
+      let carried = have_gone x events calls st replay.answered in
+      let told = answers_up x events calls st pass.number answer call _ replay.answered entered.1 refl (stage_up_call pass.number answer) in
+      let came_shown = shows (whole x) calls (call ∷ []) (record (tick st) { passes = remove st.passes j }) answer (mid_shown calls st h)
       (record { gone = carried_passes (HasGoneUp calls) st j carried; pre = pre; entered = entered }) end_is told in
       let a = answered x (calls ++ call ∷ []) in
       record {
@@ -544,29 +442,29 @@ module _ (x : Given) (c mid after : Course) (old new : PortState) (j : ℕ) (pas
       })
 
   -- one that came down
-  pub stage_down_ends_it : PlaceLaw → OnceLaw → StepLaw → FreshDownLaw → GoneLaw → (end : DownEnd) (answer : DownAnswer) → end ≡ down_end_of answer → is_down_end answer ≡ true → pass.pre ≡ false
+  pub stage_down_ends_it : (end : DownEnd) (answer : DownAnswer) → end ≡ down_end_of answer → is_down_end answer ≡ true → pass.pre ≡ false
       → StagesDown end pass.number old new → ShowsDown mid pass end after → ((y : Given) → IsSound y mid → pass.pre ≡ false → FitsDown pass end → IsSound y after)
       → HasTurned x (event.Stage j) Did c old after new
-  stage_down_ends_it places once steps fresh gone end answer end_is ends post stages_so shows sound =
+  stage_down_ends_it end answer end_is ends post stages_so shows sound =
       let stages = subst (λ e. StagesDown e pass.number old new) end_is stages_so in
       let call = CalledStageDown pass.number answer in
       let last : is_down_end answer ≡ leb pass.left 1 = stage_down_ends x c old new j pass going here on post answer stages in
       let fits = down_fits pass answer (λ off. let bad = sym ends ∙ off in cc) in
       call_turned x (event.Stage j) c after old new call going tt (has_down_pass x c old new j pass going here on post, stages)
-      (sound x mid_sound post (subst (FitsDown pass) (sym end_is) fits)) (enough_spare stages.kept.spare) (counted ∙ events_are)
+      (sound x mid_sound post (subst (FitsDown pass) (sym end_is) fits)) (enough_spare stages.kept.spare) counted_so
       (λ events calls st replay h.
       let at = staged_at x calls st c j pass h here in
       let may = stage_applies x st j pass at in
-      let stand = have_places places (setup_for x) (whole x) x.packets events calls st replay.answered in
+      let stand = have_places x events calls st replay.answered in
       let held = stand.behind j pass at post in
-      let carried = gone (setup_for x) (whole x) x.packets events calls st replay.answered in
-      let told = answers_down once fresh x events calls st pass.number answer call _ replay.answered held.4 refl (stage_down_call pass.number answer) in
+      let carried = have_gone x events calls st replay.answered in
+      let told = answers_down x events calls st pass.number answer call _ replay.answered held.4 refl (stage_down_call pass.number answer) in
       let asks_so = asks_behind x (calls ++ call ∷ []) st j pass (is_down_end answer) at post last in
       let a = answered x (calls ++ call ∷ []) in
       let is : came_to a (record (tick st) { passes = remove st.passes j }) pass (is_down_end answer) ≡ staged a (tick st) j (slice_get st.passes j) =
       ap (came_to a (record (tick st) { passes = remove st.passes j }) pass) ends ∙ ended_is a st j pass at (sym last ∙ ends) in
-      let places_then = subst HavePlaces (sym is) (placed_after places steps x (event.Stage j) events calls call st may asks_so replay.answered) in
-      let came_shown = shows (whole x) calls (call ∷ []) (record (tick st) { passes = remove st.passes j }) answer (without_shown x calls st c mid j h passes up server commit down fates events_are idle)
+      let places_then = subst HavePlaces (sym is) (placed_after x (event.Stage j) events calls call st may asks_so replay.answered) in
+      let came_shown = shows (whole x) calls (call ∷ []) (record (tick st) { passes = remove st.passes j }) answer (mid_shown calls st h)
       (record { gone = carried_passes (HasGoneUp calls) st j carried; post = post; held = held; places = places_then }) end_is told in
       record {
         may = may;
@@ -586,59 +484,57 @@ pub framed_down : (x : Given) (c : Course) (port : PortState) (j n : ℕ) (frame
     → slice_get c.down.items j ≡ Some (n, frame) → IsDownFrame port frame
 framed_down x c port j n frame going here =
     subst (λ o. IfSome o (λ code. IsFrame 2 code.down frame)) (sym going.loaded)
-    (each_at (FramedDown x) c.down.items j (n, frame) going.sound.down here)
+    (each_got (FramedDown x) c.down.items j (n, frame) going.sound.down here)
 
-pub down_turned : PlaceLaw → OnceLaw → StepLaw → FreshDownLaw → GoneLaw → (x : Given) (c mid after : Course) (old new : PortState) (j n : ℕ) (frame : List ℕ) (pass : Pass) (end : DownEnd) (answer : DownAnswer)
+pub down_turned : (x : Given) (c mid after : Course) (old new : PortState) (j n : ℕ) (frame : List ℕ) (pass : Pass) (end : DownEnd) (answer : DownAnswer)
     → end ≡ down_end_of answer → IsGoing x c old → slice_get c.down.items j ≡ Some (n, frame) → number_in frame ≡ n → pass ≡ pass_for mid false n
-    → TakesDown x.manner.fine end frame old new
-    → mid.pre_stages ≡ c.pre_stages → mid.post_stages ≡ c.post_stages → mid.passes ≡ c.passes → mid.up ≡ c.up → mid.server ≡ c.server → mid.commit ≡ c.commit
-    → mid.down.items ≡ remove c.down.items j → mid.fates ≡ c.fates → mid.events ≡ c.events + 1 → mid.idle ≡ c.idle
+    → TakesDown x.manner.fine end frame old new → mid ≡ record c { down = mid.down; events = c.events + 1 } → mid.down.items ≡ remove c.down.items j
     → ShowsDown mid pass end after → ((y : Given) → IsSound y mid → pass.pre ≡ false → FitsDown pass end → IsSound y after)
     → unapplied after ≡ unapplied mid → after.events ≡ mid.events → HasTurned x (event.Down j) Did c old after new
-down_turned places once steps fresh gone x c mid after old new j n frame pass end answer end_is going here numbered pass_so takes_so pre_stages post_stages passes up server commit down fates events_are idle shows sound same counted =
+down_turned x c mid after old new j n frame pass end answer end_is going here numbered pass_so takes_so mid_is down shows sound same counted =
     let setup = setup_for x in
     let fine = x.manner.fine in
     let takes : TakesDown fine (down_end_of answer) frame old new = subst (λ e. TakesDown fine e frame old new) end_is takes_so in
-    let stages : mid.post_stages ≡ setup.post_stages = post_stages ∙ going.sound.post_stages in
+    let stages : mid.post_stages ≡ setup.post_stages = ap (λ (z : Course). z.post_stages) mid_is ∙ going.sound.post_stages in
     let post : pass.pre ≡ false = ap (λ (p : Pass). p.pre) pass_so in
     let number : pass.number ≡ n = ap (λ (p : Pass). p.number) pass_so in
     let left : pass.left ≡ setup.post_stages = ap (λ (p : Pass). p.left) pass_so ∙ stages in
     let ends : is_down_end answer ≡ eqb setup.post_stages 0 = down_ends_so x answer n frame old new going.loaded fine takes in
     let fits : FitsDown pass (down_end_of answer) = down_fits pass answer (λ off. subst (λ k. 0 < k) (sym left) (has_some setup.post_stages (is_down_end answer) ends off)) in
-    let framed = each_at (FramedDown x) c.down.items j (n, frame) going.sound.down here in
-    let mid_sound : IsSound x mid = taken_sound x c mid going.sound (subst (Each HasLeft) (sym passes) going.sound.left)
-    (let p = ap before_server passes in omega arith) pre_stages post_stages (ap (λ q. q.items) up) server commit
-    (subst (Each (FramedDown x)) (sym down) (each_remove (FramedDown x) c.down.items j going.sound.down)) (ap (λ q. q.items) fates)
-    (let i = going.sound.within.idle in omega arith) in
-    let same_left : unapplied after ≡ unapplied c = same ∙ ap (λ (k : Commit). length (commands k) - k.done) commit in
-    let spare : unapplied after ≤ new.spare = let more = down_spare x answer n frame old new going.loaded fine takes in let before = going.spare in subst (λ k. k ≤ new.spare) (sym same_left) (omega arith) in
+    let framed = each_got (FramedDown x) c.down.items j (n, frame) going.sound.down here in
+    let without : Course = record c { down = mid.down; events = c.events + 1 } in
+    let mid_sound : IsSound x mid = subst (IsSound x) (sym mid_is) (taken_sound x c without going.sound refl going.sound.left (omega arith)
+    (subst (Each (FramedDown x)) (sym down) (each_remove (FramedDown x) c.down.items j going.sound.down))) in
+    let spare : unapplied after ≤ new.spare = subst (λ k. k ≤ new.spare) (sym (same ∙ ap unapplied mid_is))
+    (le_trans _ _ _ going.spare (down_spare x answer n frame old new going.loaded fine takes)) in
     let call = CalledDown fine n frame answer in
     call_turned x (event.Down j) c after old new call going (framed, numbered) (down_made x answer n frame old new going.loaded fine takes)
-    (sound x mid_sound post (subst (FitsDown pass) (sym end_is) fits)) spare (counted ∙ events_are)
+    (sound x mid_sound post (subst (FitsDown pass) (sym end_is) fits)) spare (counted ∙ ap (λ (z : Course). z.events) mid_is)
     (λ events calls st replay h.
     let s = whole x in
     let all = calls ++ call ∷ [] in
     let a = answered x all in
     let at = down_at s calls st c h j (n, frame) here in
     let may : applies setup st (event.Down j) ≡ true = lt-ltb _ _ (slice_get_within st.down j n at) in
-    let stand = have_places places setup s x.packets events calls st replay.answered in
+    let stand = have_places x events calls st replay.answered in
     let held = stand.down j n at in
-    let carried = gone setup s x.packets events calls st replay.answered in
+    let carried = have_gone x events calls st replay.answered in
     let out : State = record (tick st) { down = remove st.down j } in
-    let mid_shown : IsShown s calls out mid = taken_out s calls st c mid st.passes (remove st.down j) h (passes ∙ h.passes) (ap (λ q. q.items) up) server commit
-    (ap (map number_of) down ∙ map_remove number_of c.down.items j ∙ ap (λ l. remove l j) h.down)
-    (λ k item e. get_removed c.down.items j k item (sym (ap (λ l. slice_get l k) down) ∙ e)) (ap (λ q. q.items) fates) events_are idle in
+    let mid_shown : IsShown s calls out mid = subst (IsShown s calls out) (sym mid_is) (moved_shown s calls calls st out c without h refl refl h.passes
+    h.up h.up_frames (λ k m need e. refl) (ap (map number_of) down ∙ map_remove number_of c.down.items j ∙ ap (λ l. remove l j) h.down)
+    (λ k item e. let r = get_removed c.down.items j k item (sym (ap (λ l. slice_get l k) down) ∙ e) in h.down_frames r.0 item r.1)
+    h.fates (ap (λ z. z + 1) h.events) h.idle) in
     let now : pass ≡ pass_of (tick st) false n setup.post_stages = pass_so ∙ pass_is s calls out mid false n mid_shown ∙ ap (pass_of (tick st) false n) stages in
     let went = carried.down n (get_member st.down j n at) in
     let frame_is : frame ≡ down_frame s all st n = h.down_frames j (n, frame) here
-    ∙ ap (λ u. s.serve_down (over_in (slice_get st.progress n)) (frame_in u)) (went.1 ∙ sym (still_up calls (call ∷ []) n (SentUp went.0) went.1)) in
+    ∙ ap (λ u. s.serve_down (over_in (slice_get st.progress n)) (frame_in u)) (went.1 ∙ sym (answer_stays calls (call ∷ []) n (SentUp went.0) went.1)) in
     let asks_so : question_of call ∷ [] ≡ asks setup s x.packets all st (event.Down j) =
     (λ i. AsksDown fine n (frame_is i) (ends i) ∷ []) ∙ ap (asks_down setup s all st) (sym at) in
     let is : came_to a out pass (is_down_end answer) ≡ happens setup a (tick st) (event.Down j) =
     (λ i. came_to a out (now i) (ends i)) ∙ came_is a out (pass_of (tick st) false n setup.post_stages) (eqb setup.post_stages 0) ∙ ap (came_down setup a (tick st) j) (sym at) in
     let told : down_answer all pass.number ≡ down_end answer = subst (λ k. down_answer all k ≡ down_end answer) (sym number)
-    (answers_down once fresh x events calls st n answer call _ replay.answered held.4 refl (down_call fine n frame answer)) in
-    let places_then = subst HavePlaces (sym is) (placed_after places steps x (event.Down j) events calls call st may asks_so replay.answered) in
+    (answers_down x events calls st n answer call _ replay.answered held.4 refl (down_call fine n frame answer)) in
+    let places_then = subst HavePlaces (sym is) (placed_after x (event.Down j) events calls call st may asks_so replay.answered) in
     let held_so : IsHeld out pass.number = subst (IsHeld out) (sym number) held in
     let came_shown = shows s calls (call ∷ []) out answer mid_shown
     (record { gone = carried_down (HasGoneUp calls) st j carried; post = post; held = held_so; places = places_then }) end_is told in

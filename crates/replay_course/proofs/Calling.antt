@@ -1,9 +1,7 @@
 -- What calls of a switch leave in its journal and its tables.
-use Rattle.std.proofs.Common.{◌≡◌, ℕ, true, false, List, [], ◌∷◌, ◌++◌, Option, Some, None, refl, ap, ◌∙◌, arith}
+use Rattle.std.proofs.Common.{◌≡◌, ℕ, true, false, [], ◌∷◌, ◌++◌, Option, Some, None, refl, ap, ◌∙◌, arith}
 use Rattle.std.specs.Prelude.{is_some}
-use Rattle.std.specs.List.{filter}
 use Rattle.std.specs.Option.{option_map}
-use Rattle.std.proofs.lemmas.List.Elements.{filter-append}
 use Rattle.gal_io.specs.Count.{IsCountedIf}
 use Rattle.switch_ir.specs.Code.{Code}
 use Rattle.switch_ir.specs.Port.{PortState, down_failed, noted_down, noted_up, up_failed}
@@ -18,6 +16,7 @@ use Rattle.split_answers.specs.Over.{IsGiven}
 use Rattle.split_answers.specs.Through.{down_end_of, end_of}
 use Rattle.replay_contracts.specs.Replayer.{StaysTold}
 use Rattle.replay_contracts.specs.Called.{KeepsCalls, WasCalled, WasMade, calls_in, entry_of, is_of_replay}
+use Rattle.replay_contracts.proofs.Calls.{one_entry}
 
 pub keeps_all : (port : PortState) → KeepsCalls port port
 keeps_all port = record { code = refl; told = refl; passes = refl; journal = refl; spare = omega arith; faults = refl }
@@ -44,14 +43,6 @@ pub record Made (call : Call) (old new : PortState) : Type 0 where
 some_map : (f : Told → Told) (o : Option Told) → is_some (option_map f o) ≡ is_some o
 some_map f None = refl
 some_map f (Some told) = refl
-
-one_entry : (journal more : List Entry) (entry : Entry) → is_of_replay entry ≡ true → more ≡ journal ++ entry ∷ []
-    → calls_in more ≡ calls_in journal ++ entry ∷ []
-one_entry journal more entry counts is =
-    ap calls_in is ∙ filter-append is_of_replay journal (entry ∷ []) ∙ ap (λ l. calls_in journal ++ l) (alone entry counts)
-  where
-    alone : (e : Entry) → is_of_replay e ≡ true → filter is_of_replay (e ∷ []) ≡ e ∷ []
-    alone e h = rw h refl
 
 made_by : (call : Call) (old new : PortState) → new.code ≡ old.code → new.told ≡ old.told → is_of_replay (entry_of call) ≡ true
     → new.journal ≡ old.journal ++ entry_of call ∷ [] → new.faults ≡ old.faults → Made call old new

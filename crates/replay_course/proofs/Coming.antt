@@ -44,51 +44,40 @@ module _ (s : SplitProgram) (calls more : List Call) (st : State) (c after : Cou
         → IsShown s (calls ++ more) (came_to (journal s (calls ++ more)) st pass (is_up_end answer)) after
     by_answer other is shown = subst (λ a. IsShown s (calls ++ more) (came_to (journal s (calls ++ more)) st pass (is_up_end a)) after) (sym is) shown
 
-    pub comes_finished : (verdict : Verdict) → up.Finished verdict ≡ end_of answer
-        → after.passes ≡ c.passes → after.up ≡ c.up → after.server ≡ c.server → after.commit ≡ c.commit → after.down ≡ c.down
+    pub comes_finished : (verdict : Verdict) → up.Finished verdict ≡ end_of answer → after ≡ record c { fates = after.fates }
         → after.fates.items ≡ slice_set c.fates.items pass.number (fates_of.finished c.events pass.version verdict (slice_get c.fates.items pass.number))
-        → after.events ≡ c.events → after.idle ≡ c.idle
         → IsShown s (calls ++ more) (came_to (journal s (calls ++ more)) st pass (is_up_end answer)) after
-    comes_finished verdict ends passes up server commit down fates events idle =
-        let is = is_finished answer verdict ends in
-        by_answer (Finished verdict) is
-        (finish_shown s calls more st c after pass h may.gone may.entered.0 may.entered.1 verdict may.pre (told ∙ ap up_end is) passes up server commit down fates events idle)
+    comes_finished verdict ends is fates =
+        let same = is_finished answer verdict ends in
+        by_answer (Finished verdict) same
+        (finish_shown s calls more st c after pass h may.gone may.entered.0 may.entered.1 verdict may.pre (told ∙ ap up_end same) is fates)
 
-    pub comes_up : (frame : List ℕ) → up.Up frame ≡ end_of answer
-        → after.passes ≡ c.passes → after.up.items ≡ c.up.items ++ (pass.number, frame) ∷ [] → after.server ≡ c.server → after.commit ≡ c.commit
-        → after.down ≡ c.down
+    pub comes_up : (frame : List ℕ) → up.Up frame ≡ end_of answer → after ≡ record c { up = after.up; fates = after.fates }
+        → after.up.items ≡ c.up.items ++ (pass.number, frame) ∷ []
         → after.fates.items ≡ slice_set c.fates.items pass.number (fates_of.went_up (slice_get c.fates.items pass.number))
-        → after.events ≡ c.events → after.idle ≡ c.idle
         → IsShown s (calls ++ more) (came_to (journal s (calls ++ more)) st pass (is_up_end answer)) after
-    comes_up frame ends passes up server commit down fates events idle =
-        let is = is_sent answer frame ends in
-        by_answer (SentUp frame) is
-        (send_up_shown s calls more st c after pass h may.gone may.entered.0 may.entered.1 frame may.pre (told ∙ ap up_end is) passes up server commit down fates events idle)
+    comes_up frame ends is up fates =
+        let same = is_sent answer frame ends in
+        by_answer (SentUp frame) same
+        (send_up_shown s calls more st c after pass h may.gone may.entered.0 may.entered.1 frame may.pre (told ∙ ap up_end same) is up fates)
 
-    pub comes_going : up.Going ≡ end_of answer
-        → after.passes ≡ c.passes ++ pass ∷ [] → after.up ≡ c.up → after.server ≡ c.server → after.commit ≡ c.commit → after.down ≡ c.down
-        → after.fates ≡ c.fates → after.events ≡ c.events → after.idle ≡ c.idle
+    pub comes_going : up.Going ≡ end_of answer → after ≡ record c { passes = c.passes ++ pass ∷ [] }
         → IsShown s (calls ++ more) (came_to (journal s (calls ++ more)) st pass (is_up_end answer)) after
-    comes_going ends passes up server commit down fates events idle =
-        by_answer GoingUp (is_going answer ends) (going_shown s calls more st c after pass h may.gone passes up server commit down fates events idle)
+    comes_going ends is = by_answer GoingUp (is_going answer ends) (going_shown s calls more st c after pass h may.gone is)
 
   module _ (answer : DownAnswer) (may : MayComeOut calls st pass (came_to (journal s (calls ++ more)) st pass (is_down_end answer)))
       (told : down_answer (calls ++ more) pass.number ≡ down_end answer) where
-    pub comes_out : (verdict : Verdict) → down.Verdict verdict ≡ down_end_of answer
-        → after.passes ≡ c.passes → after.up ≡ c.up → after.server ≡ c.server → after.commit ≡ c.commit → after.down ≡ c.down
+    pub comes_out : (verdict : Verdict) → down.Verdict verdict ≡ down_end_of answer → after ≡ record c { fates = after.fates }
         → after.fates.items ≡ slice_set c.fates.items pass.number (fates_of.released c.events verdict (slice_get c.fates.items pass.number))
-        → after.events ≡ c.events → after.idle ≡ c.idle
         → IsShown s (calls ++ more) (came_to (journal s (calls ++ more)) st pass (is_down_end answer)) after
-    comes_out verdict ends passes up server commit down fates events idle =
-        let is = is_released answer verdict ends in
-        let now = subst (λ a. MayComeOut calls st pass (came_to (journal s (calls ++ more)) st pass (is_down_end a))) is may in
-        subst (λ a. IsShown s (calls ++ more) (came_to (journal s (calls ++ more)) st pass (is_down_end a)) after) (sym is)
-        (release_shown s calls more st c after pass h now.gone verdict now.post now.held now.places (told ∙ ap down_end is) passes up server commit down fates events idle)
+    comes_out verdict ends is fates =
+        let same = is_released answer verdict ends in
+        let now = subst (λ a. MayComeOut calls st pass (came_to (journal s (calls ++ more)) st pass (is_down_end a))) same may in
+        subst (λ a. IsShown s (calls ++ more) (came_to (journal s (calls ++ more)) st pass (is_down_end a)) after) (sym same)
+        (release_shown s calls more st c after pass h now.gone verdict now.post now.held now.places (told ∙ ap down_end same) is fates)
 
-    pub goes_on_behind : down.Going ≡ down_end_of answer
-        → after.passes ≡ c.passes ++ pass ∷ [] → after.up ≡ c.up → after.server ≡ c.server → after.commit ≡ c.commit → after.down ≡ c.down
-        → after.fates ≡ c.fates → after.events ≡ c.events → after.idle ≡ c.idle
+    pub goes_on_behind : down.Going ≡ down_end_of answer → after ≡ record c { passes = c.passes ++ pass ∷ [] }
         → IsShown s (calls ++ more) (came_to (journal s (calls ++ more)) st pass (is_down_end answer)) after
-    goes_on_behind ends passes up server commit down fates events idle =
+    goes_on_behind ends is =
         subst (λ a. IsShown s (calls ++ more) (came_to (journal s (calls ++ more)) st pass (is_down_end a)) after) (sym (is_going_down answer ends))
-        (going_shown s calls more st c after pass h may.gone passes up server commit down fates events idle)
+        (going_shown s calls more st c after pass h may.gone is)

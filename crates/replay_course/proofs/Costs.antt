@@ -44,9 +44,6 @@ still_within sent n n' b more h = omega arith
 pub less_by_one : (a b : ℕ) → suc a ≤ b → a ≤ b
 less_by_one a b h = omega arith
 
-pub enough : (a b c : ℕ) → a ≤ b → b ≤ c → a ≤ c
-enough a b c h k = omega arith
-
 pub spare_served : (n n' b done spare : ℕ) → n' ≡ n + b → done ≤ n → (n - done) + b ≤ spare → n' - done ≤ spare
 spare_served n n' b done spare more within room = omega arith
 
@@ -56,6 +53,3 @@ first_within n k = let e : 0 + 0 + (n - 0) ≡ n = omega arith in let f : 0 + (0
 -- where there are no more of them
 pub commands_fall : (n n' m total : ℕ) → n' ≤ n → n + m ≤ total → n' + m ≤ total
 commands_fall n n' m total less h = omega arith
-
-pub spare_falls : (n n' done spare : ℕ) → n' ≤ n → n - done ≤ spare → n' - done ≤ spare
-spare_falls n n' done spare less h = omega arith

@@ -1,38 +1,35 @@
 -- The events that end a run, one after the other.
 use Rattle.std.proofs.Common.{◌≡◌, ◌<◌, ◌≤◌, ◌+◌, ◌-◌, ◌*◌, ◌^◌, ℕ, suc, Bool, true, false, List, [], ◌∷◌, ◌++◌, Option, Some, None, inl, inr, refl, sym, ap, subst, ◌∙◌, arith, length, map}
-use Rattle.std.specs.Prelude.{slice_get, nat_lt, not, ◌&&◌, if◌then◌else◌, is_some}
+use Rattle.std.specs.Prelude.{slice_get, nat_lt, not, ◌&&◌, if◌then◌else◌}
 use Rattle.std.proofs.lemmas.Bool.{cases_Bool, le-leb, lt-ltb, ltb-false}
-use Rattle.std.proofs.lemmas.List.{append-nil, append_assoc}
+use Rattle.std.proofs.lemmas.List.{append-nil, append_assoc, length-map, length_push}
 use Rattle.std.proofs.lemmas.Option.{none-some, same_Some}
-use Rattle.packet_fields.specs.declared.packet.Packet.{Packet}
 use Rattle.writeback_table.specs.declared.command.Command.{Command}
 use Rattle.output_commit.specs.declared.output.Output.{Output}
 use Rattle.run_model.specs.declared.event.Event.{Event}
 use Rattle.run_model.specs.declared.event.Event.TheVariants.{Admit, Stage, Serve, Send, Apply, Ack, Hold, Down}
 use Rattle.switch_ir.specs.Port.{PortState}
-use Rattle.replay_state.specs.Answers.{Answers, Setup}
 use Rattle.replay_state.specs.Drain.{drain_order, events_left, first_of, next_event, packet_events, pass_events, up_events, weight}
-use Rattle.replay_state.specs.Journal.{Call, IsAnswered, asked, journal, question_of}
-use Rattle.replay_state.specs.Program.{IsSplitProgram, Manner, SplitProgram, setup_of}
-use Rattle.replay_state.specs.Sound.{AreFew}
+use Rattle.replay_state.specs.Journal.{Call}
 use Rattle.output_commit.specs.Batches.{commands_in, visible}
 use Rattle.output_commit.specs.Commit.{commands}
 use Rattle.replay_state.specs.declared.pass.Pass.{Pass}
 use Rattle.replay_state.specs.State.{State, fate_of}
 use Rattle.replay_state.specs.Step.{applies, may_go, state_of, step, waits}
-use Rattle.replay_contracts.specs.Called.{WasCalled}
-use Rattle.replay_contracts.specs.Given.{Given, IsReady, code_for, setup_for, whole}
-use Rattle.replay_contracts.specs.Replay.{HasDrained, HasPicked, IsReplay, answered}
+use Rattle.replay_contracts.proofs.Laws.{a_drain_ends, a_drain_goes_on-begins, a_drain_goes_on-more, a_replay_goes_on}
+use Rattle.replay_state.proofs.Laws.{a_run_is_answered_by_its_calls-state_stays, drain_ends-falls, whole_runs_are_sound-few_answered}
+use Rattle.replay_contracts.specs.Given.{Given, setup_for, whole}
+use Rattle.replay_contracts.specs.Replay.{HasPicked, answered}
 use Rattle.replay_contracts.specs.declared.job.Stepped.{Stepped}
 use Rattle.replay_course.specs.declared.course.Course.{Course}
 use Rattle.replay_course.specs.Going.{HasTurned, IsGoing, IsPrepared, IsSound, MayCall}
 use Rattle.replay_course.specs.Shown.{IsShown}
 use Rattle.replay_course.specs.UnderWay.{Drains, IsDraining, IsOnItsWay, course_left, picked_by}
 use Rattle.replay_course.proofs.Calling.{stays_all, stays_more}
-use Rattle.replay_course.proofs.Lists.{each_at, length_map, length_push}
-use Rattle.replay_course.proofs.Room.{FindsRoom, SplitLaws, is_split_program}
+use Rattle.replay_course.proofs.Room.{is_split_program, may_call}
 use Rattle.replay_course.proofs.Sounding.{Needs}
 use Rattle.replay_course.proofs.Versions.{visible_past}
+use Rattle.lemmas.proofs.Lists.{each_got}
 
 -- ## What drain picks
 
@@ -54,8 +51,8 @@ and_true : (b c : Bool) → c ≡ true → (b && c) ≡ b
 and_true true c h = h
 and_true false c h = refl
 
-map_length : {X Y : Type 0} (f : X → Y) (xs : List X) (ys : List Y) → map f xs ≡ ys → length xs ≡ length ys
-map_length f xs ys e = sym (length_map f xs) ∙ ap length e
+pub map_length : {X Y : Type 0} (f : X → Y) (xs : List X) (ys : List Y) → map f xs ≡ ys → length xs ≡ length ys
+map_length f xs ys e = sym (length-map xs f) ∙ ap length e
 
 module _ (x : Given) (calls : List Call) (st : State) (c : Course) (plain : IsPrepared x) (sound : IsSound x c) (h : IsShown (whole x) calls st c) where
   -- the first held output may go, where every command is acknowledged
@@ -71,7 +68,7 @@ module _ (x : Given) (calls : List Call) (st : State) (c : Course) (plain : IsPr
       → nat_lt 0 (length l) ≡ may_go (visible st.batches st.acked) (slice_get (map (λ (o : Output). (o.number, o.need)) l) 0)
   front_goes [] is known = refl
   front_goes (o ∷ l) is known =
-      let need : o.need ≤ c.server.version = each_at (Needs c.server.version) c.commit.held 0 o sound.needs (ap (λ q. slice_get q 0) is) in
+      let need : o.need ≤ c.server.version = each_got (Needs c.server.version) c.commit.held 0 o sound.needs (ap (λ q. slice_get q 0) is) in
       lt-ltb 0 (suc (length l)) (omega arith) ∙ sym (le-leb _ _ (subst (λ v. o.need ≤ v) known need))
 
   pub picked_is : picked_by (length x.packets) c ≡ next_event (setup_for x) st
@@ -84,7 +81,7 @@ module _ (x : Given) (calls : List Call) (st : State) (c : Course) (plain : IsPr
       same_if _ _ (Some (Down 0)) _ _ (ap (nat_lt 0) (map_length _ c.down.items st.down h.down)) (λ z.
       same_if _ _ (Some (Hold 0)) _ _ (front_goes c.commit.held refl (known_is a b d) ∙ ap (λ l. may_go (visible st.batches st.acked) (slice_get l 0)) h.held) (λ z.
       same_if _ _ (Some (Serve 0)) _ _ (ap (nat_lt 0) (map_length _ c.up.items st.up h.up)) (λ z.
-      same_if _ _ (Some Admit) _ _ (ap (λ n. nat_lt n (length x.packets)) (ap length h.fates ∙ length_map fate_of st.progress)) (λ z. refl))))))))
+      same_if _ _ (Some Admit) _ _ (ap (λ n. nat_lt n (length x.packets)) (ap length h.fates ∙ length-map st.progress fate_of)) (λ z. refl))))))))
 
 -- ## How many events are left
 
@@ -94,55 +91,19 @@ left_is x calls st c h =
     let up = map_length _ c.up.items st.up h.up in
     let held = map_length _ c.commit.held st.held h.held in
     let down = map_length _ c.down.items st.down h.down in
-    let fates : length c.fates.items ≡ length st.progress = ap length h.fates ∙ length_map fate_of st.progress in
+    let fates : length c.fates.items ≡ length st.progress = ap length h.fates ∙ length-map st.progress fate_of in
     λ i. (length x.packets - fates i) * packet_events setup + weight (pass_events setup) (h.passes i)
     + up i * up_events setup + held i * (2 + setup.post_stages) + down i * (1 + setup.post_stages)
     + 3 * (length (commands_in (h.batches i)) - h.sent i) + 2 * (h.sent i - h.done i) + (h.done i - h.acked i)
 
 -- ## One event more
 
-abbrev pub OnLaw : Type 0
-OnLaw = (x : Given) (events : List Event) (event : Event) (calls one : List Call) (st : State)
-    (old new : PortState) → IsReady x → IsReplay x events calls st old
-    → map question_of one ≡ asked (setup_for x) (whole x) x.packets (calls ++ one) st event
-    → WasCalled (code_for x) one old new
-    → IsReplay x (events ++ event ∷ []) (calls ++ one) (step (setup_for x) (answered x (calls ++ one)) st event) new
-
-abbrev pub FirstLaw : Type 0
-FirstLaw = (x : Given) (events : List Event) (calls : List Call) (st : State) (port : PortState)
-    → IsReplay x events calls st port → HasPicked x events [] calls st port
-
-abbrev pub MoreLaw : Type 0
-MoreLaw = (x : Given) (events more : List Event) (event : Event) (calls one : List Call) (st next : State)
-    (old new : PortState) → HasPicked x events more calls st old → next_event (setup_for x) st ≡ Some event
-    → is_some new.told ≡ is_some old.told → IsReplay x ((events ++ more) ++ event ∷ []) (calls ++ one) next new
-    → HasPicked x events (more ++ event ∷ []) (calls ++ one) next new
-
-abbrev pub EndLaw : Type 0
-EndLaw = (x : Given) (events more : List Event) (calls : List Call) (st : State) (port : PortState)
-    → IsReady x → HasPicked x events more calls st port → next_event (setup_for x) st ≡ None
-    → HasDrained x events more calls st port
-
-abbrev pub StaysLaw : Type 0
-StaysLaw = (setup : Setup) (s : SplitProgram) (packets : List Packet) (events : List Event)
-    (calls more : List Call) (st : State) → IsAnswered setup s packets events calls st
-    → st ≡ state_of setup (journal s (calls ++ more)) events
-
-abbrev pub FallsLaw : Type 0
-FallsLaw = (setup : Setup) (a : Answers) (events : List Event) (event : Event) → AreFew setup a
-    → (let st = state_of setup a events in
-    applies setup st event ≡ true → events_left setup (step setup a st event) < events_left setup st)
-
-abbrev pub FewLaw : Type 0
-FewLaw = (s : SplitProgram) (packets : List Packet) (manner : Manner) (calls : List Call)
-    → IsSplitProgram s packets → AreFew (setup_of s packets manner) (journal s calls)
-
 -- what a course picks
 abbrev pub PickLaw : Given → Course → Option Event → Type 0
 PickLaw x c o = (calls : List Call) (st : State) → IsPrepared x → IsSound x c → IsShown (whole x) calls st c → o ≡ next_event (setup_for x) st
 
-pub none_drained : FirstLaw → (x : Given) (c : Course) (port : PortState) → IsGoing x c port → IsDraining x 0 c port c port
-none_drained first x c port going = record {
+pub none_drained : (x : Given) (c : Course) (port : PortState) → IsGoing x c port → IsDraining x 0 c port c port
+none_drained x c port going = record {
   going = going;
   stays = stays_all port;
   events = omega arith;
@@ -150,15 +111,15 @@ none_drained first x c port going = record {
     more = [];
     others = [];
     last = st;
-    picked = subst (λ cs. HasPicked x events [] cs st port) (sym (append-nil calls)) (first x events calls st port replay);
+    picked = subst (λ cs. HasPicked x events [] cs st port) (sym (append-nil calls)) (a_drain_goes_on-begins x events calls st port replay);
     shown = subst (λ cs. IsShown (whole x) cs st c) (sym (append-nil calls)) shown;
     counted = refl;
   };
 }
 
-pub drains_more : OnLaw → MoreLaw → (x : Given) (count : ℕ) (event : Event) (stepped : Stepped) (c mid after : Course) (old port new : PortState)
+pub drains_more : (x : Given) (count : ℕ) (event : Event) (stepped : Stepped) (c mid after : Course) (old port new : PortState)
     → IsDraining x count c old mid port → PickLaw x mid (Some event) → HasTurned x event stepped mid port after new → IsDraining x (count + 1) c old after new
-drains_more on_law more_law x count event stepped c mid after old port new draining picks turned = record {
+drains_more x count event stepped c mid after old port new draining picks turned = record {
   going = turned.going;
   stays = stays_more old port new draining.stays turned.stays;
   events = let a = turned.counted in let b = draining.events in omega arith;
@@ -167,8 +128,8 @@ drains_more on_law more_law x count event stepped c mid after old port new drain
       let now = on.picked.replay in
       let t = turned.turns (events ++ on.more) (calls ++ on.others) on.last now on.shown in
       let picked_so = sym (picks (calls ++ on.others) on.last draining.going.prepared draining.going.sound on.shown) in
-      let after_one = on_law x (events ++ on.more) event (calls ++ on.others) t.one on.last port new draining.going.prepared.ready now t.asks t.called in
-      let all = more_law x events on.more event (calls ++ on.others) t.one on.last _ port new on.picked picked_so turned.stays.told after_one in
+      let after_one = a_replay_goes_on x (events ++ on.more) event (calls ++ on.others) t.one on.last port new draining.going.prepared.ready now t.asks t.called in
+      let all = a_drain_goes_on-more x events on.more event (calls ++ on.others) t.one on.last _ port new on.picked picked_so turned.stays.told after_one in
       let same = append_assoc calls on.others t.one in
       let next = step (setup_for x) (answered x ((calls ++ on.others) ++ t.one)) on.last event in
       record {
@@ -181,9 +142,9 @@ drains_more on_law more_law x count event stepped c mid after old port new drain
       };
 }
 
-pub has_drained : EndLaw → (x : Given) (count : ℕ) (c after : Course) (old new : PortState) → IsDraining x count c old after new
+pub has_drained : (x : Given) (count : ℕ) (c after : Course) (old new : PortState) → IsDraining x count c old after new
     → PickLaw x after None → Drains x count c old after new
-has_drained law x count c after old new draining picks = record {
+has_drained x count c after old new draining picks = record {
   going = draining.going;
   stays = draining.stays;
   events = draining.events;
@@ -191,7 +152,7 @@ has_drained law x count c after old new draining picks = record {
       let on = draining.turns events calls st replay shown in
       record {
         on = on;
-        drained = law x events on.more (calls ++ on.others) on.last new draining.going.prepared.ready on.picked
+        drained = a_drain_ends x events on.more (calls ++ on.others) on.last new draining.going.prepared.ready on.picked
             (sym (picks (calls ++ on.others) on.last draining.going.prepared draining.going.sound on.shown));
       };
 }
@@ -205,10 +166,10 @@ first_applies test (y ∷ xs) event e = elim (cases_Bool (test y)) [
   | inr f ↦ first_applies test xs event (rw f at e)
 ]
 
-pub left_falls : SplitLaws → StaysLaw → FewLaw → FallsLaw → (x : Given) (count : ℕ) (event : Event) (stepped : Stepped) (c mid after : Course) (old port new : PortState)
+pub left_falls : (x : Given) (count : ℕ) (event : Event) (stepped : Stepped) (c mid after : Course) (old port new : PortState)
     → IsOnItsWay x c old → IsDraining x count c old mid port → PickLaw x mid (Some event) → HasTurned x event stepped mid port after new
     → course_left x after < course_left x mid
-left_falls split stays few falls x count event stepped c mid after old port new way draining picks turned =
+left_falls x count event stepped c mid after old port new way draining picks turned =
     let on = draining.turns way.events way.under_way.calls way.under_way.st way.under_way.replay way.under_way.shown in
     let now = on.picked.replay in
     let events = way.events ++ on.more in
@@ -218,17 +179,17 @@ left_falls split stays few falls x count event stepped c mid after old port new 
     let a = answered x (calls ++ t.one) in
     let picked_so : next_event setup on.last ≡ Some event = sym (picks calls on.last draining.going.prepared draining.going.sound on.shown) in
     let may = first_applies (applies setup on.last) drain_order event picked_so in
-    let is : on.last ≡ state_of setup a events = stays setup (whole x) x.packets events calls t.one on.last now.answered in
+    let is : on.last ≡ state_of setup a events = a_run_is_answered_by_its_calls-state_stays setup (whole x) x.packets events calls t.one on.last now.answered in
     let less : events_left setup (step setup a on.last event) < events_left setup on.last =
     subst (λ w. events_left setup (step setup a w event) < events_left setup w) (sym is)
-    (falls setup a events event (few (whole x) x.packets x.manner (calls ++ t.one) (is_split_program split x mid port draining.going)) (subst (λ w. applies setup w event ≡ true) is may)) in
+    (drain_ends-falls setup a events event (whole_runs_are_sound-few_answered (whole x) x.packets x.manner (calls ++ t.one) (is_split_program x draining.going.prepared.ready)) (subst (λ w. applies setup w event ≡ true) is may)) in
     subst (λ n. n < course_left x mid) (sym (left_is x (calls ++ t.one) _ after t.shown))
     (subst (λ n. events_left setup (step setup a on.last event) < n) (sym (left_is x calls on.last mid on.shown)) less)
 
-pub drain_room : FindsRoom → (x : Given) (count : ℕ) (c mid : Course) (old port : PortState) → IsOnItsWay x c old → IsDraining x count c old mid port → MayCall x mid port
-drain_room room x count c mid old port way draining =
+pub drain_room : (x : Given) (count : ℕ) (c mid : Course) (old port : PortState) → IsOnItsWay x c old → IsDraining x count c old mid port → MayCall x mid port
+drain_room x count c mid old port way draining =
     let on = draining.turns way.events way.under_way.calls way.under_way.st way.under_way.replay way.under_way.shown in
-    room x (way.events ++ on.more) (way.under_way.calls ++ on.others) on.last mid port on.picked.replay on.shown draining.going
+    may_call x (way.events ++ on.more) (way.under_way.calls ++ on.others) on.last mid port on.picked.replay on.shown draining.going
 
 -- what a loop keeps beside: the events so far and those that are left
 pub few_drained : (x : Given) (count : ℕ) (c mid : Course) (old port : PortState) → IsDraining x count c old mid port → count + course_left x mid ≤ course_left x c

@@ -1,5 +1,5 @@
 -- What an error leaves of a port.
-use Rattle.std.proofs.Common.{◌≡◌, ℕ, Bool, true, false, List, [], ◌∷◌, ◌++◌, inl, inr, refl, sym, ap, subst, ◌∙◌, arith, map}
+use Rattle.std.proofs.Common.{◌≡◌, ℕ, Bool, true, false, List, [], ◌∷◌, ◌++◌, inl, inr, refl, sym, ap, subst, ◌∙◌, arith}
 use Rattle.std.specs.Prelude.{is_some}
 use Rattle.std.proofs.lemmas.List.{append_assoc, append-nil}
 use Rattle.std.proofs.lemmas.List.Elements.{filter-append}
@@ -8,17 +8,16 @@ use Rattle.packet_fields.specs.declared.packet.Packet.{Packet}
 use Rattle.writeback_table.specs.declared.command.Command.{Command}
 use Rattle.run_model.specs.declared.event.Event.{Event}
 use Rattle.switch_ir.specs.Code.{Code}
-use Rattle.switch_ir.specs.Port.{PortState, Commands, Keeps, Loads, MakesRoom, ShowsRows, StagesDown, StagesUp}
-use Rattle.switch_ir.specs.Port.{down_entry, down_failed, noted_down, noted_up, rows_entry, rows_failed, up_entry, up_failed}
+use Rattle.switch_ir.specs.Port.{PortState, Commands, Keeps, Loads, StagesDown, StagesUp}
+use Rattle.switch_ir.specs.Port.{down_entry, down_failed, noted_down, noted_up, up_entry, up_failed}
 use Rattle.switch_ir.specs.declared.journal.Entry.{Entry}
 use Rattle.switch_ir.specs.declared.journal.Entry.TheVariants as entry
 use Rattle.switch_ir.specs.declared.port.CommandEnd.TheVariants as command
 use Rattle.switch_ir.specs.declared.port.DownEnd.{DownEnd}
 use Rattle.switch_ir.specs.declared.port.PortEnd.TheVariants as port
-use Rattle.switch_ir.specs.declared.port.RowsEnd.{RowsEnd}
 use Rattle.switch_ir.specs.declared.port.UpEnd.{UpEnd}
-use Rattle.replay_state.specs.Journal.{Call, question_of}
-use Rattle.replay_contracts.specs.Called.{HasCalls, KeepsCalls, WasMade, calls_in, entry_of, is_of_replay, journal_of}
+use Rattle.replay_state.specs.Journal.{Call}
+use Rattle.replay_contracts.specs.Called.{HasCalls, KeepsCalls, calls_in, is_of_replay, journal_of}
 use Rattle.replay_contracts.specs.Given.{Given, code_for}
 use Rattle.replay_contracts.specs.Replayer.{Fails, HasBroken, StaysTold, is_port_fault}
 use Rattle.replay_contracts.specs.declared.job.ReplayError.{ReplayError}
@@ -26,7 +25,10 @@ use Rattle.replay_contracts.specs.declared.job.ReplayError.TheVariants as errors
 use Rattle.replay_course.specs.declared.course.Course.{Course}
 use Rattle.replay_course.specs.Going.{TakesDown, TakesUp}
 use Rattle.replay_course.specs.UnderWay.{HasGone, IsDraining, IsOnItsWay, IsUnderWay}
-use Rattle.replay_course.proofs.Calling.{keeps_all, kept_stays, made, made_stays}
+use Rattle.replay_course.proofs.Calling.{keeps_all, kept_stays}
+use Rattle.replay_course.proofs.Going.{counts_behind}
+use Rattle.replay_contracts.proofs.Asked.{none_asked}
+use Rattle.replay_contracts.proofs.Going.{journal_append}
 
 pub keeps_more : (old mid new : PortState) → KeepsCalls old mid → KeepsCalls mid new → KeepsCalls old new
 keeps_more old mid new one two = record {
@@ -53,18 +55,6 @@ goes_kept old new kept = record {
   stays = kept_stays old new kept;
 }
 
-pub goes_made : (call : Call) (old new : PortState) → WasMade call old new → GoesOn old new
-goes_made call old new was =
-    let is = made call old new was in record {
-      code = is.code;
-      journal = (entry_of call ∷ [], is.journal);
-      stays = made_stays call old new was;
-    }
-
-journal_more : (calls more : List Call) → journal_of (calls ++ more) ≡ journal_of calls ++ journal_of more
-journal_more [] more = refl
-journal_more (call ∷ calls) more = ap (λ l. entry_of call ∷ l) (journal_more calls more)
-
 -- so it is from the calls of one moment to those of a later one
 pub goes_by : (code : Code) (calls more : List Call) (old new : PortState) → HasCalls code calls old → HasCalls code (calls ++ more) new
     → StaysTold old new → GoesOn old new
@@ -72,20 +62,16 @@ goes_by code calls more old new before after stays = record {
   code = after.loaded ∙ sym before.loaded;
   journal = (
     journal_of more,
-    after.journal ∙ ap (λ l. entry.Load ∷ l) (journal_more calls more) ∙ ap (λ l. l ++ journal_of more) (sym before.journal),
+    after.journal ∙ ap (λ l. entry.Load ∷ l) (journal_append calls more) ∙ ap (λ l. l ++ journal_of more) (sym before.journal),
   );
   stays = stays;
 }
-
-no_calls : (calls : List Call) → map question_of calls ≡ [] → calls ≡ []
-no_calls [] e = refl
-no_calls (call ∷ calls) e = cc
 
 pub goes_gone : (x : Given) (events : List Event) (c after : Course) (first port : PortState) → IsUnderWay x [] c first
     → HasGone x events after first port → GoesOn first port
 goes_gone x events c after first port start gone =
     goes_by (code_for x) [] gone.under_way.calls first port
-    (subst (λ cs. HasCalls (code_for x) cs first) (no_calls start.calls start.replay.answered.asked) start.replay.called)
+    (subst (λ cs. HasCalls (code_for x) cs first) (none_asked start.calls start.replay.answered.asked) start.replay.called)
     gone.under_way.replay.called gone.stays
 
 pub goes_draining : (x : Given) (count : ℕ) (c mid : Course) (first port : PortState) → IsOnItsWay x c first
@@ -157,22 +143,6 @@ pub fails_stage_down : (e : ReplayError) (end : DownEnd) (number : ℕ) (old new
 fails_stage_down e end number old new same stages =
     fails_with e (down_failed end) (noted_down (λ answer. entry.StageDown number answer) end) old new same stages.kept.code stages.kept.told stages.journal stages.faults
 
-pub fails_rows : (e : ReplayError) (end : RowsEnd) (o : ℕ) (old new : PortState) → is_port_fault e ≡ rows_failed end
-    → ShowsRows end o old new → Fails e old new
-fails_rows e end o old new same shows = fails_by e (rows_failed end) (rows_entry o end) old new same shows.kept shows.journal shows.faults
-
--- one that made no entry
-fails_still : (e : ReplayError) (failed : Bool) (old new : PortState) → is_port_fault e ≡ failed → Keeps old new → new.journal ≡ old.journal
-    → IsCountedIf failed old.faults new.faults → Fails e old new
-fails_still e failed old new same kept journal counted =
-    fails_by e failed [] old new same kept (journal ∙ sym (append-nil old.journal)) counted
-
-pub fails_room : (commands : ℕ) (old new : PortState) → MakesRoom port.Failed commands old new → Fails errors.PortFault old new
-fails_room commands old new room = fails_still errors.PortFault true old new refl room.kept room.room room.faults
-
-pub no_room : (commands : ℕ) (old new : PortState) → MakesRoom port.NoMemory commands old new → Fails errors.NoMemory old new
-no_room commands old new room = fails_still errors.NoMemory false old new refl room.kept room.room room.faults
-
 pub fails_command : (c : Command) (old new : PortState) → Commands command.Failed c old new → Fails errors.PortFault old new
 fails_command c old new commands = record {
   code = commands.code;
@@ -203,3 +173,23 @@ broken_off x first begun loads = inr (record {
   loads = loads;
   fails = fails_there begun begun (goes_kept begun begun (keeps_all begun));
 })
+
+-- what an error leaves behind the calls of a replay, it leaves behind the load
+pub broken_behind : (x : Given) (e : ReplayError) (calls : List Call) (first begun old new : PortState) → Loads port.Done (code_for x) first begun
+    → HasCalls (code_for x) calls old → StaysTold begun old → Fails e old new → HasBroken x e first new
+broken_behind x e calls first begun old new loads called stays fails =
+    let more = fails.journal.0 in
+    inr (record {
+      begun = begun;
+      loads = loads;
+      fails = record {
+        code = fails.code ∙ called.loaded ∙ sym loads.state.code;
+        told = fails.told ∙ stays.told;
+        journal = (
+          journal_of calls ++ more,
+          fails.journal.1 ∙ ap (λ l. l ++ more) called.journal
+              ∙ sym (ap (λ l. l ++ (journal_of calls ++ more)) (ap calls_in loads.state.journal)),
+        );
+        fault = counts_behind e begun.faults old.faults new.faults stays.faults fails.fault;
+      };
+    })

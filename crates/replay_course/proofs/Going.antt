@@ -1,5 +1,5 @@
 -- The start of a replay, and the events of a schedule one after the other.
-use Rattle.std.proofs.Common.{◌≡◌, ◌<◌, ◌≤◌, ◌+◌, ◌*◌, ◌^◌, ◌-◌, ℕ, zero, suc, List, [], ◌∷◌, ◌++◌, Option, Some, None, refl, sym, ap, subst, ◌∙◌, arith, length, take}
+use Rattle.std.proofs.Common.{◌≡◌, ◌<◌, ◌≤◌, ◌+◌, ◌*◌, ◌^◌, ◌-◌, ℕ, List, [], ◌∷◌, ◌++◌, Option, Some, None, refl, sym, ap, subst, ◌∙◌, arith, length}
 use Rattle.std.specs.Prelude.{is_some}
 use Rattle.std.specs.List.{AllByRecursion as Each}
 use Rattle.std.proofs.Math.Nat.{mul-le-mul}
@@ -19,31 +19,30 @@ use Rattle.replay_state.specs.Journal.{Call}
 use Rattle.replay_state.specs.Program.{SplitProgram, manner_of}
 use Rattle.replay_state.specs.State.{first_state}
 use Rattle.replay_contracts.specs.Called.{calls_in}
-use Rattle.replay_contracts.specs.Given.{Given, IsReady, code_for, setup_for, whole}
-use Rattle.replay_contracts.specs.Replay.{IsLoaded, IsReplay}
+use Rattle.replay_contracts.specs.Given.{Given, code_for, setup_for, whole}
 use Rattle.replay_contracts.specs.Replayer.{is_port_fault}
 use Rattle.replay_contracts.specs.declared.job.ReplayError.{ReplayError}
 use Rattle.replay_contracts.specs.declared.job.Stepped.{Stepped}
 use Rattle.replay_course.specs.declared.course.Course.{Course}
 use Rattle.replay_course.specs.Going.{HasTurned, IsPrepared, IsSound, MayCall, most_commands, unapplied}
 use Rattle.replay_course.specs.Shown.{IsShown}
-use Rattle.replay_course.specs.UnderWay.{HasGone, IsUnderWay}
-use Rattle.replay_course.proofs.Calling.{stays_all, stays_more}
-use Rattle.replay_course.proofs.Draining.{OnLaw}
-use Rattle.replay_course.proofs.Lists.{length_push}
-use Rattle.replay_course.proofs.Room.{FindsRoom}
+use Rattle.replay_course.specs.UnderWay.{HasGone}
+use Rattle.replay_course.proofs.Calling.{stays_more}
+use Rattle.replay_contracts.proofs.Laws.{a_replay_begins, a_replay_goes_on}
+use Rattle.replay_course.proofs.Room.{may_call}
+use Rattle.std.proofs.lemmas.List.{length_push}
 
 -- ## One event more
 
-pub gone_on : OnLaw → (x : Given) (events : List Event) (event : Event) (stepped : Stepped) (c after : Course) (first old new : PortState)
+pub gone_on : (x : Given) (events : List Event) (event : Event) (stepped : Stepped) (c after : Course) (first old new : PortState)
     → HasGone x events c first old → HasTurned x event stepped c old after new → HasGone x (events ++ event ∷ []) after first new
-gone_on law x events event stepped c after first old new gone turned =
+gone_on x events event stepped c after first old new gone turned =
     let u = gone.under_way in
     let t = turned.turns events u.calls u.st u.replay u.shown in record {
       under_way = record {
         calls = u.calls ++ t.one;
         st = _;
-        replay = law x events event u.calls t.one u.st old new u.going.prepared.ready u.replay t.asks t.called;
+        replay = a_replay_goes_on x events event u.calls t.one u.st old new u.going.prepared.ready u.replay t.asks t.called;
         shown = t.shown;
         going = turned.going;
         counted = turned.counted ∙ ap (λ n. n + 1) u.counted ∙ sym (length_push events event);
@@ -51,20 +50,8 @@ gone_on law x events event stepped c after first old new gone turned =
       stays = stays_more first old new gone.stays turned.stays;
     }
 
-pub not_gone : (x : Given) (c : Course) (port : PortState) → IsUnderWay x [] c port → HasGone x [] c port port
-not_gone x c port under_way = record { under_way = under_way; stays = stays_all port }
-
-pub room_by : FindsRoom → (x : Given) (events : List Event) (c : Course) (first port : PortState) → HasGone x events c first port → MayCall x c port
-room_by law x events c first port gone = let u = gone.under_way in law x events u.calls u.st c port u.replay u.shown u.going
-
-length_take : {X : Type 0} (n : ℕ) (xs : List X) → length (take n xs) ≤ n
-length_take zero xs = omega arith
-length_take (suc n) [] = omega arith
-length_take (suc n) (x ∷ xs) = let h = length_take n xs in omega arith
-
-pub few_events : (x : Given) (n : ℕ) (items : List Event) (c : Course) (first port : PortState) → HasGone x (take n items) c first port → n < length items
-    → length items < 2 ^ 32 - 1 → c.events < 2 ^ 32 - 1
-few_events x n items c first port gone less few = let count = gone.under_way.counted in let short = length_take n items in omega arith
+pub room_by : (x : Given) (events : List Event) (c : Course) (first port : PortState) → HasGone x events c first port → MayCall x c port
+room_by x events c first port gone = let u = gone.under_way in may_call x events u.calls u.st c port u.replay u.shown u.going
 
 -- what an error counts behind calls of which none failed, it counts over all of them
 pub counts_behind : (e : ReplayError) (first old new : ℕ) → old ≡ first → IsCountedIf (is_port_fault e) old new
@@ -72,9 +59,6 @@ pub counts_behind : (e : ReplayError) (first old new : ℕ) → old ≡ first �
 counts_behind e first old new same counts = counts ∙ ap (count_after (is_port_fault e)) same
 
 -- ## The start
-
-abbrev pub BeginLaw : Type 0
-BeginLaw = (x : Given) (port : PortState) → IsReady x → IsLoaded x port → IsReplay x [] [] (first_state (start_store x.program.objects)) port
 
 few_packets : (n k : ℕ) → n * k < 2 ^ 32 → 2 ≤ k → n ≤ 2 ^ 32
 few_packets n k few two = let same : n ≤ n = omega arith in let twice = mul-le-mul same two in omega arith
@@ -96,17 +80,17 @@ starts_with : (code : Code) (old new : Option Told) (told : Told) → StartsTold
 starts_with code None new told starts is = absurd (none-some told (sym starts ∙ is))
 starts_with code (Some before) new told starts is = subst (IsStart code) (same_Some _ _ (sym starts.1 ∙ is)) starts.2
 
-pub started : BeginLaw → (x : Given) (c : Course) (server : Server) (old new : PortState) (p q : ℕ) → IsPrepared x → Loads port.Done (code_for x) old new
+pub started : (x : Given) (c : Course) (server : Server) (old new : PortState) (p q : ℕ) → IsPrepared x → Loads port.Done (code_for x) old new
     → p ≡ (setup_for x).pre_stages → q ≡ (setup_for x).post_stages
     → server ≡ record { program = x.program; split = x.split; store = start_store x.program.objects; version = 0; evaluated = 0 }
     → ((s : SplitProgram) (calls : List Call) → IsShown s calls (first_state server.store) c)
     → ((y : Given) → server.program ≡ y.program → server.split ≡ y.split → x.writeback ≡ y.writeback → p ≡ (setup_for y).pre_stages
     → q ≡ (setup_for y).post_stages → IsSound y c) → unapplied c ≡ 0 → HasGone x [] c old new
-started begins x c server old new p q plain loads pre post is shown sound none = record {
+started x c server old new p q plain loads pre post is shown sound none = record {
   under_way = record {
     calls = [];
     st = first_state (start_store x.program.objects);
-    replay = begins x new plain.ready (record {
+    replay = a_replay_begins x new plain.ready (record {
       called = record { loaded = loads.state.code; journal = ap calls_in loads.state.journal };
       passes = loads.state.passes;
       start = λ told told_is. starts_with (code_for x) old.told new.told told loads.state.told told_is;

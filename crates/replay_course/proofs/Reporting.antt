@@ -1,13 +1,16 @@
 -- What is told of a course is what is told of the state that it shows.
-use Rattle.std.proofs.Common.{◌≡◌, ◌<◌, ◌≤◌, ◌*◌, ◌^◌, ℕ, Bool, true, false, List, refl, sym, ap, ◌∙◌, arith, length, map, eqb}
+use Rattle.std.proofs.Common.{◌≡◌, ◌<◌, ◌≤◌, ◌*◌, ◌^◌, ℕ, Bool, true, false, List, refl, sym, ap, subst, ◌∙◌, arith, length, eqb}
 use Rattle.std.proofs.Math.Nat.{mul-le-mul}
-use Rattle.std.specs.Prelude.{◌&&◌, count_by}
+use Rattle.std.specs.Prelude.{◌&&◌, IsSome, Option, Some, None, count_by}
 use Rattle.run_model.specs.Fate.{is_decided, is_released}
 use Rattle.run_model.specs.Order.{order_of}
 use Rattle.run_model.specs.Parts.{parts_of}
 use Rattle.run_model.specs.declared.run.ObjectRows.{ObjectRows}
 use Rattle.run_model.specs.declared.run.Run.{Run}
+use Rattle.run_model.specs.declared.event.Event.{Event}
 use Rattle.switch_ir.specs.Port.{PortState}
+use Rattle.switch_ir.specs.Tables.{Told}
+use Rattle.split_answers.specs.UnderWay.{AreOnSwitch}
 use Rattle.output_commit.specs.Batches.{commands_in, visible}
 use Rattle.output_commit.specs.Commit.{commands, visible as seen_by}
 use Rattle.replay_state.specs.Drain.{is_drained}
@@ -15,15 +18,17 @@ use Rattle.replay_state.specs.Journal.{Call}
 use Rattle.replay_state.specs.Run.{run_of}
 use Rattle.replay_state.specs.State.{State, fate_of, seen}
 use Rattle.replay_contracts.specs.Given.{Given, setup_for, whole}
+use Rattle.replay_contracts.specs.Called.{KeepsCalls}
 use Rattle.replay_contracts.specs.Promise.{Reports}
+use Rattle.replay_contracts.specs.Replay.{IsReplay, IsTold}
+use Rattle.replay_contracts.specs.declared.job.Replayed.{Replayed}
+use Rattle.replay_course.proofs.Calling.{keeps_all}
 use Rattle.replay_course.specs.declared.course.Course.{Course}
 use Rattle.replay_course.specs.Shown.{IsShown}
 use Rattle.replay_course.specs.Going.{IsPrepared, IsSound}
 use Rattle.replay_course.specs.Telling.{ShowsParts, is_done, told_run}
-use Rattle.replay_course.proofs.Lists.{length_map}
-
-map_length : {X Y : Type 0} (f : X → Y) (xs : List X) (ys : List Y) → map f xs ≡ ys → length xs ≡ length ys
-map_length f xs ys e = sym (length_map f xs) ∙ ap length e
+use Rattle.std.proofs.lemmas.List.{length-map}
+use Rattle.replay_course.proofs.Draining.{map_length}
 
 module _ (x : Given) (calls : List Call) (st : State) (c : Course) (h : IsShown (whole x) calls st c) where
   done_is : is_done (length x.packets) c ≡ is_drained (setup_for x) st
@@ -31,7 +36,7 @@ module _ (x : Given) (calls : List Call) (st : State) (c : Course) (h : IsShown 
       let up = map_length _ c.up.items st.up h.up in
       let held = map_length _ c.commit.held st.held h.held in
       let down = map_length _ c.down.items st.down h.down in
-      let fates : length c.fates.items ≡ length st.progress = ap length h.fates ∙ length_map fate_of st.progress in
+      let fates : length c.fates.items ≡ length st.progress = ap length h.fates ∙ length-map st.progress fate_of in
       (λ i. eqb (fates i) (length x.packets) && (eqb (length (h.passes i)) 0 && (eqb (up i) 0 && (eqb (held i) 0 && (eqb (down i) 0
       && eqb (h.acked i) (length (commands_in (h.batches i))))))))
       ∙ grouped (eqb (length st.progress) (length x.packets)) (eqb (length st.passes) 0) (eqb (length st.up) 0) (eqb (length st.held) 0) (eqb (length st.down) 0) _
@@ -74,6 +79,36 @@ reported x calls st c old new parts run number h shows is count =
   where
     with_parts : List ObjectRows → Run
     with_parts l = record (run_of (setup_for x) st) { switch = l }
+
+-- ## A port behind what was told of it
+
+pub kept_replay : (x : Given) (events : List Event) (calls : List Call) (st : State) (old new : PortState) → IsReplay x events calls st old
+    → KeepsCalls old new → IsReplay x events calls st new
+kept_replay x events calls st old new replay kept = record {
+  answered = replay.answered;
+  called = record { loaded = kept.code ∙ replay.called.loaded; journal = kept.journal ∙ replay.called.journal };
+  formed = replay.formed;
+  passes = subst (AreOnSwitch (setup_for x) x.packets st) (sym kept.passes) replay.passes;
+  told = λ tables is. subst (IsTold x events calls st tables) (sym kept.passes) (replay.told tables (sym kept.told ∙ is));
+}
+
+-- what was told behind calls for rows is told of the port as it is then
+pub reports_there : (x : Given) (st : State) (old new : PortState) (run : Run) (commands : ℕ) → Reports x st old new run commands
+    → Reports x st new new run commands
+reports_there x st old new run commands reports = record {
+  is = reports.is;
+  count = reports.count;
+  kept = keeps_all new;
+  rows = λ tables is. reports.rows tables (sym reports.kept.told ∙ is);
+}
+
+abbrev pub ReportsOf : Given → Course → PortState → PortState → Replayed → Type 0
+ReportsOf x c old new replayed = (calls : List Call) (st : State) → IsShown (whole x) calls st c
+    → Reports x st old new replayed.run replayed.commands
+
+pub some_of : (o : Option Told) → IsSome o → (told : Told) × (o ≡ Some told)
+some_of None some = absurd cc
+some_of (Some told) some = (told, refl)
 
 -- ## Packets and fates are few
 

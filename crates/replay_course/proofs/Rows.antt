@@ -17,7 +17,6 @@ use Rattle.replay_contracts.specs.Called.{KeepsCalls, calls_in, is_of_replay}
 use Rattle.replay_contracts.specs.Given.{Given, code_for}
 use Rattle.replay_contracts.specs.Promise.{told_parts}
 use Rattle.replay_course.specs.Telling.{ShowsParts}
-use Rattle.replay_course.proofs.Calling.{keeps_all}
 use Rattle.replay_course.proofs.Failing.{keeps_more}
 
 -- the rows of the objects below a number were found, and those behind it are to come
@@ -26,9 +25,6 @@ pub record IsShowing (x : Given) (n : ℕ) (parts : List ObjectRows) (first port
   pub rows : (told : Told) → first.told ≡ Some told
       → parts ++ told_parts (is_replicated x.program x.split) told n (drop n x.program.objects)
       ≡ told_parts (is_replicated x.program x.split) told 0 x.program.objects
-
-pub shows_none : (x : Given) (port : PortState) → IsShowing x 0 [] port port
-shows_none x port = record { kept = keeps_all port; rows = λ told is. refl }
 
 loaded_by : (code : Option Code) (c : Code) → code ≡ Some c → IsSome code
 loaded_by code c is = subst IsSome (sym is) refl

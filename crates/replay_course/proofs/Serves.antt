@@ -27,23 +27,21 @@ use Rattle.replay_contracts.specs.declared.job.Stepped.TheVariants.{Did}
 use Rattle.replay_course.specs.Fates as fates_of
 use Rattle.replay_course.specs.declared.course.Course.{Course}
 use Rattle.replay_course.specs.Going.{HasTurned, IsGoing, IsSound, MadeRoom, most_commands, unapplied}
-use Rattle.replay_course.proofs.Lists.{each_at, each_join, each_more, each_push, each_remove, length_remove, length_set}
-use Rattle.replay_course.proofs.Costs.{commands_served, enough, one_more_times, spare_served, still_within, undecided_served}
-use Rattle.replay_course.proofs.Counting.{before_server}
-use Rattle.replay_course.proofs.Sounding.{FramedDown, FramedHeld, FramedUp, HasLeft, Needs}
-use Rattle.replay_course.proofs.Travelling.{serve_shown}
-use Rattle.replay_course.proofs.Turning.{PlaceLaw, have_places, quiet_turned}
+use Rattle.std.proofs.lemmas.List.Edits.{length-remove}
+use Rattle.replay_course.proofs.Lists.{each_remove}
+use Rattle.replay_course.proofs.Costs.{commands_served, one_more_times, spare_served, still_within, undecided_served}
+use Rattle.replay_course.proofs.Sounding.{FramedHeld, FramedUp, Needs}
+use Rattle.replay_course.proofs.Travelling.{HasRun, serve_shown}
+use Rattle.replay_course.proofs.Turning.{have_places, quiet_turned}
 use Rattle.replay_course.proofs.Versions.{batch_count, before_next, changes_more, length_more, version_more, version_next}
-
--- what is told of the objects of a split program is told of its code
-abbrev pub ToldOf : Given → Type 0
-ToldOf x = (update : Update) → IsUpdateIn x.program x.split update → IsUpdateOf (code_for x) update
+use Rattle.split_answers.proofs.Laws.{replicated_objects_are_declared-updates}
+use Rattle.lemmas.proofs.Lists.{each_append, each_got, each_pushed, each_weaker, length_slice_set}
+use Rattle.lemmas.proofs.Numbers.{le_trans, same_within}
 
 -- ## A batch
 
-each_told : (x : Given) → ToldOf x → (updates : List Update) → Each (IsUpdateIn x.program x.split) updates → Each (IsUpdateOf (code_for x)) updates
-each_told x told [] fit = tt
-each_told x told (u ∷ us) fit = (told u fit.0, each_told x told us fit.1)
+each_told : (x : Given) (updates : List Update) → Each (IsUpdateIn x.program x.split) updates → Each (IsUpdateOf (code_for x)) updates
+each_told x updates fit = each_weaker _ _ (λ update. replicated_objects_are_declared-updates x.program x.split x.writeback update) updates fit
 
 -- ## What is served
 
@@ -70,32 +68,32 @@ pub served_by : (x : Given) (c : Course) (server : Runtime) (frame : List ℕ) (
     → IsServed (record (server_of c.server) { program = x.program; split = x.split }) frame s (record (server_of server) { program = x.program; split = x.split })
 served_by x c server frame s sound is = of_program x (server_of c.server) (server_of server) frame s sound.program sound.split is
 
-serve_sound : (x : Given) (c after : Course) (j n : ℕ) (frame : List ℕ) (s : Served) (server : Runtime) (fate : Fate) → ToldOf x → IsSound x c
-    → slice_get c.up.items j ≡ Some (n, frame) → IsServed (server_of c.server) frame s (server_of server)
-    → after.pre_stages ≡ c.pre_stages → after.post_stages ≡ c.post_stages → after.passes ≡ c.passes
-    → after.up.items ≡ remove c.up.items j → after.server ≡ server
+serve_sound : (x : Given) (c after : Course) (j n : ℕ) (frame : List ℕ) (s : Served) (fate : Fate) → IsSound x c
+    → slice_get c.up.items j ≡ Some (n, frame) → IsServed (server_of c.server) frame s (server_of after.server)
+    → after ≡ record c { up = after.up; server = after.server; commit = after.commit; fates = after.fates; events = c.events + 1 }
+    → after.up.items ≡ remove c.up.items j
     → after.commit ≡ with_output c.commit (record { number = n; need = s.version; frame = s.down }) s.updates
-    → after.down.items ≡ c.down.items → after.fates.items ≡ slice_set c.fates.items n fate → after.idle ≤ after.events → IsSound x after
-serve_sound x c after j n frame s server fate told h here is pre post passes up server_is commit down fates idle =
-    let done = served_by x c server frame s h is in
+    → after.fates.items ≡ slice_set c.fates.items n fate → IsSound x after
+serve_sound x c after j n frame s fate h here served is up commit fates =
+    let done = served_by x c after.server frame s h served in
     let output : Output = record { number = n; need = s.version; frame = s.down } in
-    let version : after.server.version ≡ version_after c.server.version s.updates = ap (λ z. z.version) server_is ∙ done.version in
+    let version : after.server.version ≡ version_after c.server.version s.updates = done.version in
     let batches : after.commit.batches ≡ c.commit.batches ++ batch_of s.updates = ap (λ (k : Commit). k.batches) commit in
     let held : after.commit.held ≡ c.commit.held ++ output ∷ [] = ap (λ (k : Commit). k.held) commit in
     let more = length_more c.commit.batches (batch_of s.updates) in
-    let less : length after.up.items + 1 ≡ length c.up.items = ap (λ l. length l + 1) up ∙ length_remove c.up.items j (n, frame) here in
-    let as_many : length after.fates.items ≡ length c.fates.items = ap length fates ∙ length_set c.fates.items n fate in
-    record {
-      program = ap (λ z. (server_of z).program) server_is ∙ is.program ∙ h.program;
-      split = ap (λ z. (server_of z).split) server_is ∙ is.split ∙ h.split;
-      pre_stages = pre ∙ h.pre_stages;
-      post_stages = post ∙ h.post_stages;
-      left = subst (Each HasLeft) (sym passes) h.left;
+    let less : length after.up.items + 1 ≡ length c.up.items = ap (λ l. length l + 1) up ∙ length-remove c.up.items j (slice_get_within c.up.items j (n, frame) here) in
+    let as_many : length after.fates.items ≡ length c.fates.items = ap length fates ∙ length_slice_set c.fates.items n fate in
+    subst (IsSound x) (sym is) (record {
+      program = served.program ∙ h.program;
+      split = served.split ∙ h.split;
+      pre_stages = h.pre_stages;
+      post_stages = h.post_stages;
+      left = h.left;
       up = subst (Each (FramedUp x)) (sym up) (each_remove (FramedUp x) c.up.items j h.up);
-      held = subst (Each (FramedHeld x)) (sym held) (each_push (FramedHeld x) c.commit.held output h.held done.is_frame);
-      down = subst (Each (FramedDown x)) (sym down) h.down;
+      held = subst (Each (FramedHeld x)) (sym held) (each_pushed (FramedHeld x) c.commit.held output h.held done.is_frame);
+      down = h.down;
       updates = subst (Each (IsUpdateOf (code_for x))) (sym (ap changes_in batches ∙ changes_more c.commit.batches s.updates))
-          (each_join (IsUpdateOf (code_for x)) (changes_in c.commit.batches) s.updates h.updates (each_told x told s.updates done.fit));
+          (each_append (IsUpdateOf (code_for x)) (changes_in c.commit.batches) s.updates h.updates (each_told x s.updates done.fit));
       writeback = ap (λ (k : Commit). k.writeback) commit ∙ h.writeback;
       order = subst IsInOrder (sym commit) (record {
         acked_within = h.order.acked_within;
@@ -103,41 +101,44 @@ serve_sound x c after j n frame s server fate told h here is pre post passes up 
         sent_within = still_within _ _ _ _ more h.order.sent_within;
       });
       version = version ∙ version_more c.server.version c.commit.batches s.updates h.version ∙ ap versions_in (sym batches);
-      needs = subst (Each (Needs after.server.version)) (sym held) (each_push (Needs after.server.version) c.commit.held output
-          (each_more (Needs c.server.version) (Needs after.server.version) c.commit.held
-          (λ o k. subst (λ v. o.need ≤ v) (sym version) (before_next c.server.version s.updates o.need k)) h.needs)
-          (let same : s.version ≡ after.server.version = done.told ∙ sym (ap (λ z. z.version) server_is) in omega (arith, same)));
+      needs = subst (Each (Needs after.server.version)) (sym held) (each_pushed (Needs after.server.version) c.commit.held output
+          (each_weaker (Needs c.server.version) (Needs after.server.version)
+          (λ o k. subst (λ v. o.need ≤ v) (sym version) (before_next c.server.version s.updates o.need k)) c.commit.held h.needs)
+          (same_within _ _ done.told));
       within = record {
-        idle = idle;
+        idle = let i = h.within.idle in omega arith;
         admitted = subst (λ k. k ≤ length x.packets) (sym as_many) h.within.admitted;
-        versions = undecided_served _ _ _ _ _ _ _ _ _ (ap before_server passes) less as_many (let next = version_next c.server.version s.updates in omega (arith, version)) h.within.versions;
-        commands = commands_served _ _ _ _ _ _ _ _ _ _ _ (ap (λ bs. length (commands_in bs)) batches ∙ more) (ap before_server passes) less (ap (λ k. length x.packets - k) as_many)
+        versions = undecided_served _ _ _ _ _ _ _ _ _ refl less as_many (let next = version_next c.server.version s.updates in omega (arith, version)) h.within.versions;
+        commands = commands_served _ _ _ _ _ _ _ _ _ _ _ (ap (λ bs. length (commands_in bs)) batches ∙ more) refl less (ap (λ k. length x.packets - k) as_many)
             (batch_count s.updates (whole x).writes done.few) h.within.commands;
       };
-    }
+    })
 
-pub serve_turned : PlaceLaw → (x : Given) (c after : Course) (old new : PortState) (j n : ℕ) (frame : List ℕ) (s : Served) (server : Runtime) → ToldOf x → IsGoing x c old
-    → slice_get c.up.items j ≡ Some (n, frame) → IsServed (server_of c.server) frame s (server_of server)
+pub serve_turned : (x : Given) (c after : Course) (old new : PortState) (j n : ℕ) (frame : List ℕ) (s : Served) → IsGoing x c old
+    → slice_get c.up.items j ≡ Some (n, frame) → IsServed (server_of c.server) frame s (server_of after.server)
     → MadeRoom (unapplied c + length (commands_in (batch_of s.updates))) old new
-    → after.pre_stages ≡ c.pre_stages → after.post_stages ≡ c.post_stages → after.passes ≡ c.passes
-    → after.up.items ≡ remove c.up.items j → after.server ≡ server
+    → after ≡ record c { up = after.up; server = after.server; commit = after.commit; fates = after.fates; events = c.events + 1 }
+    → after.up.items ≡ remove c.up.items j
     → after.commit ≡ with_output c.commit (record { number = n; need = s.version; frame = s.down }) s.updates
-    → after.down.items ≡ c.down.items
     → after.fates.items ≡ slice_set c.fates.items n (fates_of.decided (c.events + 1) s.version (slice_get c.fates.items n))
-    → after.events ≡ c.events + 1 → after.idle ≡ c.idle → HasTurned x (event.Serve j) Did c old after new
-serve_turned places x c after old new j n frame s server told going here is made pre post passes up server_is commit down fates events idle =
+    → HasTurned x (event.Serve j) Did c old after new
+serve_turned x c after old new j n frame s going here served made is up commit fates =
     let h = going.sound in
-    let done = served_by x c server frame s h is in
-    let sound = serve_sound x c after j n frame s server _ told h here is pre post passes up server_is commit down fates (let i = h.within.idle in omega (arith, events, idle)) in
-    let need : s.version ≡ after.server.version = done.told ∙ sym (ap (λ z. z.version) server_is) in
+    let done = served_by x c after.server frame s h served in
     let spare : unapplied after ≤ new.spare = subst (λ (k : Commit). length (commands k) - k.done ≤ new.spare) (sym commit)
-    (spare_served _ _ _ _ _ (length_more c.commit.batches (batch_of s.updates)) (enough _ _ _ h.order.done_within h.order.sent_within) made.spare) in
-    quiet_turned x (event.Serve j) Did c after old new going made.kept sound spare events (λ calls st shown may. refl) (λ events_so calls st replay shown.
-    let was = serve_shown (whole x) (setup_for x) calls st c after j n frame s.updates shown
-    (have_places places (setup_for x) (whole x) x.packets events_so calls st replay.answered) here passes up
-    (ap (λ z. z.store) server_is ∙ done.store) (ap (λ z. z.version) server_is ∙ done.version) (sym done.updates)
-    (commit ∙ (λ i. with_output c.commit (record { number = n; need = need i; frame = done.down i }) s.updates))
-    down (fates ∙ ap (λ v. slice_set c.fates.items n (fates_of.decided (c.events + 1) v (slice_get c.fates.items n))) need) events idle in
+    (spare_served _ _ _ _ _ (length_more c.commit.batches (batch_of s.updates)) (le_trans _ _ _ h.order.done_within h.order.sent_within) made.spare) in
+    let run : HasRun (whole x) c j n frame s.updates after = record {
+      is = is;
+      here = here;
+      up = up;
+      store = done.store;
+      version = done.version;
+      commit = commit ∙ (λ i. with_output c.commit (record { number = n; need = done.told i; frame = done.down i }) s.updates);
+      fates = fates ∙ ap (λ v. slice_set c.fates.items n (fates_of.decided (c.events + 1) v (slice_get c.fates.items n))) done.told;
+    } in
+    quiet_turned x (event.Serve j) Did c after old new going made.kept (serve_sound x c after j n frame s _ h here served is up commit fates) spare
+    (ap (λ (z : Course). z.events) is) (λ calls st shown may. refl) (λ events calls st replay shown.
+    let was = serve_shown (whole x) (setup_for x) calls st c after j n frame s.updates shown (have_places x events calls st replay.answered) run (sym done.updates) in
     (ap stepped_by (sym was.0), was.1))
 
 -- ## What the calls ask for
@@ -154,17 +155,17 @@ count_within (suc n) test = let h = count_within n test in by_test (test n) h
 pub few_writes : (x : Given) → IsSplit x.program x.split x.writeback → (whole x).writes ≤ 4096
 few_writes x is =
     let h = count_within (length x.program.code) (λ i. is_followed x.program x.split (step_at x.program i).work) in
-    enough _ _ _ h is.bounded.few
+    le_trans _ _ _ h is.bounded.few
 
 pub few_updates : (x : Given) (c : Course) (port : PortState) (frame : List ℕ) (s : Served) (server : Runtime) → IsGoing x c port
     → IsServed (server_of c.server) frame s (server_of server) → length s.updates ≤ 4096
-few_updates x c port frame s server going is = enough _ _ _ (served_by x c server frame s going.sound is).few (few_writes x going.prepared.ready.split)
+few_updates x c port frame s server going is = le_trans _ _ _ (served_by x c server frame s going.sound is).few (few_writes x going.prepared.ready.split)
 
 -- the frame is one of those that went up
 pub framed_up : (x : Given) (c : Course) (port : PortState) (j n : ℕ) (frame : List ℕ) → IsGoing x c port
     → slice_get c.up.items j ≡ Some (n, frame) → IsFrame 1 (up_layout (server_of c.server).program (server_of c.server).split) frame
 framed_up x c port j n frame going here =
-    let framed = each_at (FramedUp x) c.up.items j (n, frame) going.sound.up here in
+    let framed = each_got (FramedUp x) c.up.items j (n, frame) going.sound.up here in
     subst (λ f. IsFrame 1 (up_layout f (server_of c.server).split) frame) (sym going.sound.program)
     (subst (λ y. IsFrame 1 (up_layout x.program y) frame) (sym going.sound.split) framed)
 

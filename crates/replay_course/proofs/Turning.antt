@@ -2,7 +2,7 @@
 use Rattle.std.proofs.Common.{◌≡◌, ◌≤◌, ◌+◌, ℕ, suc, Bool, true, false, List, [], ◌∷◌, ◌++◌, Option, Some, None, inl, inr, refl, sym, ap, subst, ◌∙◌, arith, length, map, ltb}
 use Rattle.std.specs.Prelude.{slice_get, remove, if◌then◌else◌}
 use Rattle.std.proofs.lemmas.Bool.{cases_Bool, eq-eqb}
-use Rattle.std.proofs.lemmas.List.{append-nil}
+use Rattle.std.proofs.lemmas.List.{append-nil, length-map}
 use Rattle.std.proofs.lemmas.Option.{none-some}
 use Rattle.packet_fields.specs.declared.packet.Packet.{Packet}
 use Rattle.writeback_table.specs.declared.command.Command.{Command}
@@ -13,12 +13,14 @@ use Rattle.output_commit.specs.Batches.{fits}
 use Rattle.output_commit.specs.Commit.{Commit, commands, next}
 use Rattle.replay_state.specs.Answers.{Answers, Setup}
 use Rattle.replay_state.specs.Carried.{Carried}
-use Rattle.replay_state.specs.Journal.{Call, CalledCommand, CalledDown, CalledStageDown, CalledStageUp, CalledUp, DownAnswer, EndOnce, HasGoneUp, IsAnswered, UpAnswer, asked, asks, asks_command, down_answer, down_end, down_ends, has_come_down, has_passed, journal, one_if, only_for, or_else, question_of, up_answer, up_end, up_ends}
+use Rattle.replay_state.specs.Journal.{Call, CalledCommand, CalledDown, CalledStageDown, CalledStageUp, CalledUp, DownAnswer, HasGoneUp, IsAnswered, UpAnswer, asked, asks, asks_command, down_answer, down_end, has_come_down, has_passed, journal, one_if, only_for, or_else, question_of, up_answer, up_end}
+use Rattle.replay_state.proofs.Laws.{a_run_is_answered_by_its_calls-fresh_down as fresh_down, a_run_is_answered_by_its_calls-fresh_up as fresh_up}
+use Rattle.replay_state.proofs.Laws.{a_run_is_answered_by_its_calls-gone as went_up, a_run_is_answered_by_its_calls-once as end_once, a_run_is_answered_by_its_calls-step as answers_step, packets_are_where_they_are_told}
 use Rattle.replay_state.specs.Places.{HavePlaces}
 use Rattle.replay_state.specs.Program.{SplitProgram, setup_of}
 use Rattle.replay_state.specs.declared.pass.Pass.{Pass}
 use Rattle.replay_state.specs.State.{Progress, State, fate_of}
-use Rattle.replay_state.specs.Step.{applies, ended, happens, idled, state_of, step, tick}
+use Rattle.replay_state.specs.Step.{applies, ended, happens, idled, step, tick}
 use Rattle.split_answers.specs.Over.{IsGiven}
 use Rattle.replay_contracts.specs.Called.{KeepsCalls, WasMade}
 use Rattle.replay_contracts.specs.Given.{Given, code_for, setup_for, whole}
@@ -30,37 +32,17 @@ use Rattle.replay_course.specs.declared.course.Course.{Course}
 use Rattle.replay_course.specs.Going.{HasTurned, IsGoing, IsPrepared, IsSound, came_to, unapplied}
 use Rattle.replay_course.specs.Shown.{IsShown}
 use Rattle.replay_course.proofs.Calling.{called_once, keeps_all, kept_stays, made, made_stays}
-use Rattle.replay_course.proofs.Lists.{each_at, length_map, member_kept}
+use Rattle.replay_course.proofs.Lists.{member_kept}
 use Rattle.replay_course.proofs.Named.{commands_named}
+use Rattle.lemmas.proofs.Lists.{each_got}
 
--- ## The laws that are used
+-- ## What stands in a replay
 
-abbrev pub PlaceLaw : Type 0
-PlaceLaw = (setup : Setup) (a : Answers) (events : List Event) → HavePlaces (state_of setup a events)
+pub have_places : (x : Given) (events : List Event) (calls : List Call) (st : State) → IsAnswered (setup_for x) (whole x) x.packets events calls st → HavePlaces st
+have_places x events calls st h = subst HavePlaces (sym h.run) (packets_are_where_they_are_told (setup_for x) (journal (whole x) calls) events)
 
-abbrev pub OnceLaw : Type 0
-OnceLaw = (setup : Setup) (s : SplitProgram) (packets : List Packet) (events : List Event)
-    (calls : List Call) (st : State) → IsAnswered setup s packets events calls st → EndOnce calls st
-
-abbrev pub StepLaw : Type 0
-StepLaw = (setup : Setup) (s : SplitProgram) (packets : List Packet) (events : List Event) (ev : Event)
-    (calls one : List Call) (st : State) → IsAnswered setup s packets events calls st
-    → map question_of one ≡ asked setup s packets (calls ++ one) st ev
-    → IsAnswered setup s packets (events ++ ev ∷ []) (calls ++ one) (step setup (journal s (calls ++ one)) st ev)
-
-abbrev pub FreshUpLaw : Type 0
-FreshUpLaw = (calls more : List Call) (n : ℕ) → up_ends n calls ≡ 0 → up_answer (calls ++ more) n ≡ up_answer more n
-
-abbrev pub FreshDownLaw : Type 0
-FreshDownLaw = (calls more : List Call) (n : ℕ) → down_ends n calls ≡ 0 → down_answer (calls ++ more) n ≡ down_answer more n
-
-pub have_places : PlaceLaw → (setup : Setup) (s : SplitProgram) (packets : List Packet) (events : List Event) (calls : List Call) (st : State)
-    → IsAnswered setup s packets events calls st → HavePlaces st
-have_places law setup s packets events calls st h = subst HavePlaces (sym h.run) (law setup (journal s calls) events)
-
-abbrev pub GoneLaw : Type 0
-GoneLaw = (setup : Setup) (s : SplitProgram) (packets : List Packet) (events : List Event)
-    (calls : List Call) (st : State) → IsAnswered setup s packets events calls st → Carried (HasGoneUp calls) st
+pub have_gone : (x : Given) (events : List Event) (calls : List Call) (st : State) → IsAnswered (setup_for x) (whole x) x.packets events calls st → Carried (HasGoneUp calls) st
+have_gone x = went_up (setup_for x) (whole x) x.packets
 
 -- what fits is what the commit holds to
 pub fits_same : (x : Given) (c : Course) → IsPrepared x → IsSound x c → (setup_for x).fits ≡ fits c.commit.writeback
@@ -110,7 +92,7 @@ idle_turned x ev stepped c after port going idle sound same counted never shows 
     (λ events calls st replay h. (idle ∙ ap stepped_by (sym (never calls st h)), shows calls st (never calls st h) h))
 
 pub fates_count : (s : SplitProgram) (calls : List Call) (st : State) (c : Course) → IsShown s calls st c → length c.fates.items ≡ length st.progress
-fates_count s calls st c h = ap length h.fates ∙ length_map fate_of st.progress
+fates_count s calls st c h = ap length h.fates ∙ length-map st.progress fate_of
 
 -- ## Events that call the switch once
 
@@ -153,15 +135,15 @@ call_turned x ev c after old new call going given was sound spare counted leads 
       };
 }
 
--- where the state has places behind an event, which its law says
-pub placed_after : PlaceLaw → StepLaw → (x : Given) (ev : Event) (events : List Event) (calls : List Call) (call : Call) (st : State) → applies (setup_for x) st ev ≡ true
+-- where packets are behind an event
+pub placed_after : (x : Given) (ev : Event) (events : List Event) (calls : List Call) (call : Call) (st : State) → applies (setup_for x) st ev ≡ true
     → question_of call ∷ [] ≡ asks (setup_for x) (whole x) x.packets (calls ++ call ∷ []) st ev
     → IsAnswered (setup_for x) (whole x) x.packets events calls st
     → HavePlaces (happens (setup_for x) (answered x (calls ++ call ∷ [])) (tick st) ev)
-placed_after places steps x ev events calls call st may asks_so answered_so =
+placed_after x ev events calls call st may asks_so answered_so =
     subst HavePlaces (stepped_once x ev (calls ++ call ∷ []) st may)
-    (have_places places (setup_for x) (whole x) x.packets (events ++ ev ∷ []) (calls ++ call ∷ []) _
-    (steps (setup_for x) (whole x) x.packets events ev calls (call ∷ []) st answered_so
+    (have_places x (events ++ ev ∷ []) (calls ++ call ∷ []) _
+    (answers_step (setup_for x) (whole x) x.packets events ev calls (call ∷ []) st answered_so
     (asks_so ∙ ap (λ (b : Bool). if b then asks (setup_for x) (whole x) x.packets (calls ++ call ∷ []) st ev else []) (sym may))))
 
 -- ## Answers of a call
@@ -193,17 +175,17 @@ pub stage_down_call : (n : ℕ) (answer : DownAnswer) → IsDownCall n answer (C
 stage_down_call n answer = for_own n (down_end answer)
 
 -- no call before it ended that pass
-pub answers_up : OnceLaw → FreshUpLaw → (x : Given) (events : List Event) (calls : List Call) (st : State) (n : ℕ) (answer : UpAnswer) (call : Call) (o : Option Progress)
+pub answers_up : (x : Given) (events : List Event) (calls : List Call) (st : State) (n : ℕ) (answer : UpAnswer) (call : Call) (o : Option Progress)
     → IsAnswered (setup_for x) (whole x) x.packets events calls st → slice_get st.progress n ≡ o → has_passed o ≡ false → IsUpCall n answer call
     → up_answer (calls ++ call ∷ []) n ≡ up_end answer
-answers_up once fresh x events calls st n answer call o answered_so at none is =
-    fresh calls (call ∷ []) n ((once (setup_for x) (whole x) x.packets events calls st answered_so).up n ∙ ap (λ p. one_if (has_passed p)) at ∙ ap one_if none) ∙ is
+answers_up x events calls st n answer call o answered_so at none is =
+    fresh_up calls (call ∷ []) n ((end_once (setup_for x) (whole x) x.packets events calls st answered_so).up n ∙ ap (λ p. one_if (has_passed p)) at ∙ ap one_if none) ∙ is
 
-pub answers_down : OnceLaw → FreshDownLaw → (x : Given) (events : List Event) (calls : List Call) (st : State) (n : ℕ) (answer : DownAnswer) (call : Call) (o : Option Progress)
+pub answers_down : (x : Given) (events : List Event) (calls : List Call) (st : State) (n : ℕ) (answer : DownAnswer) (call : Call) (o : Option Progress)
     → IsAnswered (setup_for x) (whole x) x.packets events calls st → slice_get st.progress n ≡ o → has_come_down o ≡ false → IsDownCall n answer call
     → down_answer (calls ++ call ∷ []) n ≡ down_end answer
-answers_down once fresh x events calls st n answer call o answered_so at none is =
-    fresh calls (call ∷ []) n ((once (setup_for x) (whole x) x.packets events calls st answered_so).down n ∙ ap (λ p. one_if (has_come_down p)) at ∙ ap one_if none) ∙ is
+answers_down x events calls st n answer call o answered_so at none is =
+    fresh_down calls (call ∷ []) n ((end_once (setup_for x) (whole x) x.packets events calls st answered_so).down n ∙ ap (λ p. one_if (has_come_down p)) at ∙ ap one_if none) ∙ is
 
 -- a pass that ends, or goes on
 pub came_is : (a : Answers) (st : State) (pass : Pass) (b : Bool) → came_to a st pass b ≡ (if b then ended a st pass else record st { passes = st.passes ++ pass ∷ [] })
@@ -259,7 +241,7 @@ next_at k command e = elim (cases_Bool (ltb k.done k.sent)) [
 
 pub next_named : (x : Given) (c : Course) (command : Command) → IsSound x c → Some command ≡ next c.commit → IsCommandOf (code_for x) command
 next_named x c command sound here =
-    each_at (IsCommandOf (code_for x)) (commands c.commit) c.commit.done command (commands_named (code_for x) c.commit.batches sound.updates) (next_at c.commit command here)
+    each_got (IsCommandOf (code_for x)) (commands c.commit) c.commit.done command (commands_named (code_for x) c.commit.batches sound.updates) (next_at c.commit command here)
 
 -- the same of an event by its name
 pub at_event : (x : Given) (named ev : Event) (stepped : Stepped) (c after : Course) (old new : PortState) → named ≡ ev

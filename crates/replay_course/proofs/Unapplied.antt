@@ -11,8 +11,9 @@ use Rattle.replay_contracts.specs.Given.{Given}
 use Rattle.replay_course.specs.declared.course.Course.{Course}
 use Rattle.replay_state.specs.declared.pass.Pass.{Pass}
 use Rattle.replay_course.specs.Going.{IsSound, unless_waits}
-use Rattle.replay_course.proofs.Showing.{MergeLaw, goes, next_goes, stays}
-use Rattle.replay_course.proofs.Sounding.{hold_sound, idle_sound}
+use Rattle.output_commit.proofs.Laws.{a_batch_takes_up_others}
+use Rattle.replay_course.proofs.Showing.{goes, next_goes}
+use Rattle.replay_course.proofs.Sounding.{hold_sound}
 
 abbrev pub left_of : Commit → ℕ
 left_of k = length (commands k) - k.done
@@ -22,9 +23,9 @@ release_same k j None = refl
 release_same k j (Some out) = elim (cases_Bool (ltb (acknowledged k) out.need)) [ inl t ↦ rw t refl | inr f ↦ rw f refl ]
 
 -- where a batch takes up others there are fewer
-pub send_less : MergeLaw → (k : Commit) → left_of (after_send k) ≤ left_of k
-send_less law k = elim (cases_Bool (ltb k.sent (length (commands k)))) [
-  | inl t ↦ let fewer = (law (fits k.writeback) k.sent k.batches).fewer in rw t (omega arith)
+pub send_less : (k : Commit) → left_of (after_send k) ≤ left_of k
+send_less k = elim (cases_Bool (ltb k.sent (length (commands k)))) [
+  | inl t ↦ let fewer = (a_batch_takes_up_others (fits k.writeback) k.sent k.batches).fewer in rw t (omega arith)
   | inr f ↦ rw f (omega arith)
 ]
 
@@ -42,19 +43,14 @@ next_left k command passes h e =
 pub none_left : (k : Commit) → left_of k ≡ 0 + left_of k
 none_left k = omega arith
 
--- ## Outputs that go, or wait
+-- ## Outputs that go
 
-pub goes_sound : (x : Given) (c after : Course) (j n : ℕ) (f : List ℕ) → IsSound x c → after.pre_stages ≡ c.pre_stages → after.post_stages ≡ c.post_stages → after.passes ≡ c.passes → after.up.items ≡ c.up.items → after.server ≡ c.server
+pub goes_sound : (x : Given) (c after : Course) (j n : ℕ) (f : List ℕ) → IsSound x c
+    → after ≡ record c { commit = after.commit; down = after.down; events = c.events + 1 }
     → after.commit ≡ after_release c.commit j (slice_get c.commit.held j) → release.Frame n f ≡ answer c.commit (slice_get c.commit.held j)
-    → after.down.items ≡ c.down.items ++ (n, f) ∷ [] → after.fates.items ≡ c.fates.items → after.idle ≤ after.events → IsSound x after
-goes_sound x c after j n f h pre post passes up server commit ans down fates idle =
+    → after.down.items ≡ c.down.items ++ (n, f) ∷ [] → IsSound x after
+goes_sound x c after j n f h is commit ans down =
     let g = goes c.commit (slice_get c.commit.held j) n f ans in
     let now : after.commit ≡ record c.commit { held = remove c.commit.held j } = commit ∙ ap (after_release c.commit j) g.1 ∙ (rw g.2 refl) in
-    hold_sound x c after j g.0 h g.1 pre post passes up server now (down ∙ (λ i. c.down.items ++ (sym g.3 i, sym g.4 i) ∷ [])) fates idle
-
-pub waits_sound : (x : Given) (c after : Course) (j : ℕ) → IsSound x c → after.pre_stages ≡ c.pre_stages → after.post_stages ≡ c.post_stages → after.passes ≡ c.passes → after.up.items ≡ c.up.items → after.server ≡ c.server
-    → after.commit ≡ after_release c.commit j (slice_get c.commit.held j)
-    → ((n : ℕ) (f : List ℕ) → release.Frame n f ≡ answer c.commit (slice_get c.commit.held j) → ⊥)
-    → after.down.items ≡ c.down.items → after.fates.items ≡ c.fates.items → after.idle ≤ after.events → IsSound x after
-waits_sound x c after j h pre post passes up server commit never down fates idle =
-    idle_sound x c after h pre post passes up server (commit ∙ (stays c.commit j (slice_get c.commit.held j) never).0) down fates idle
+    hold_sound x c after j g.0 h g.1 (is ∙ (λ i. record c { commit = now i; down = after.down; events = c.events + 1 }))
+    (down ∙ (λ i. c.down.items ++ (sym g.3 i, sym g.4 i) ∷ []))

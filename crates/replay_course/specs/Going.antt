@@ -1,6 +1,6 @@
 -- What stands in a course between its events, whatever its switch answered, and what an event does to it and to its port.
 use Rattle.std.specs.Prelude.{◌≡◌, ◌≤◌, ◌<◌, ◌+◌, ◌-◌, ◌*◌, ◌^◌, ℕ, List, ◌++◌, Option, Some, None, length, map}
-use Rattle.std.specs.Prelude.{Bool, true, false, ⊤, [], ◌∷◌, suc, count_by, slice_get, slice_set, if◌then◌else◌}
+use Rattle.std.specs.Prelude.{Bool, true, false, ⊤, [], ◌∷◌, suc, count_by, slice_get, if◌then◌else◌}
 use Rattle.std.specs.List.{AllByRecursion as Each}
 use Rattle.packet_fields.specs.declared.packet.Packet.{Packet}
 use Rattle.split_model.specs.Bounds.{HasFewStages}
@@ -200,19 +200,6 @@ pub record MayComeOut (calls : List Call) (st : State) (pass : Pass) (after : St
 -- a pass with one stage less left
 abbrev pub less_one : Pass → Pass
 less_one pass = record pass { left = pass.left - 1 }
-
--- the pass at place j is so, and all else stays
-pub record HasStage (c : Course) (j : ℕ) (pass : Pass) (after : Course) : Type 0 where
-  pub passes : after.passes ≡ slice_set c.passes j (less_one pass)
-  pub pre_stages : after.pre_stages ≡ c.pre_stages
-  pub post_stages : after.post_stages ≡ c.post_stages
-  pub up : after.up ≡ c.up
-  pub server : after.server ≡ c.server
-  pub commit : after.commit ≡ c.commit
-  pub down : after.down ≡ c.down
-  pub fates : after.fates ≡ c.fates
-  pub events : after.events ≡ c.events
-  pub idle : after.idle ≡ c.idle
 
 -- ## One event
 

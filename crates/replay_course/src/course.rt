@@ -24,7 +24,7 @@ ghost use Rattle.replay_course.specs.Shown.{IsShown, called};
 use crate::fates::{finish_at, release_at, send_up_at};
 use crate::pass_queue::PassQueue;
 use gal_io::{Bytes, NoMemory};
-use output_commit::{Commit, Release, a_batch_takes_up_others};
+use output_commit::{Commit, Release};
 use replay_contracts::{ReplayError, Stepped};
 use replay_state::Pass;
 use run_model::Fate;
@@ -242,7 +242,6 @@ impl Course {
         ensures unapplied { unapplied self.new ≤ unapplied self.old }
         ensures counted { self.new.events ≡ self.old.events + 1 }
     {
-        a_batch_takes_up_others();
         self.events += 1;
         if self.commit.send_command() {
             Stepped::Did

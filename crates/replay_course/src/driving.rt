@@ -10,11 +10,8 @@ ghost use Rattle.replay_course.specs.Shown.{IsShown};
 ghost use Rattle.replay_course.specs.UnderWay.{HasGone, Drains, IsOnItsWay, IsUnderWay, course_left, picked_by};
 
 use crate::course::Course;
-use crate::laws::the_next_calls_may_be_made;
-use replay_contracts::{Job, ReplayError, a_drain_ends, a_drain_goes_on, a_replay_goes_on};
-use replay_state::{a_run_is_answered_by_its_calls, drain_ends, whole_runs_are_sound};
+use replay_contracts::{Job, ReplayError};
 use run_model::Event;
-use split_answers::split_programs_have_their_laws;
 use std::alloc::Global;
 use switch_ir::SwitchPort;
 
@@ -68,8 +65,6 @@ impl Course {
             (HasGone (given_of job.now) job.now.events self.new (S.seen port.old) (S.seen port.new)) }
         ensures fails { IfErr result (λ e. Fails e (S.seen port.old) (S.seen port.new)) }
     {
-        a_replay_goes_on();
-        the_next_calls_may_be_made();
         for event in job.events.as_slice() {
             self.step(alloc, job, port, *event)?;
         }
@@ -92,14 +87,6 @@ impl Course {
             count + course_left (given_of job.now) self.new ≤ course_left (given_of job.now) self.old) }
         ensures fails { IfErr result (λ e. Fails e (S.seen port.old) (S.seen port.new)) }
     {
-        a_replay_goes_on();
-        a_drain_goes_on();
-        a_drain_ends();
-        a_run_is_answered_by_its_calls();
-        drain_ends();
-        split_programs_have_their_laws();
-        the_next_calls_may_be_made();
-        whole_runs_are_sound();
         let mut count = 0;
         while let Some(event) = self.next_event(job) {
             self.step(alloc, job, port, event)?;

@@ -4,7 +4,6 @@
 mod course;
 mod driving;
 mod fates;
-mod laws;
 mod pass_queue;
 mod passes;
 mod report;
@@ -13,5 +12,4 @@ mod start;
 mod step;
 
 pub use course::Course;
-pub use laws::{few_events_are_left, the_next_calls_may_be_made};
 pub use pass_queue::PassQueue;

@@ -4,13 +4,13 @@ ghost use Rattle.packet_fields.specs.Sizes.{largest_packet};
 ghost use Rattle.run_model.specs.declared.event.Event.TheVariants as event;
 ghost use Rattle.switch_ir.specs.Port.{HasNoDownPassOf, HasNoUpPass, IsDownFrame, IsLoaded};
 ghost use Rattle.replay_contracts.specs.Replayer.{Fails, given_of};
-ghost use Rattle.replay_course.specs.Going.{HasStage, HasTurned, IsGoing, MayCall, TakesDown, TakesUp};
+ghost use Rattle.replay_course.specs.Going.{HasTurned, IsGoing, MayCall, TakesDown, TakesUp};
 
 use crate::course::Course;
 use gal_io::Bytes;
 use packet_fields::Packet;
 use replay_contracts::{Job, ReplayError, Stepped};
-use replay_state::{Pass, a_run_is_answered_by_its_calls, packets_are_where_they_are_told};
+use replay_state::Pass;
 use std::alloc::Global;
 use switch_ir::{CommandEnd, DownEnd, SwitchPort, UpEnd};
 
@@ -63,8 +63,6 @@ impl Course {
             HasTurned (given_of job.now) event.Admit stepped self.old (S.seen port.old) self.new (S.seen port.new)) }
         ensures fails { IfErr result (λ e. Fails e (S.seen port.old) (S.seen port.new)) }
     {
-        a_run_is_answered_by_its_calls();
-        packets_are_where_they_are_told();
         let Some(packet) = job.packets.as_slice().get(self.fates.len()) else {
             return Ok(self.idled());
         };
@@ -72,15 +70,6 @@ impl Course {
         let end = arrive(alloc, port, job.fine, pass.number, packet);
         self.come_in(pass, end)?;
         Ok(Stepped::Did)
-    }
-
-    // The pass at place `j` of those under way has one stage less left.
-    fn take_stage(&mut self, j: usize, pass: Pass)
-        requires there { slice_get self.old.passes j ≡ Some pass }
-        requires some { 1 < pass.left }
-        ensures { HasStage self.old j pass self.new }
-    {
-        self.passes.take_stage(j, pass);
     }
 
     // The pass at place `j`, of a packet that arrived, takes a stage.
@@ -102,12 +91,10 @@ impl Course {
             (S.seen port.new)) }
         ensures fails { IfErr result (λ e. Fails e (S.seen port.old) (S.seen port.new)) }
     {
-        a_run_is_answered_by_its_calls();
-        packets_are_where_they_are_told();
         self.events += 1;
         match port.stage_up(alloc, pass.number) {
             UpEnd::Going => {
-                self.take_stage(j as usize, pass);
+                self.passes.take_stage(j as usize, pass);
                 Ok(Stepped::Did)
             }
             end => {
@@ -137,12 +124,10 @@ impl Course {
             (S.seen port.new)) }
         ensures fails { IfErr result (λ e. Fails e (S.seen port.old) (S.seen port.new)) }
     {
-        a_run_is_answered_by_its_calls();
-        packets_are_where_they_are_told();
         self.events += 1;
         match port.stage_down(alloc, pass.number) {
             DownEnd::Going => {
-                self.take_stage(j as usize, pass);
+                self.passes.take_stage(j as usize, pass);
                 Ok(Stepped::Did)
             }
             end => {
@@ -213,8 +198,6 @@ impl Course {
             (S.seen port.new)) }
         ensures fails { IfErr result (λ e. Fails e (S.seen port.old) (S.seen port.new)) }
     {
-        a_run_is_answered_by_its_calls();
-        packets_are_where_they_are_told();
         let Some((number, frame)) = self.down.remove(j as usize) else {
             return Ok(self.idled());
         };

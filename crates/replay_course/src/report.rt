@@ -17,7 +17,6 @@ use crate::fates::{copy_fates, count_decided, count_released};
 use gal_io::NoMemory;
 use replay_contracts::{Job, ReplayError, Replayed};
 use run_model::{Fates, ObjectRows, Run, StoreRows, order};
-use split_answers::replicated_objects_are_declared;
 use split_model::replicated;
 use state_store::Rows;
 use std::alloc::Global;
@@ -52,7 +51,6 @@ fn switch_parts<S: SwitchPort>(
     ensures shows { IfOk result (λ parts. ShowsParts (given_of job.now) (S.seen port.old) (S.seen port.new) parts) }
     ensures fails { IfErr result (λ e. Fails e (S.seen port.old) (S.seen port.new)) }
 {
-    replicated_objects_are_declared();
     let mut parts = Vec::new(alloc);
     for number in 0..job.flat.objects.as_slice().len() {
         let object = number as u32;

@@ -16,9 +16,7 @@ use crate::fates::decide_at;
 use gal_io::{Bytes, NoMemory};
 use output_commit::Commit;
 use replay_contracts::{Job, ReplayError, Stepped};
-use replay_state::packets_are_where_they_are_told;
 use server_runtime::{ServeError, Served, Server};
-use split_answers::replicated_objects_are_declared;
 use std::alloc::Global;
 use switch_ir::{PortEnd, SwitchPort};
 use writeback_table::Updates;
@@ -77,8 +75,6 @@ impl Course {
             (S.seen port.new)) }
         ensures fails { IfErr result (λ e. Fails e (S.seen port.old) (S.seen port.new)) }
     {
-        packets_are_where_they_are_told();
-        replicated_objects_are_declared();
         let Some((number, frame)) = self.up.remove(j as usize) else {
             return Ok(self.idled());
         };

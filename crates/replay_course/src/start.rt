@@ -12,7 +12,7 @@ ghost use Rattle.replay_course.specs.Going.{most_commands};
 ghost use Rattle.replay_course.specs.UnderWay.{HasGone};
 
 use crate::course::Course;
-use replay_contracts::{Job, ReplayError, a_replay_begins};
+use replay_contracts::{Job, ReplayError};
 use server_runtime::Server;
 use state_store::Store;
 use std::alloc::Global;
@@ -64,7 +64,6 @@ impl Course {
         ensures fault { IfErr result (λ e. CountsFault e (S.seen port.old) (S.seen port.new)) }
         ensures fails { IfErr result (λ e. HasBroken (given_of job.now) e (S.seen port.old) (S.seen port.new)) }
     {
-        a_replay_begins();
         let _ = job.packets.as_slice();
         let code = emit(alloc, &job.flat, &job.split, job.writeback)?;
         load(alloc, port, &code)?;

@@ -1,6 +1,5 @@
 -- The run of a split program is one that a report can tell.
-use Rattle.std.proofs.Common.{◌≡◌, ◌≤◌, ◌<◌, ◌+◌, ◌^◌, ℕ, Bool, true, false, not, ◌&&◌, List, length, refl, sym, arith}
-use Rattle.std.proofs.Common.{true≢false}
+use Rattle.std.proofs.Common.{◌≡◌, ◌≤◌, ◌<◌, ◌+◌, ◌^◌, ℕ, true, List, length, arith}
 use Rattle.flat_ir.specs.Program.{Program}
 use Rattle.packet_fields.specs.declared.packet.Packet.{Packet}
 use Rattle.state_store.specs.Kept.{IsKept}
@@ -12,18 +11,15 @@ use Rattle.split_model.specs.declared.split.Part.{Part}
 use Rattle.split_model.specs.Shown.{is_replicated, is_shown}
 use Rattle.replay_state.specs.Program.{Manner, plain, setup_of}
 use Rattle.replay_state.specs.Run.{job_run, seen_store}
-use Rattle.replay_state.specs.State.{State, first_state}
-use Rattle.replay_state.specs.Step.{state_of, step}
+use Rattle.replay_state.specs.State.{first_state}
+use Rattle.replay_state.specs.Step.{state_of}
 use Rattle.split_answers.specs.Whole.{whole_of, IsSplit}
 use Rattle.report_text.specs.Form.{InForm}
 use Rattle.replay_reports.proofs.Versions.{visible_low}
 use Rattle.replay_reports.proofs.Small.{TellVerdicts, IsSmallState, first_small, steps_counted, steps_small, told_fates}
 use Rattle.replay_reports.proofs.Orders.{few, order_count, order_within}
 use Rattle.replay_reports.proofs.Parts.{numbers_from, server_parts, switch_order, switch_parts}
-
-changes : (constant shown : Bool) → (not constant && shown) ≡ true → constant ≡ false
-changes true shown h = absurd (true≢false (sym h))
-changes false shown h = refl
+use Rattle.lemmas.proofs.Tests.{false_of_not_and}
 
 -- a run whose packets are no more than the trace has, over stores that keep what was declared
 pub formed : (f : Program) (split : List Part) (writeback : ℕ) (packets : List Packet) (manner : Manner)
@@ -33,11 +29,10 @@ pub formed : (f : Program) (split : List Part) (writeback : ℕ) (packets : List
     let a = plain s packets in
     let st = state_of setup a events in
     IsSplit f split writeback → TellVerdicts a
-    → ((st : State) (event : Event) → (step setup a st event).events ≡ st.events + 1)
     → length (job_run setup a events).fates ≤ length packets → IsKept f.objects st.store
     → IsKept f.objects (seen_store st) → length packets < 2 ^ 32 → length events < 2 ^ 32
     → InForm f.objects (job_run setup a events))
-formed f split writeback packets manner events is told counted admitted server shown few_packets few_events =
+formed f split writeback packets manner events is told admitted server shown few_packets few_events =
     let s = whole_of f split writeback in
     let setup = setup_of s packets manner in
     let a = plain s packets in
@@ -45,7 +40,7 @@ formed f split writeback packets manner events is told counted admitted server s
     let st = state_of setup a events in
     let run = job_run setup a events in
     let small : IsSmallState st = steps_small setup a told start events (first_small (start_store f.objects)) in
-    let all : st.events ≡ 0 + length events = steps_counted setup a told counted start events in
+    let all : st.events ≡ 0 + length events = steps_counted setup a told start events in
     let version = small.version in
     let idle = small.idle in
     let versions = small.versions in
@@ -53,7 +48,7 @@ formed f split writeback packets manner events is told counted admitted server s
     let some_decided = few is_decided run.fates in
     let some_released = few is_released run.fates in
     let objects = is.bounded.small in
-    let changing = λ (n : ℕ) (h : is_replicated f split n ≡ true). changes (is_constant f.objects n) (is_shown f split n) h in
+    let changing = λ (n : ℕ) (h : is_replicated f split n ≡ true). false_of_not_and (is_constant f.objects n) (is_shown f split n) h in
     record {
       total = few_packets;
       admitted = omega arith;

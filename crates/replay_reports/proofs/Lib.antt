@@ -5,3 +5,4 @@ pub mod Orders
 pub mod Rows
 pub mod Parts
 pub mod Formed
+pub mod Laws

@@ -14,6 +14,8 @@ use Rattle.run_model.specs.Parts.{parts_from, parts_of, parts_where}
 use Rattle.split_model.specs.Bounds as bounds
 use Rattle.report_text.specs.Form.{IsPart, kept_from, AreInOrder}
 use Rattle.replay_reports.proofs.Rows.{kept_told}
+use Rattle.replay_reports.proofs.Versions.{if_both}
+use Rattle.state_store.proofs.Constants.{constant_at}
 
 -- ## Objects
 
@@ -23,12 +25,6 @@ small_at [] n d all there = absurd (none-some d there)
 small_at (x ∷ objects) zero d all there =
     subst (λ (o : ObjectDecl). o.size ≤ 1048576) (same_Some x d there) (All-head bounds.IsSmall x objects all).size
 small_at (x ∷ objects) (suc n) d all there = small_at objects n d (All-tail bounds.IsSmall x objects all) there
-
-constant_at : (objects : List ObjectDecl) (n : ℕ) (d : ObjectDecl) → slice_get objects n ≡ Some d
-    → is_constant objects n ≡ is_table d.kind
-constant_at [] n d there = absurd (none-some d there)
-constant_at (x ∷ objects) zero d there = ap (λ (o : ObjectDecl). is_table o.kind) (same_Some x d there)
-constant_at (x ∷ objects) (suc n) d there = constant_at objects n d there
 
 abbrev part_at : ℕ → Store → ObjectRows
 part_at n store = record { object = n; rows = rows_of (object_at store n) }
@@ -111,15 +107,10 @@ lower : (n k : ℕ) (parts : List ObjectRows) → n ≤ k → AreInOrder k parts
 lower n k [] low rising = tt
 lower n k (part ∷ parts) low rising = (omega arith, rising.1)
 
-rising_if : (test : Bool) (n : ℕ) (xs ys : List ObjectRows) → AreInOrder n xs → AreInOrder n ys
-    → AreInOrder n (if test then xs else ys)
-rising_if true n xs ys one other = one
-rising_if false n xs ys one other = other
-
 pub switch_order : (test : ℕ → Bool) (n : ℕ) (objects : List ObjectDecl) (store : Store)
     → AreInOrder n (parts_where test n objects store)
 switch_order test n [] store = tt
 switch_order test n (object ∷ objects) store =
     let rest = switch_order test (suc n) objects store in
-    rising_if (test n) n (part_at n store ∷ parts_where test (suc n) objects store) (parts_where test (suc n) objects store)
+    if_both (AreInOrder n) (test n) (part_at n store ∷ parts_where test (suc n) objects store) (parts_where test (suc n) objects store)
     (omega arith, rest) (lower n (suc n) (parts_where test (suc n) objects store) (omega arith) rest)

@@ -1,13 +1,13 @@
 -- The numbers of a run: none is above the number of its events.
-use Rattle.std.proofs.Common.{◌≡◌, ℕ, ◌+◌, ◌<◌, ◌≤◌, ◌^◌, Bool, true, false, List, [], ◌∷◌, ◌++◌, Option, Some, None}
+use Rattle.std.proofs.Common.{◌≡◌, ℕ, ◌+◌, ◌<◌, ◌≤◌, ◌^◌, true, false, List, [], ◌∷◌, ◌++◌, Option, Some, None}
 use Rattle.std.proofs.Common.{IfSome, refl, ◌∙◌, arith, zero, suc, length, map}
-use Rattle.std.specs.Prelude.{◌==◌, nat_le, if◌then◌else◌, slice_get, slice_set, remove}
+use Rattle.std.specs.Prelude.{◌==◌, nat_le, slice_get, slice_set, remove}
 use Rattle.std.specs.List.{AllByRecursion}
 use Rattle.packet_fields.specs.declared.verdict.Verdict.{Verdict}
 use Rattle.state_store.specs.Store.{Store}
 use Rattle.writeback_table.specs.declared.command.Update.{Update}
 use Rattle.run_model.specs.declared.event.Event.{Event}
-use Rattle.run_model.specs.declared.event.Event.TheVariants.{Admit, Stage, Serve, Send, Apply, Ack, Hold, Down}
+use Rattle.run_model.specs.declared.event.Event.TheVariants.{Admit, Stage, Serve, Send, Hold, Down}
 use Rattle.replay_state.specs.Answers.{Answers, Setup}
 use Rattle.replay_state.specs.declared.pass.Pass.{Pass}
 use Rattle.replay_state.specs.State.{State, Progress, Entered, Up, Held, Slow, Fast, fate_of, first_state, seen}
@@ -16,7 +16,9 @@ use Rattle.replay_state.specs.Step.{applies, happens, step, steps, tick, idled, 
 use Rattle.replay_state.specs.Step.{came_in, came_out, ended, entered, staged, pass_of, with_changes, ran, served}
 use Rattle.replay_state.specs.Step.{let_go, came_down, admitted}
 use Rattle.report_text.specs.Form.{IsVerdict, IsFate}
-use Rattle.replay_reports.proofs.Versions.{total, visible_low, total_more, total_merged}
+use Rattle.replay_state.proofs.Laws.{an_event_applies_or_is_idle-counted}
+use Rattle.lemmas.proofs.Lists.{each_map, each_pushed, each_weaker}
+use Rattle.replay_reports.proofs.Versions.{if_both, total, visible_low, total_more, total_merged}
 
 -- ## What holds of one packet
 
@@ -81,9 +83,8 @@ released_fits now version verdict (Some (Fast a d v y)) told h = h
 
 each_later : (now version now' version' : ℕ) (ps : List Progress) → now ≤ now' → version ≤ version'
     → AllByRecursion (Fits now version) ps → AllByRecursion (Fits now' version') ps
-each_later now version now' version' [] x y all = tt
-each_later now version now' version' (p ∷ ps) x y all =
-    (later now version now' version' p x y all.0, each_later now version now' version' ps x y all.1)
+each_later now version now' version' ps x y all =
+    each_weaker (Fits now version) (Fits now' version') (λ p h. later now version now' version' p x y h) ps all
 
 at_place : (P : Progress → Type 0) (ps : List Progress) (n : ℕ) → AllByRecursion P ps → IfSome (slice_get ps n) P
 at_place P [] n all = tt
@@ -96,11 +97,6 @@ each_set P [] n p all new = tt
 each_set P (x ∷ ps) zero p all new = (new, all.1)
 each_set P (x ∷ ps) (suc n) p all new = (all.0, each_set P ps n p all.1 new)
 
-each_more : (P : Progress → Type 0) (ps : List Progress) (p : Progress) → AllByRecursion P ps → P p
-    → AllByRecursion P (ps ++ p ∷ [])
-each_more P [] p all new = (new, tt)
-each_more P (x ∷ ps) p all new = (all.0, each_more P ps p all.1 new)
-
 -- ## A state
 
 pub record IsSmallState (st : State) : Type 0 where
@@ -108,10 +104,6 @@ pub record IsSmallState (st : State) : Type 0 where
   pub version : st.version ≤ st.events
   pub idle : st.idle ≤ st.events
   pub each : AllByRecursion (Fits st.events st.version) st.progress
-
-either : (test : Bool) (x y : State) → IsSmallState x → IsSmallState y → IsSmallState (if test then x else y)
-either true x y one other = one
-either false x y one other = other
 
 came_in_small : (st : State) (n : ℕ) (verdict : Option Verdict) → IfSome verdict IsVerdict → IsSmallState st
     → IsSmallState (came_in st n verdict)
@@ -143,7 +135,7 @@ came_out_small st n verdict told h = record {
 module _ (setup : Setup) (a : Answers) (told : TellVerdicts a) where
   ended_small : (st : State) (pass : Pass) → IsSmallState st → IsSmallState (ended a st pass)
   ended_small st pass h =
-      either pass.pre (came_in st pass.number (a.pre (store_at st.stores pass.version) pass.number))
+      if_both IsSmallState pass.pre (came_in st pass.number (a.pre (store_at st.stores pass.version) pass.number))
       (came_out st pass.number (λ over. a.post over pass.number))
       (came_in_small st pass.number (a.pre (store_at st.stores pass.version) pass.number)
       (told.pre (store_at st.stores pass.version) pass.number) h)
@@ -151,14 +143,14 @@ module _ (setup : Setup) (a : Answers) (told : TellVerdicts a) where
 
   entered_small : (st : State) (pass : Pass) → IsSmallState st → IsSmallState (entered a st pass)
   entered_small st pass h =
-      either (pass.left == 0) (ended a st pass) (record st { passes = st.passes ++ pass ∷ [] }) (ended_small st pass h)
+      if_both IsSmallState (pass.left == 0) (ended a st pass) (record st { passes = st.passes ++ pass ∷ [] }) (ended_small st pass h)
       (record { versions = h.versions; version = h.version; idle = h.idle; each = h.each })
 
   staged_small : (st : State) (j : ℕ) (pass : Option Pass) → IsSmallState st → IsSmallState (staged a st j pass)
   staged_small st j None h = h
   staged_small st j (Some pass) h =
       let without : State = record st { passes = remove st.passes j } in
-      either (nat_le pass.left 1) (ended a without pass) _
+      if_both IsSmallState (nat_le pass.left 1) (ended a without pass) _
       (ended_small without pass (record { versions = h.versions; version = h.version; idle = h.idle; each = h.each }))
       (record { versions = h.versions; version = h.version; idle = h.idle; each = h.each })
 
@@ -173,7 +165,7 @@ module _ (setup : Setup) (a : Answers) (told : TellVerdicts a) where
         versions = h.versions;
         version = h.version;
         idle = h.idle;
-        each = each_more _ st.progress (Entered st.events (seen st)) h.each new;
+        each = each_pushed _ st.progress (Entered st.events (seen st)) h.each new;
       })
 
   came_down_small : (st : State) (j : ℕ) (n : Option ℕ) → IsSmallState st → IsSmallState (came_down setup a st j n)
@@ -224,10 +216,9 @@ module _ (setup : Setup) (a : Answers) (told : TellVerdicts a) where
   happens_small st (Serve j) low h = served_small st j (slice_get st.up j) low h
   happens_small st Send low h =
       record { versions = total_merged setup.fits st.sent st.batches ∙ h.versions; version = h.version; idle = h.idle; each = h.each }
-  happens_small st Apply low h = record { versions = h.versions; version = h.version; idle = h.idle; each = h.each }
-  happens_small st Ack low h = record { versions = h.versions; version = h.version; idle = h.idle; each = h.each }
   happens_small st (Hold j) low h = let_go_small st j (slice_get st.held j) h
   happens_small st (Down j) low h = came_down_small st j (slice_get st.down j) h
+  happens_small st _ low h = record { versions = h.versions; version = h.version; idle = h.idle; each = h.each }
 
   tick_small : (st : State) → IsSmallState st → IsSmallState (tick st)
   tick_small st h = let version = h.version in let idle = h.idle in record {
@@ -248,7 +239,7 @@ module _ (setup : Setup) (a : Answers) (told : TellVerdicts a) where
   step_small : (st : State) (event : Event) → IsSmallState st → IsSmallState (step setup a st event)
   step_small st event h =
       let version = h.version in
-      either (applies setup st event) (happens setup a (tick st) event) (idled (tick st))
+      if_both IsSmallState (applies setup st event) (happens setup a (tick st) event) (idled (tick st))
       (happens_small (tick st) event (omega arith) (tick_small st h)) (idled_small st h)
 
   pub steps_small : (st : State) (events : List Event) → IsSmallState st → IsSmallState (steps setup a st events)
@@ -256,12 +247,11 @@ module _ (setup : Setup) (a : Answers) (told : TellVerdicts a) where
   steps_small st (event ∷ events) h = steps_small (step setup a st event) events (step_small st event h)
 
   -- each event is counted
-  pub steps_counted : ((st : State) (event : Event) → (step setup a st event).events ≡ st.events + 1) → (st : State)
-      (events : List Event) → (steps setup a st events).events ≡ st.events + length events
-  steps_counted counted st [] = omega arith
-  steps_counted counted st (event ∷ events) =
-      let one = counted st event in
-      let rest = steps_counted counted (step setup a st event) events in
+  pub steps_counted : (st : State) (events : List Event) → (steps setup a st events).events ≡ st.events + length events
+  steps_counted st [] = omega arith
+  steps_counted st (event ∷ events) =
+      let one = an_event_applies_or_is_idle-counted setup a st event in
+      let rest = steps_counted (step setup a st event) events in
       omega arith
 
 pub first_small : (store : Store) → IsSmallState (first_state store)
@@ -270,14 +260,12 @@ first_small store = record { versions = refl; version = omega arith; idle = omeg
 -- ## What is told
 
 told_fate : (now version : ℕ) (p : Progress) → now < 2 ^ 32 → version ≤ now → Fits now version p → IsFate (fate_of p)
-told_fate now version (Entered a v) low few h = omega arith
-told_fate now version (Up a) low few h = omega arith
 told_fate now version (Held a d v over) low few h = (omega arith, omega arith, omega arith)
 told_fate now version (Slow a d v y r) low few h = (omega arith, omega arith, omega arith, omega arith, h.4)
 told_fate now version (Fast a d v y) low few h = (omega arith, omega arith, omega arith, omega arith, h.3)
+told_fate now version _ low few h = omega arith
 
 pub told_fates : (now version : ℕ) (ps : List Progress) → now < 2 ^ 32 → version ≤ now
     → AllByRecursion (Fits now version) ps → AllByRecursion IsFate (map fate_of ps)
-told_fates now version [] low few all = tt
-told_fates now version (p ∷ ps) low few all =
-    (told_fate now version p low few all.0, told_fates now version ps low few all.1)
+told_fates now version ps low few all =
+    each_map IsFate fate_of ps (each_weaker (Fits now version) (λ p. IsFate (fate_of p)) (λ p h. told_fate now version p low few h) ps all)

@@ -1,10 +1,8 @@
 -- Verdicts of a flat program, which a report can tell.
-use Rattle.std.proofs.Common.{ℕ, ◌≤◌, ◌%◌, ◌^◌, Bool, true, false, List, [], ◌∷◌, Some, None, IfSome, arith, zero, suc}
-use Rattle.std.specs.Prelude.{◌==◌, if◌then◌else◌}
+use Rattle.std.proofs.Common.{ℕ, ◌≤◌, ◌%◌, ◌^◌, List, [], ◌∷◌, Some, None, IfSome, arith, zero, suc}
+use Rattle.std.specs.Prelude.{◌==◌}
 use Rattle.std.specs.List.{AllByRecursion as Each}
-use Rattle.packet_fields.specs.declared.field.Field.{Field}
 use Rattle.packet_fields.specs.declared.packet.Packet.{Packet}
-use Rattle.packet_fields.specs.declared.verdict.Verdict.{Verdict}
 use Rattle.packet_fields.specs.declared.verdict.Verdict.TheVariants.{Drop, Send}
 use Rattle.packet_fields.specs.Fields.{with_field}
 use Rattle.packet_fields.specs.Several.{AreBytes}
@@ -20,34 +18,28 @@ use Rattle.replay_state.specs.Program.{packet_at, plain}
 use Rattle.split_answers.specs.Whole.{whole_of}
 use Rattle.report_text.specs.Form.{IsVerdict}
 use Rattle.replay_reports.proofs.Small.{TellVerdicts}
+use Rattle.replay_reports.proofs.Versions.{if_both}
+use Rattle.packet_fields.proofs.Laws.{fields_stand_alone-bytes}
 
--- setting a field leaves bytes
-abbrev pub KeepsBytes : Type 0
-KeepsBytes = (bytes : List ℕ) (f : Field) (value : ℕ) → AreBytes bytes → AreBytes (with_field bytes f value)
-
-written : KeepsBytes → (ws : List FieldValue) (reads : Reading) (bytes : List ℕ) → AreBytes bytes
+written : (ws : List FieldValue) (reads : Reading) (bytes : List ℕ) → AreBytes bytes
     → AreBytes (with_writes ws reads bytes)
-written keeps [] reads bytes are = are
-written keeps (w ∷ ws) reads bytes are =
-    written keeps ws reads (with_field bytes w.field (reads w.value)) (keeps bytes w.field (reads w.value) are)
+written [] reads bytes are = are
+written (w ∷ ws) reads bytes are =
+    written ws reads (with_field bytes w.field (reads w.value)) (fields_stand_alone-bytes bytes w.field (reads w.value) are)
 
 low_port : (n : ℕ) → n % 2 ^ 8 ≤ 255
 low_port n = omega arith
 
-one_of : (test : Bool) (x y : Verdict) → IsVerdict x → IsVerdict y → IsVerdict (if test then x else y)
-one_of true x y one other = one
-one_of false x y one other = other
-
-sent_told : KeepsBytes → (send port : ValueId) (fields : List FieldValue) (reads : Reading) (packet : Packet)
+sent_told : (send port : ValueId) (fields : List FieldValue) (reads : Reading) (packet : Packet)
     → AreBytes packet.bytes → IsVerdict (sent send port fields reads packet)
-sent_told keeps send port fields reads packet are =
-    one_of (reads send == 0) Drop (Send (reads port % 2 ^ 8) (with_writes fields reads packet.bytes)) tt
-    (low_port (reads port), written keeps fields reads packet.bytes are)
+sent_told send port fields reads packet are =
+    if_both IsVerdict (reads send == 0) Drop (Send (reads port % 2 ^ 8) (with_writes fields reads packet.bytes)) tt
+    (low_port (reads port), written fields reads packet.bytes are)
 
 -- whatever the store
-verdict_told : KeepsBytes → (f : Program) (store : Store) (packet : Packet) → AreBytes packet.bytes
+verdict_told : (f : Program) (store : Store) (packet : Packet) → AreBytes packet.bytes
     → IsVerdict (flat_verdict f store packet)
-verdict_told keeps f store packet are = sent_told keeps f.send f.port f.fields (flat_run f store packet).reads packet are
+verdict_told f store packet are = sent_told f.send f.port f.fields (flat_run f store packet).reads packet are
 
 no_bytes : AreBytes []
 no_bytes i = omega arith
@@ -58,15 +50,11 @@ bytes_at [] n each = no_bytes
 bytes_at (packet ∷ packets) zero each = each.0.bytes
 bytes_at (packet ∷ packets) (suc n) each = bytes_at packets n each.1
 
-only_if : (test : Bool) (y : Verdict) → IsVerdict y → IfSome (if test then Some y else None) IsVerdict
-only_if true y told = told
-only_if false y told = tt
-
-pub whole_told : KeepsBytes → (f : Program) (split : List Part) (writeback : ℕ) (packets : List Packet)
+pub whole_told : (f : Program) (split : List Part) (writeback : ℕ) (packets : List Packet)
     → Each IsArrival packets → TellVerdicts (plain (whole_of f split writeback) packets)
-whole_told keeps f split writeback packets each = record {
+whole_told f split writeback packets each = record {
   pre = λ store n.
-      only_if _ (flat_verdict f store (packet_at packets n))
-      (verdict_told keeps f store (packet_at packets n) (bytes_at packets n each));
-  post = λ store n. verdict_told keeps f store (packet_at packets n) (bytes_at packets n each);
+      if_both (λ o. IfSome o IsVerdict) _ (Some (flat_verdict f store (packet_at packets n))) None
+      (verdict_told f store (packet_at packets n) (bytes_at packets n each)) tt;
+  post = λ store n. verdict_told f store (packet_at packets n) (bytes_at packets n each);
 }

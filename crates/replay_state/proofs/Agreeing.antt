@@ -1,25 +1,21 @@
 -- States that are stepped with answers which agree are the same.
-use Rattle.std.proofs.Common.{◌≡◌, ◌≤◌, ℕ, true, false, List, [], ◌∷◌, ◌++◌, ◌+◌, Option, Some, None, inl, inr, refl, ◌∙◌, ap, eqb, leb, length}
+use Rattle.std.proofs.Common.{◌≡◌, ◌≤◌, ℕ, true, false, [], ◌∷◌, ◌++◌, ◌+◌, Option, Some, None, inl, inr, refl, ◌∙◌, ap, eqb, leb, length}
 use Rattle.std.specs.Prelude.{slice_get, slice_set, remove}
 use Rattle.std.proofs.lemmas.Bool.{cases_Bool, eqb-true, leb-true}
 use Rattle.state_store.specs.Store.{Store}
 use Rattle.replay_state.specs.Answers.{Answers, Setup}
-use Rattle.replay_state.specs.State.{State, Progress, Entered, Up, Held, Slow, Fast, Pass, seen}
+use Rattle.replay_state.specs.State.{State, Progress, Entered, Held, Slow, Pass, seen}
 use Rattle.run_model.specs.declared.event.Event.{Event}
-use Rattle.run_model.specs.declared.event.Event.TheVariants.{Admit, Stage, Serve, Send, Apply, Ack, Hold, Down}
-use Rattle.replay_state.specs.Step.{applies, happens, step, steps, tick}
+use Rattle.run_model.specs.declared.event.Event.TheVariants.{Admit, Stage, Serve, Down}
+use Rattle.replay_state.specs.Step.{applies, happens, step, tick}
 use Rattle.replay_state.specs.Step.{released, came_in, ended, entered, staged, pass_of, with_changes, ran, served, came_down}
-use Rattle.replay_state.specs.Agree.{EndAlike, RunAlike, AgreeOn, Agree}
+use Rattle.replay_state.specs.Agree.{EndAlike, RunAlike, AgreeOn}
 
 module _ (setup : Setup) (a b : Answers) where
   released_alike : (n : ℕ) (event : ℕ) (o : Option Progress) → ((e d v : ℕ) (over : Store) → o ≡ Some (Held e d v over) → a.post over n ≡ b.post over n)
       → released (λ over. a.post over n) event o ≡ released (λ over. b.post over n) event o
-  released_alike n event None h = refl
-  released_alike n event (Some (Entered e v)) h = refl
-  released_alike n event (Some (Up e)) h = refl
   released_alike n event (Some (Held e d v over)) h = ap (λ y. Slow e d v y event) (h e d v over refl)
-  released_alike n event (Some (Slow e d v y r)) h = refl
-  released_alike n event (Some (Fast e d v y)) h = refl
+  released_alike n event o h = refl
 
   ended_alike : (st : State) (x : Pass) → EndAlike a b st x → ended a st x ≡ ended b st x
   ended_alike st x h = elim (cases_Bool x.pre) [
@@ -62,24 +58,14 @@ module _ (setup : Setup) (a b : Answers) where
   happens_alike : (st : State) (e : Event) → AgreeOn setup a b st e → happens setup a (tick st) e ≡ happens setup b (tick st) e
   happens_alike st Admit h =
       entered_alike (record (tick st) { progress = st.progress ++ Entered (st.events + 1) (seen st) ∷ [] }) (pass_of st true (length st.progress) setup.pre_stages)
-      (λ z. let e = h z in record { pre = e.pre; post = λ x d v over t. absurd (true_false t) })
-    where
-      true_false : true ≡ false → ⊥
-      true_false e = cc
+      (λ z. let e = h z in record { pre = e.pre; post = λ x d v over t. cc })
   happens_alike st (Stage j) h = staged_alike (tick st) j (slice_get st.passes j) (λ x low g. let e = h x low g in record { pre = e.pre; post = e.post })
   happens_alike st (Serve j) h = served_alike (tick st) j (slice_get st.up j) (λ n g. let e = h n g in record { after = e.after; changes = e.changes })
-  happens_alike st Send h = refl
-  happens_alike st Apply h = refl
-  happens_alike st Ack h = refl
-  happens_alike st (Hold j) h = refl
   happens_alike st (Down j) h = came_down_alike (tick st) j (slice_get st.down j) (λ n z g. let e = h n z g in record { pre = e.pre; post = e.post })
+  happens_alike st e h = refl
 
   pub step_alike : (st : State) (e : Event) → (applies setup st e ≡ true → AgreeOn setup a b st e) → step setup a st e ≡ step setup b st e
   step_alike st e h = elim (cases_Bool (applies setup st e)) [
     | inl t ↦ rw t (happens_alike st e (h t))
     | inr t ↦ rw t refl
   ]
-
-  pub steps_alike : (st : State) (es : List Event) → Agree setup a b st es → steps setup a st es ≡ steps setup b st es
-  steps_alike st [] h = refl
-  steps_alike st (e ∷ es) h = steps_alike (step setup a st e) es h.1 ∙ ap (λ x. steps setup b x es) (step_alike st e h.0)

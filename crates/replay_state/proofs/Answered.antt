@@ -3,25 +3,25 @@ use Rattle.std.proofs.Common.{◌≡◌, ℕ, ◌≤◌, Bool, true, false, cond
 use Rattle.std.specs.Prelude.{slice_get}
 use Rattle.std.proofs.lemmas.Bool.{eq-eqb, le-leb}
 use Rattle.std.proofs.lemmas.Option.{same_Some}
-use Rattle.std.proofs.lemmas.List.{map-append, append-nil}
+use Rattle.std.proofs.lemmas.List.{append-nil, append_assoc, map-append}
 use Rattle.packet_fields.specs.declared.packet.Packet.{Packet}
 use Rattle.packet_fields.specs.declared.verdict.Verdict.{Verdict}
 use Rattle.state_store.specs.Store.{start_store}
 use Rattle.replay_state.specs.Answers.{Setup}
 use Rattle.replay_state.specs.State.{State, Pass, first_state}
 use Rattle.run_model.specs.declared.event.Event.{Event}
-use Rattle.run_model.specs.declared.event.Event.TheVariants.{Admit, Stage, Serve, Send, Apply, Ack, Hold, Down}
+use Rattle.run_model.specs.declared.event.Event.TheVariants.{Admit, Stage, Serve, Down}
 use Rattle.replay_state.specs.Drain.{Picks}
-use Rattle.replay_state.specs.Step.{applies, state_of, step, steps}
+use Rattle.replay_state.specs.Step.{applies, step, steps}
 use Rattle.replay_state.specs.Step.{pass_of}
 use Rattle.replay_state.specs.Agree.{EndAlike, RunAlike, AgreeOn}
 use Rattle.run_model.specs.Meaning.{packet_at}
 use Rattle.run_model.specs.Members.{Member}
 use Rattle.run_model.proofs.Members.{get_member}
 use Rattle.replay_state.specs.Program.{SplitProgram}
-use Rattle.replay_state.specs.Journal.{UpAnswer, Finished, SentUp, GoingUp, DownAnswer, Released, GoingDown, Call, CalledUp, CalledStageUp, CalledCommand, CalledDown, CalledStageDown}
+use Rattle.replay_state.specs.Journal.{UpAnswer, Finished, SentUp, GoingUp, DownAnswer, Released, GoingDown, Call, CalledUp, CalledStageUp, CalledDown, CalledStageDown}
 use Rattle.replay_state.specs.Journal.{or_else, only_for, up_end, down_end, ends_up, ends_down, up_answer, down_answer, verdict_in, frame_in, told, journal, over_in, down_frame, is_up_end, is_down_end, question_of}
-use Rattle.replay_state.specs.Journal.{Question, AsksUp, AsksStageUp, AsksCommand, AsksDown, AsksStageDown, asks_stage, asks_down, asks, asked, questions, IsAnswered}
+use Rattle.replay_state.specs.Journal.{Question, AsksUp, AsksStageUp, AsksDown, AsksStageDown, asks_stage, asks_down, asks, asked, questions, IsAnswered}
 use Rattle.replay_state.proofs.Order.{member_left, member_right}
 use Rattle.replay_state.specs.Carried.{Carried}
 use Rattle.replay_state.proofs.Carried.{EndsWell, carried_step, carried_first}
@@ -63,16 +63,12 @@ ending false n = None
 abbrev pub up_of : Question → Option ℕ
 up_of (AsksUp fine n packet ends) = ending ends n
 up_of (AsksStageUp n ends) = ending ends n
-up_of (AsksCommand command) = None
-up_of (AsksDown fine n frame ends) = None
-up_of (AsksStageDown n ends) = None
+up_of question = None
 
 abbrev pub down_of : Question → Option ℕ
-down_of (AsksUp fine n packet ends) = None
-down_of (AsksStageUp n ends) = None
-down_of (AsksCommand command) = None
 down_of (AsksDown fine n frame ends) = ending ends n
 down_of (AsksStageDown n ends) = ending ends n
+down_of question = None
 
 only_same : {X : Type 0} (m n : ℕ) (o : Option X) → m ≡ n → only_for m n o ≡ o
 only_same m n o e = let t = eq-eqb m n e in rw t refl
@@ -89,22 +85,18 @@ down_given m n GoingDown h = cc
 call_up : (call : Call) (n : ℕ) → up_of (question_of call) ≡ Some n → (x : UpAnswer) × (ends_up n call ≡ Some x)
 call_up (CalledUp fine m packet answer) n h = up_given m n answer h
 call_up (CalledStageUp m answer) n h = up_given m n answer h
-call_up (CalledCommand command) n h = cc
-call_up (CalledDown fine m frame answer) n h = cc
-call_up (CalledStageDown m answer) n h = cc
+call_up call n h = cc
 
 call_down : (call : Call) (n : ℕ) → down_of (question_of call) ≡ Some n → (y : Verdict) × (ends_down n call ≡ Some y)
-call_down (CalledUp fine m packet answer) n h = cc
-call_down (CalledStageUp m answer) n h = cc
-call_down (CalledCommand command) n h = cc
 call_down (CalledDown fine m frame answer) n h = down_given m n answer h
 call_down (CalledStageDown m answer) n h = down_given m n answer h
+call_down call n h = cc
 
 or_some : {X : Type 0} (a b : Option X) → (x : X) × (b ≡ Some x) → (x : X) × (or_else a b ≡ Some x)
 or_some None b h = h
 or_some (Some x) b h = (x, refl)
 
-first_some : {X : Type 0} (a b : Option X) (x : X) → a ≡ Some x → or_else a b ≡ Some x
+pub first_some : {X : Type 0} (a b : Option X) (x : X) → a ≡ Some x → or_else a b ≡ Some x
 first_some a b x e = ap (λ o. or_else o b) e
 
 pub known_up : (calls : List Call) (q : Question) (n : ℕ) → Member q (map question_of calls) → up_of q ≡ Some n → KnownUp calls n
@@ -137,6 +129,9 @@ module _ (setup : Setup) (s : SplitProgram) (calls : List Call) where
         known_down calls q x.number (all q (rw t (inl refl))) (ap (λ b. ending b x.number) (le-leb x.left 1 low))),
   )
 
+  pub there_parts : (qs more : List Question) → AllThere (qs ++ more) → AllThere qs × AllThere more
+  there_parts qs more all = (λ q m. all q (member_left q qs more m), λ q m. all q (member_right q qs more m))
+
   pub some_stage : (o : Option Pass) (x : Pass) → AllThere (asks_stage o) → o ≡ Some x → AllThere (asks_stage (Some x))
   some_stage o x all e = subst (λ z. AllThere (asks_stage z)) e all
 
@@ -156,12 +151,7 @@ module _ (setup : Setup) (s : SplitProgram) (packets : List Packet) (calls : Lis
   ends_known : (w : State) (e : Event) → AllThere setup s calls (asks setup s packets calls w e) → EndsWell setup (journal s calls) (KnownUp calls) w e
   ends_known w Admit all = λ z none. admit_known w all z
   ends_known w (Stage j) all = λ x low g t none. (stage_known setup s calls x low (some_stage setup s calls (slice_get w.passes j) x all g)).0 t
-  ends_known w (Serve j) all = tt
-  ends_known w Send all = tt
-  ends_known w Apply all = tt
-  ends_known w Ack all = tt
-  ends_known w (Hold j) all = tt
-  ends_known w (Down j) all = tt
+  ends_known w e all = tt
 
   cover_step : (w : State) (e : Event) → AllThere setup s calls (asked setup s packets calls w e) → Carried (KnownUp calls) w → Carried (KnownUp calls) (step setup (journal s calls) w e)
   cover_step w e all c = carried_step setup (journal s calls) (KnownUp calls) w e (λ t. ends_known w e (rw t at all)) c
@@ -185,11 +175,8 @@ module _ (setup : Setup) (s : SplitProgram) (packets : List Packet) (calls : Lis
     agree_on w Admit all c = λ z. end_alike w (pass_of w true (length w.progress) setup.pre_stages) ((λ t. admit_known w all z), (λ t. cc))
     agree_on w (Stage j) all c = λ x low g. end_alike w x (stage_known setup s calls x low (some_stage setup s calls (slice_get w.passes j) x all g))
     agree_on w (Serve j) all c = λ n g. run_alike w n (c.up n (get_member w.up j n g))
-    agree_on w Send all c = tt
-    agree_on w Apply all c = tt
-    agree_on w Ack all c = tt
-    agree_on w (Hold j) all c = tt
     agree_on w (Down j) all c = λ n z g. end_alike w (pass_of w false n setup.post_stages) ((λ t. cc), (λ t. down_known setup s calls w (slice_get w.down j) all n z g))
+    agree_on w e all c = tt
 
     step_stays : (w : State) (e : Event) → AllThere setup s calls (asked setup s packets calls w e) → Carried (KnownUp calls) w → step setup (journal s calls) w e ≡ step setup (journal s (calls ++ more)) w e
     step_stays w e all c = step_alike setup (journal s calls) (journal s (calls ++ more)) w e (λ t. agree_on w e (rw t at all) c)
@@ -202,14 +189,8 @@ module _ (setup : Setup) (s : SplitProgram) (packets : List Packet) (calls : Lis
         asks_down_with w n frame = AsksDown setup.fine n (s.serve_down (over_in (slice_get w.progress n)) frame) (eqb setup.post_stages 0) ∷ []
 
     asks_stay : (w : State) (e : Event) → Carried (KnownUp calls) w → asks setup s packets calls w e ≡ asks setup s packets (calls ++ more) w e
-    asks_stay w Admit c = refl
-    asks_stay w (Stage j) c = refl
-    asks_stay w (Serve j) c = refl
-    asks_stay w Send c = refl
-    asks_stay w Apply c = refl
-    asks_stay w Ack c = refl
-    asks_stay w (Hold j) c = refl
     asks_stay w (Down j) c = frames_stay w (slice_get w.down j) (λ n g. c.down n (get_member w.down j n g))
+    asks_stay w e c = refl
 
     asked_stay : (w : State) (e : Event) → Carried (KnownUp calls) w → asked setup s packets calls w e ≡ asked setup s packets (calls ++ more) w e
     asked_stay w e c = ap (λ z. cond (applies setup w e) z []) (asks_stay w e c)
@@ -219,10 +200,9 @@ module _ (setup : Setup) (s : SplitProgram) (packets : List Packet) (calls : Lis
     run_stays w [] all c = (refl, refl)
     run_stays w (e ∷ es) all c =
         let next = step setup (journal s calls) w e in
-        let here : AllThere setup s calls (asked setup s packets calls w e) = λ q m. all q (member_left q (asked setup s packets calls w e) (questions setup s packets calls next es) m) in
-        let there : AllThere setup s calls (questions setup s packets calls next es) = λ q m. all q (member_right q (asked setup s packets calls w e) (questions setup s packets calls next es) m) in
-        let rest = run_stays next es there (cover_step w e here c) in
-        let same = step_stays w e here c in (
+        let parts = there_parts setup s calls (asked setup s packets calls w e) (questions setup s packets calls next es) all in
+        let rest = run_stays next es parts.1 (cover_step w e parts.0 c) in
+        let same = step_stays w e parts.0 c in (
           rest.0 ∙ ap (λ x. steps setup (journal s (calls ++ more)) x es) same,
           ap (λ q. q ++ questions setup s packets calls next es) (asked_stay w e c)
               ∙ ap (λ q. asked setup s packets (calls ++ more) w e ++ q) (rest.1 ∙ ap (λ x. questions setup s packets (calls ++ more) x es) same),
@@ -233,35 +213,27 @@ module _ (setup : Setup) (s : SplitProgram) (packets : List Packet) (calls : Lis
     picks_stay w [] all c p = tt
     picks_stay w (e ∷ es) all c p =
         let next = step setup (journal s calls) w e in
-        let here : AllThere setup s calls (asked setup s packets calls w e) = λ q m. all q (member_left q (asked setup s packets calls w e) (questions setup s packets calls next es) m) in
-        let there : AllThere setup s calls (questions setup s packets calls next es) = λ q m. all q (member_right q (asked setup s packets calls w e) (questions setup s packets calls next es) m) in
-        (p.0, subst (λ x. Picks setup (journal s (calls ++ more)) x es) (step_stays w e here c) (picks_stay next es there (cover_step w e here c) p.1))
+        let parts = there_parts setup s calls (asked setup s packets calls w e) (questions setup s packets calls next es) all in
+        (p.0, subst (λ x. Picks setup (journal s (calls ++ more)) x es) (step_stays w e parts.0 c) (picks_stay next es parts.1 (cover_step w e parts.0 c) p.1))
 
-    cover_steps : (w : State) (es : List Event) → AllThere setup s calls (questions setup s packets calls w es) → Carried (KnownUp calls) w → Carried (KnownUp calls) (steps setup (journal s calls) w es)
+    pub cover_steps : (w : State) (es : List Event) → AllThere setup s calls (questions setup s packets calls w es) → Carried (KnownUp calls) w
+        → Carried (KnownUp calls) (steps setup (journal s calls) w es)
     cover_steps w [] all c = c
     cover_steps w (e ∷ es) all c =
         let next = step setup (journal s calls) w e in
-        cover_steps next es
-        (λ q m. all q (member_right q (asked setup s packets calls w e) (questions setup s packets calls next es) m))
-        (cover_step w e (λ q m. all q (member_left q (asked setup s packets calls w e) (questions setup s packets calls next es) m)) c)
+        let parts = there_parts setup s calls (asked setup s packets calls w e) (questions setup s packets calls next es) all in
+        cover_steps next es parts.1 (cover_step w e parts.0 c)
 
-questions_append : (setup : Setup) (s : SplitProgram) (packets : List Packet) (calls : List Call) (w : State) (es more : List Event)
+pub questions_append : (setup : Setup) (s : SplitProgram) (packets : List Packet) (calls : List Call) (w : State) (es more : List Event)
     → questions setup s packets calls w (es ++ more) ≡ questions setup s packets calls w es ++ questions setup s packets calls (steps setup (journal s calls) w es) more
 questions_append setup s packets calls w [] more = refl
 questions_append setup s packets calls w (e ∷ es) more =
     ap (λ q. asked setup s packets calls w e ++ q) (questions_append setup s packets calls (step setup (journal s calls) w e) es more)
-    ∙ append_more (asked setup s packets calls w e) (questions setup s packets calls (step setup (journal s calls) w e) es) (questions setup s packets calls (steps setup (journal s calls) (step setup (journal s calls) w e) es) more)
-  where
-    append_more : {X : Type 0} (xs ys zs : List X) → xs ++ (ys ++ zs) ≡ (xs ++ ys) ++ zs
-    append_more [] ys zs = refl
-    append_more (x ∷ xs) ys zs = ap (λ l. x ∷ l) (append_more xs ys zs)
+    ∙ sym (append_assoc (asked setup s packets calls w e) _ _)
 
 module _ (setup : Setup) (s : SplitProgram) (packets : List Packet) where
   abbrev begin : State
   begin = first_state (start_store setup.objects)
-
-  pub first_answered : IsAnswered setup s packets [] [] begin
-  first_answered = record { run = refl; asked = refl }
 
   -- what is asked on the way stands in the journal
   pub all_asked : (events : List Event) (calls : List Call) (st : State) → IsAnswered setup s packets events calls st → AllThere setup s calls (questions setup s packets calls begin events)
@@ -283,27 +255,3 @@ module _ (setup : Setup) (s : SplitProgram) (packets : List Packet) where
             ∙ ap (λ q. questions setup s packets b w events ++ q) (new ∙ ap (λ x. asked setup s packets b x event) is ∙ sym (append-nil (asked setup s packets b (steps setup (journal s b) w events) event)))
             ∙ sym (questions_append setup s packets b w events (event ∷ []));
       }
-
-  -- the calls determine the state
-  pub one_answered : (events : List Event) (calls : List Call) (st other : State)
-      → IsAnswered setup s packets events calls st → IsAnswered setup s packets events calls other → st ≡ other
-  one_answered events calls st other h k = h.run ∙ sym k.run
-
-  -- more calls leave the state, and what drain picks on the way there
-  pub state_stays : (events : List Event) (calls more : List Call) (st : State) → IsAnswered setup s packets events calls st → st ≡ state_of setup (journal s (calls ++ more)) events
-  state_stays events calls more st h =
-      h.run ∙ (run_stays setup s packets calls more begin events (all_asked events calls st h) (carried_first (KnownUp calls) (start_store setup.objects))).0
-
-  pub picked_stay : (events behind : List Event) (calls more : List Call) (st : State) → IsAnswered setup s packets (events ++ behind) calls st
-      → Picks setup (journal s calls) (state_of setup (journal s calls) events) behind → Picks setup (journal s (calls ++ more)) (state_of setup (journal s (calls ++ more)) events) behind
-  picked_stay events behind calls more st h p =
-      let qs = questions setup s packets calls begin events in
-      let rest = questions setup s packets calls (state_of setup (journal s calls) events) behind in
-      let all = all_asked (events ++ behind) calls st h in
-      let split = questions_append setup s packets calls begin events behind in
-      let first : AllThere setup s calls qs = λ q m. all q (subst (Member q) (sym split) (member_left q qs rest m)) in
-      let last : AllThere setup s calls rest = λ q m. all q (subst (Member q) (sym split) (member_right q qs rest m)) in
-      let known = carried_first (KnownUp calls) (start_store setup.objects) in
-      let same = (run_stays setup s packets calls more begin events first known).0 in
-      subst (λ w. Picks setup (journal s (calls ++ more)) w behind) same
-      (picks_stay setup s packets calls more (state_of setup (journal s calls) events) behind last (cover_steps setup s packets calls more begin events first known) p)

@@ -1,11 +1,10 @@
 -- What happens changes neither count of events.
-use Rattle.std.proofs.Common.{◌∙◌, ◌≡◌, ℕ, ◌+◌, true, false, inl, inr, refl}
+use Rattle.std.proofs.Common.{◌∙◌, ◌≡◌, ℕ, ◌+◌, true, refl}
 use Rattle.std.specs.Prelude.{⊤}
-use Rattle.std.proofs.lemmas.Bool.{cases_Bool}
 use Rattle.run_model.specs.declared.event.Event.{Event}
 use Rattle.replay_state.specs.Answers.{Answers, Setup}
 use Rattle.replay_state.specs.State.{State}
-use Rattle.replay_state.specs.Step.{applies, happens, step, tick, idled}
+use Rattle.replay_state.specs.Step.{applies, happens, tick}
 use Rattle.replay_state.proofs.Walk.{Closed, closed_happens, ends_any, same_turn}
 
 -- these counts
@@ -29,18 +28,7 @@ module _ (setup : Setup) (a : Answers) where
     acked = λ w low h. h;
   }
 
-  counted_so : (w : State) (e : Event) → applies setup w e ≡ true → Counted (w.events + 1) w.idle (happens setup a (tick w) e)
+  pub counted_so : (w : State) (e : Event) → applies setup w e ≡ true → Counted (w.events + 1) w.idle (happens setup a (tick w) e)
   counted_so w e t =
-      closed_happens setup a (λ k. ⊤) (Counted (w.events + 1) w.idle) (counted (w.events + 1) w.idle) (tick w) e (same_turn setup w e ∙ t) (ends_any setup a (tick w) e) (refl, refl)
-
-  pub idle_same : (w : State) (e : Event) → applies setup w e ≡ true → (step setup a w e).idle ≡ w.idle
-  idle_same w e t = rw t (counted_so w e t).1
-
-  pub events_counted : (w : State) (e : Event) → (step setup a w e).events ≡ w.events + 1
-  events_counted w e = elim (cases_Bool (applies setup w e)) [
-    | inl t ↦ rw t (counted_so w e t).0
-    | inr t ↦ rw t refl
-  ]
-
-  pub idle_where : (w : State) (e : Event) → applies setup w e ≡ false → step setup a w e ≡ idled (tick w)
-  idle_where w e t = rw t refl
+      closed_happens setup a (λ k. ⊤) (Counted (w.events + 1) w.idle) (Counted (w.events + 1) w.idle) (λ x h. h) (counted (w.events + 1) w.idle) (tick w) e
+      (same_turn setup w e ∙ t) (ends_any setup a (tick w) e) (refl, refl)

@@ -3,14 +3,15 @@ use Rattle.std.proofs.Common.{◌≡◌, ℕ, ◌+◌, true, false, List, [], �
 use Rattle.std.specs.Prelude.{slice_get, remove}
 use Rattle.std.proofs.lemmas.Bool.{cases_Bool, eq-eqb}
 use Rattle.packet_fields.specs.declared.verdict.Verdict.{Verdict}
-use Rattle.state_store.specs.Store.{Store, start_store}
+use Rattle.state_store.specs.Store.{Store}
 use Rattle.writeback_table.specs.declared.command.Update.{Update}
 use Rattle.run_model.specs.declared.event.Event.{Event}
 use Rattle.replay_state.specs.Answers.{Answers, Setup}
-use Rattle.replay_state.specs.State.{State, Pass, Progress, Entered, Up, Held, Slow, Fast, first_state, seen, store_at}
-use Rattle.run_model.specs.declared.event.Event.TheVariants.{Admit, Stage, Serve, Send, Apply, Ack, Hold, Down}
-use Rattle.replay_state.specs.Step.{applies, happens, state_of, step, steps, tick, finished, went_up, released, came_in, came_down, ended, entered, pass_of, staged, ran, served, let_go, with_changes}
-use Rattle.replay_state.proofs.Lists.{get_push_same}
+use Rattle.replay_state.specs.State.{State, Pass, Progress, Entered, Up, Held, Slow, Fast, seen, store_at}
+use Rattle.run_model.specs.declared.event.Event.TheVariants.{Admit, Stage, Serve, Hold, Down}
+use Rattle.replay_state.specs.Step.{applies, happens, step, steps, tick, finished, went_up, released, came_in, came_down, ended, entered, pass_of, staged, ran, served, let_go, with_changes}
+use Rattle.lemmas.proofs.Lists.{get_pushed}
+use Rattle.replay_state.proofs.Steps.{ended_leaves}
 
 set_push : {X : Type 0} (xs : List X) (x y : X) → set (xs ++ x ∷ []) (length xs) y ≡ xs ++ y ∷ []
 set_push [] x y = refl
@@ -28,7 +29,7 @@ module _ (setup : Setup) (a : Answers) where
       → step setup a st Admit ≡ record (tick st) { progress = st.progress ++ Fast (st.events + 1) (st.events + 1) (seen st) y ∷ [] }
   fast_at_once st y none t h =
       let e : Progress = Entered (st.events + 1) (seen st) in
-      let new : finished (st.events + 1) y (slice_get (st.progress ++ e ∷ []) (length st.progress)) ≡ Fast (st.events + 1) (st.events + 1) (seen st) y = ap (finished (st.events + 1) y) (get_push_same st.progress e) in
+      let new : finished (st.events + 1) y (slice_get (st.progress ++ e ∷ []) (length st.progress)) ≡ Fast (st.events + 1) (st.events + 1) (seen st) y = ap (finished (st.events + 1) y) (get_pushed st.progress e) in
       let same : set (st.progress ++ e ∷ []) (length st.progress) (finished (st.events + 1) y (slice_get (st.progress ++ e ∷ []) (length st.progress))) ≡ st.progress ++ Fast (st.events + 1) (st.events + 1) (seen st) y ∷ [] =
       ap (set (st.progress ++ e ∷ []) (length st.progress)) new ∙ set_push st.progress e (Fast (st.events + 1) (st.events + 1) (seen st) y) in
       ends_with st none t (Some y) h ∙ ap (λ l. record (tick st) { progress = l }) same
@@ -37,32 +38,22 @@ module _ (setup : Setup) (a : Answers) where
       → step setup a st Admit ≡ record (tick st) { up = st.up ++ length st.progress ∷ []; progress = st.progress ++ Up (st.events + 1) ∷ [] }
   slow_at_once st none t h =
       let e : Progress = Entered (st.events + 1) (seen st) in
-      let new : went_up (slice_get (st.progress ++ e ∷ []) (length st.progress)) ≡ Up (st.events + 1) = ap went_up (get_push_same st.progress e) in
+      let new : went_up (slice_get (st.progress ++ e ∷ []) (length st.progress)) ≡ Up (st.events + 1) = ap went_up (get_pushed st.progress e) in
       let same : set (st.progress ++ e ∷ []) (length st.progress) (went_up (slice_get (st.progress ++ e ∷ []) (length st.progress))) ≡ st.progress ++ Up (st.events + 1) ∷ [] =
       ap (set (st.progress ++ e ∷ []) (length st.progress)) new ∙ set_push st.progress e (Up (st.events + 1)) in
       ends_with st none t None h ∙ ap (λ l. record (tick st) { up = st.up ++ length st.progress ∷ []; progress = l }) same
 
-  comes_out : (st : State) (j n e d v : ℕ) (over : Store) (o : Option ℕ) → setup.post_stages ≡ 0 → o ≡ Some n → slice_get st.progress n ≡ Some (Held e d v over)
+  pub comes_out : (st : State) (j n e d v : ℕ) (over : Store) (o : Option ℕ) → setup.post_stages ≡ 0 → o ≡ Some n
+      → slice_get st.progress n ≡ Some (Held e d v over)
       → came_down setup a (tick st) j o ≡ record (tick st) { down = remove st.down j; progress = set st.progress n (Slow e d v (a.post over n) (st.events + 1)) }
   comes_out st j n e d v over o none g h =
       let now = eq-eqb setup.post_stages 0 none in
       rw (g, now) (ap (λ p. record (tick st) { down = remove st.down j; progress = set st.progress n p }) (ap (released (λ s. a.post s n) (st.events + 1)) h))
 
-  pub down_at_once : (st : State) (j n e d v : ℕ) (over : Store) → setup.post_stages ≡ 0 → applies setup st (Down j) ≡ true → slice_get st.down j ≡ Some n → slice_get st.progress n ≡ Some (Held e d v over)
-      → step setup a st (Down j) ≡ record (tick st) { down = remove st.down j; progress = set st.progress n (Slow e d v (a.post over n) (st.events + 1)) }
-  down_at_once st j n e d v over none t g h = rw t (comes_out st j n e d v over (slice_get st.down j) none g h)
-
   -- ---- no pass is under way then
 
-  ended_passes : (w : State) (x : Pass) → (ended a w x).passes ≡ w.passes
-  ended_passes w x = elim (cases_Bool x.pre) [
-    | inl t ↦ rw t (in_passes (a.pre (store_at w.stores x.version) x.number))
-    | inr t ↦ rw t refl
-  ]
-    where
-      in_passes : (o : Option Verdict) → (came_in w x.number o).passes ≡ w.passes
-      in_passes None = refl
-      in_passes (Some y) = refl
+  pub ended_passes : (w : State) (x : Pass) → (ended a w x).passes ≡ w.passes
+  ended_passes = ended_leaves (λ w. w.passes) a (λ w up progress. refl)
 
   entered_passes : (w : State) (x : Pass) → x.left ≡ 0 → (entered a w x).passes ≡ w.passes
   entered_passes w x none = let now = eq-eqb x.left 0 none in rw now (ended_passes w x)
@@ -71,11 +62,11 @@ module _ (setup : Setup) (a : Answers) where
   ran_passes w j n store [] = refl
   ran_passes w j n store (u ∷ us) = refl
 
-  served_passes : (w : State) (j : ℕ) (o : Option ℕ) → (served a w j o).passes ≡ w.passes
+  pub served_passes : (w : State) (j : ℕ) (o : Option ℕ) → (served a w j o).passes ≡ w.passes
   served_passes w j None = refl
   served_passes w j (Some n) = ran_passes w j n (a.after w.store n) (a.changes w.store n)
 
-  go_passes : (w : State) (j : ℕ) (o : Option (ℕ × ℕ)) → (let_go w j o).passes ≡ w.passes
+  pub go_passes : (w : State) (j : ℕ) (o : Option (ℕ × ℕ)) → (let_go w j o).passes ≡ w.passes
   go_passes w j None = refl
   go_passes w j (Some x) = refl
 
@@ -87,18 +78,13 @@ module _ (setup : Setup) (a : Answers) where
   none_under_way w Admit pre post h = entered_passes (record w { progress = w.progress ++ Entered w.events (seen w) ∷ [] }) (pass_of w true (length w.progress) setup.pre_stages) pre ∙ h
   none_under_way w (Stage j) pre post h = ap (λ l. (staged a w j (slice_get l j)).passes) h ∙ h
   none_under_way w (Serve j) pre post h = served_passes w j (slice_get w.up j) ∙ h
-  none_under_way w Send pre post h = h
-  none_under_way w Apply pre post h = h
-  none_under_way w Ack pre post h = h
   none_under_way w (Hold j) pre post h = go_passes w j (slice_get w.held j) ∙ h
   none_under_way w (Down j) pre post h = down_passes w j (slice_get w.down j) post ∙ h
+  none_under_way w e pre post h = h
 
-  none_steps : (w : State) (es : List Event) → setup.pre_stages ≡ 0 → setup.post_stages ≡ 0 → w.passes ≡ [] → (steps setup a w es).passes ≡ []
+  pub none_steps : (w : State) (es : List Event) → setup.pre_stages ≡ 0 → setup.post_stages ≡ 0 → w.passes ≡ [] → (steps setup a w es).passes ≡ []
   none_steps w [] pre post h = h
   none_steps w (e ∷ es) pre post h = none_steps (step setup a w e) es pre post (elim (cases_Bool (applies setup w e)) [
     | inl t ↦ rw t (none_under_way (tick w) e pre post h)
     | inr t ↦ rw t h
   ])
-
-  pub no_pass : (es : List Event) → setup.pre_stages ≡ 0 → setup.post_stages ≡ 0 → (state_of setup a es).passes ≡ []
-  no_pass es pre post = none_steps (first_state (start_store setup.objects)) es pre post refl

@@ -1,5 +1,5 @@
 -- A fact about each packet that went up goes with it: to the server, and down.
-use Rattle.std.proofs.Common.{◌≡◌, ℕ, ◌+◌, true, false, [], ◌∷◌, ◌++◌, Some, inl, inr, refl, sym, ap, subst, length}
+use Rattle.std.proofs.Common.{◌≡◌, ℕ, ◌+◌, true, false, [], ◌∷◌, ◌++◌, Some, inl, inr, refl, sym, subst, length}
 use Rattle.std.specs.Prelude.{slice_get, remove}
 use Rattle.state_store.specs.Store.{Store}
 use Rattle.replay_state.specs.Answers.{Answers, Setup}
@@ -13,9 +13,8 @@ use Rattle.replay_state.proofs.Walk.{Closed, closed_step}
 use Rattle.run_model.specs.Members.{Member}
 use Rattle.run_model.proofs.Members.{get_member}
 use Rattle.replay_state.proofs.Lists.{member_remove, member_push, member_set}
-
-pair_number : (p v q u : ℕ) → ◌≡◌ {A = ℕ × ℕ} (p, v) (q, u) → p ≡ q
-pair_number p v q u e = ap (λ (x : ℕ × ℕ). x.0) e
+use Rattle.lemmas.proofs.Tests.{true_not_false}
+use Rattle.replay_state.proofs.Effects.{pair_first}
 
 pub carried_first : (P : ℕ → Type 0) (start : Store) → Carried P (first_state start)
 carried_first P start = record { up = λ n m. absurd m; held = λ n v m. absurd m; down = λ n m. absurd m; passes = λ x m. absurd m }
@@ -29,9 +28,6 @@ same_lists P w x p q r t c = record {
   passes = subst (λ l. (z : Pass) → Member z l → z.pre ≡ false → P z.number) (sym t) c.passes;
 }
 
-true_false : true ≡ false → ⊥
-true_false e = cc
-
 module _ (setup : Setup) (a : Answers) (P : ℕ → Type 0) where
   -- one pass fewer, one more that isn't behind the server or has the fact, or one changed
   fewer : (w : State) (j : ℕ) → Carried P w → (z : Pass) → Member z (remove w.passes j) → z.pre ≡ false → P z.number
@@ -42,13 +38,13 @@ module _ (setup : Setup) (a : Answers) (P : ℕ → Type 0) where
 
   one_held : (w : State) (j n v : ℕ) → slice_get w.up j ≡ Some n → Carried P w → (m need : ℕ) → Member (m, need) (w.held ++ (n, v) ∷ []) → P m
   one_held w j n v g c m need h = elim (member_push w.held (n, v) (m, need) h) [
-    | inl e ↦ subst P (pair_number n v m need e) (c.up n (get_member w.up j n g))
+    | inl e ↦ subst P (pair_first n v m need e) (c.up n (get_member w.up j n g))
     | inr old ↦ c.held m need old
   ]
 
   carried_closed : Closed setup a P (Carried P)
   carried_closed = record {
-    let_in = λ w low c. record { up = c.up; held = c.held; down = c.down; passes = one_more w (pass_of w true (length w.progress) setup.pre_stages) (λ t. absurd (true_false t)) c };
+    let_in = λ w low c. record { up = c.up; held = c.held; down = c.down; passes = one_more w (pass_of w true (length w.progress) setup.pre_stages) (λ t. absurd (true_not_false t)) c };
     let_down = λ w j n g c. record {
       up = c.up;
       held = c.held;

@@ -4,18 +4,17 @@ use Rattle.std.proofs.lemmas.Bool.{leb-true, eqb-true, cases_Bool}
 use Rattle.std.proofs.lemmas.List.{take-append-le, length-append, length-map, append-nil, append_assoc, map-append}
 use Rattle.writeback_table.specs.declared.command.Update.{Update}
 use Rattle.writeback_table.specs.declared.command.Command.{Command}
-use Rattle.writeback_table.specs.declared.command.Command.TheVariants.{Stage, On, Main, Off, Clear}
+use Rattle.writeback_table.specs.declared.command.Command.TheVariants.{Stage, On, Main, Off}
 use Rattle.writeback_table.specs.Commands.{clear_of, commands_of}
 use Rattle.output_commit.specs.Batches.{Batch, commands_in, merged, take_up}
 use Rattle.replay_state.specs.State.{State}
+use Rattle.state_store.specs.Store.{Store}
+use Rattle.output_commit.proofs.Seeing.{length_batch}
 
 -- how many versions a command of a batch with so many makes visible, and each of all commands
 abbrev pub shows : ℕ → Command → ℕ
 shows versions On = versions
-shows versions (Stage update) = 0
-shows versions (Main update) = 0
-shows versions Off = 0
-shows versions (Clear object key) = 0
+shows versions command = 0
 
 abbrev pub versions_of : Batch → List ℕ
 versions_of b = map (shows b.versions) (commands_of b.updates)
@@ -57,17 +56,6 @@ sum_batch b =
     let z = sum_none v clear_of (λ u. refl) us in
     omega arith
 
-pub length_batch : (us : List Update) → length (commands_of us) ≡ 3 * length us + 2
-length_batch us =
-    let mains = map (λ u. Main u) us in
-    let clears = map clear_of us in
-    let one = length-append (map (λ u. Stage u) us) (On ∷ (mains ++ (Off ∷ clears))) in
-    let two = length-append mains (Off ∷ clears) in
-    let a = length-map us (λ u. Stage u) in
-    let b = length-map us (λ u. Main u) in
-    let c = length-map us clear_of in
-    omega arith
-
 pub long_batch : (b : Batch) → length (versions_of b) ≡ 3 * length b.updates + 2
 long_batch b = length-map (commands_of b.updates) (shows b.versions) ∙ length_batch b.updates
 
@@ -86,13 +74,6 @@ long (b ∷ bs) =
 abbrev pub first_sum : List ℕ → ℕ → ℕ
 first_sum c n = sum_of (take n c)
 
-pub first_more : (c : List ℕ) (m n : ℕ) → m ≤ n → first_sum c m ≤ first_sum c n
-first_more c zero n h = omega arith
-first_more [] (suc m) zero h = omega arith
-first_more [] (suc m) (suc n) h = omega arith
-first_more (x ∷ c) (suc m) zero h = omega arith
-first_more (x ∷ c) (suc m) (suc n) h = let r = first_more c m n (omega arith) in omega arith
-
 pub first_total : (c : List ℕ) (n : ℕ) → first_sum c n ≤ sum_of c
 first_total c zero = omega arith
 first_total [] (suc n) = omega arith
@@ -110,9 +91,6 @@ first_split (x ∷ c) d (suc m) = let e : suc m - suc (length c) ≡ m - length 
 
 pub first_append : (c d : List ℕ) (n : ℕ) → n ≤ length c → first_sum (c ++ d) n ≡ first_sum c n
 first_append c d n h = ap sum_of (take-append-le n c d h)
-
-pub sums_more : (bs : List Batch) (m n : ℕ) → m ≤ n → sums bs m ≤ sums bs n
-sums_more bs m n h = first_more (versions_in bs) m n h
 
 pub sums_total : (bs : List Batch) (n : ℕ) → sums bs n ≤ sum_of (versions_in bs)
 sums_total bs n = first_total (versions_in bs) n
@@ -219,18 +197,12 @@ merged_is fits n (b ∷ bs) = elim (cases_Bool (eqb n 0)) [
 
 -- ---- the counts of a state
 
-pub record AreCounted (w : State) : Type 0 where
-  pub versions : sum_of (versions_in w.batches) ≡ w.version
-  pub stores : length w.stores ≡ w.version + 1
-  pub sent_in : w.sent ≤ length (commands_in w.batches)
-  pub done_in : w.done ≤ w.sent
-  pub acked_in : w.acked ≤ w.done
+pub record Counted (batches : List Batch) (version : ℕ) (stores : List Store) (sent done acked : ℕ) : Type 0 where
+  pub versions : sum_of (versions_in batches) ≡ version
+  pub all : length stores ≡ version + 1
+  pub sent_in : sent ≤ length (commands_in batches)
+  pub done_in : done ≤ sent
+  pub acked_in : acked ≤ done
 
-pub counts_same : (w x : State) → x.batches ≡ w.batches → x.version ≡ w.version → x.stores ≡ w.stores → x.sent ≡ w.sent → x.done ≡ w.done → x.acked ≡ w.acked → AreCounted w → AreCounted x
-counts_same w x a b c d e f k = record {
-  versions = ap (λ z. sum_of (versions_in z)) a ∙ k.versions ∙ sym b;
-  stores = ap length c ∙ k.stores ∙ ap (λ z. z + 1) (sym b);
-  sent_in = let l = ap (λ z. length (commands_in z)) a in let g = k.sent_in in omega arith;
-  done_in = let g = k.done_in in omega arith;
-  acked_in = let g = k.acked_in in omega arith;
-}
+abbrev pub AreCounted : State → Type 0
+AreCounted w = Counted w.batches w.version w.stores w.sent w.done w.acked

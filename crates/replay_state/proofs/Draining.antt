@@ -1,7 +1,7 @@
 -- Drain picks the first event that applies; it ends, and within the bound.
-use Rattle.std.proofs.Common.{◌≡◌, ℕ, ◌+◌, ◌-◌, ◌*◌, ◌<◌, ◌≤◌, true, false, cond, ltb, leb, eqb, List, [], ◌∷◌, ◌++◌, Option, Some, None, inl, inr, refl, sym, ◌∙◌, ap, subst, arith, zero, suc, length, set}
+use Rattle.std.proofs.Common.{◌≡◌, ℕ, ◌+◌, ◌-◌, ◌*◌, ◌<◌, ◌≤◌, true, false, cond, ltb, leb, eqb, List, [], ◌∷◌, ◌++◌, Option, Some, None, inl, inr, refl, sym, ap, subst, arith, zero, suc, length, set}
 use Rattle.std.specs.Prelude.{slice_get, slice_set, remove, not}
-use Rattle.std.proofs.lemmas.Bool.{cases_Bool, ltb-true, le-leb, cases_lt, eq-eqb, and_parts}
+use Rattle.std.proofs.lemmas.Bool.{and_parts, cases_Bool, eqb-false, leb-false, ltb-true}
 use Rattle.std.proofs.lemmas.Option.{same_Some, slice_get_within}
 use Rattle.std.proofs.lemmas.List.{length_push, length-set}
 use Rattle.std.proofs.lemmas.List.Edits.{length-remove}
@@ -17,9 +17,11 @@ use Rattle.replay_state.specs.Step.{applies, waits, may_go, happens, step, steps
 use Rattle.replay_state.specs.Step.{finished, went_up, released, decided, came_in, ended, pass_of, entered, staged, with_changes, ran, served, let_go, came_down, admitted}
 use Rattle.replay_state.specs.Drain.{events_left, packet_events, pass_events, up_events}
 use Rattle.replay_state.specs.Sound.{AreFew}
-use Rattle.replay_state.proofs.Lists.{get_within, weight, weight_push, weight_remove}
+use Rattle.replay_state.proofs.Lists.{weight, weight_push, weight_remove}
 use Rattle.replay_state.proofs.Counts.{long, length_more, merged_is}
 use Rattle.replay_state.proofs.Sane.{Sane, sane_step}
+use Rattle.replay_state.proofs.Steps.{run_at}
+use Rattle.lemmas.proofs.Lists.{get_within}
 
 -- ---- what is left to do
 
@@ -55,17 +57,9 @@ module _ (setup : Setup) (a : Answers) where
     | inl t ↦ rw t (let e = ended_cost w x in omega arith)
     | inr t ↦ rw t (
         let one = weight_push (pass_events setup) w.passes x in
-        let some : x.left ≡ 0 → ⊥ = λ z. let yes_it = eq-eqb x.left 0 z in absurd_bool (sym yes_it ∙ t) in
-        let more = above_none x.left some in
+        let some : x.left ≡ 0 → ⊥ = eqb-false x.left 0 t in
         omega arith)
   ]
-    where
-      absurd_bool : true ≡ false → ⊥
-      absurd_bool e = cc
-
-      above_none : (n : ℕ) → (n ≡ 0 → ⊥) → 1 + (n - 1) ≡ n
-      above_none zero h = absurd (h refl)
-      above_none (suc n) h = omega arith
 
   admitted_cost : (w : State) → length w.progress < setup.total → events_left setup (admitted setup a w) < events_left setup w
   admitted_cost w low =
@@ -86,15 +80,9 @@ module _ (setup : Setup) (a : Answers) where
     | inr t ↦ rw t (
         let y : Pass = record x { left = x.left - 1 } in
         let less = weight_change (pass_events setup) w.passes j x y g in
-        let some : 1 < x.left = above x.left t in
+        let some : 1 < x.left = leb-false x.left 1 t in
         omega arith)
   ]
-    where
-      above : (n : ℕ) → leb n 1 ≡ false → 1 < n
-      above n h = elim (cases_lt 1 n) [
-        | inl lt ↦ lt
-        | inr le ↦ let yes_it = le-leb n 1 le in let no_it : true ≡ false = sym yes_it ∙ h in cc
-      ]
 
   come_down_cost : (w : State) (j n : ℕ) → slice_get w.down j ≡ Some n → events_left setup (came_down setup a w j (Some n)) < events_left setup w
   come_down_cost w j n g =
@@ -115,26 +103,26 @@ module _ (setup : Setup) (a : Answers) where
       let more = mul_step (length w.down + 1) (length w.down) (1 + setup.post_stages) refl in
       rw one (omega arith)
 
-  ran_cost : (w : State) (j n : ℕ) (store : Store) (us : List Update) → slice_get w.up j ≡ Some n → w.sent ≤ length (commands_in w.batches) → length us ≤ setup.writes
-      → events_left setup (ran a w (with_changes store us w) j n) < events_left setup w
-  ran_cost w j n store [] g sent few =
+  run_cost : (w : State) (j n v : ℕ) (stores : List Store) (batches : List Batch) → slice_get w.up j ≡ Some n → w.sent ≤ length (commands_in w.batches)
+      → length (commands_in batches) ≤ length (commands_in w.batches) + (3 * setup.writes + 2)
+      → events_left setup (run_at a w j n v stores batches) < events_left setup w
+  run_cost w j n v stores batches g sent few =
+      let less = length-remove w.up j (slice_get_within w.up j n g) in
       let within = slice_get_within w.up j n g in
-      let less = length-remove w.up j within in
       let fewer = mul_step (length w.up) (length (remove w.up j)) (up_events setup) (omega arith) in
-      let one = length_push w.held (n, w.version) in
+      let one = length_push w.held (n, v) in
       let more = mul_step (length w.held + 1) (length w.held) (2 + setup.post_stages) refl in
-      let same = length-set w.progress n (decided w.events w.version w.store (slice_get w.progress n)) in
+      let same = length-set w.progress n (decided w.events v w.store (slice_get w.progress n)) in
       rw (same, one) (omega arith)
+
+  ran_cost : (w : State) (j n : ℕ) (store : Store) (us : List Update) → slice_get w.up j ≡ Some n → w.sent ≤ length (commands_in w.batches)
+      → length us ≤ setup.writes
+      → events_left setup (ran a w (with_changes store us w) j n) < events_left setup w
+  ran_cost w j n store [] g sent few = run_cost w j n w.version w.stores w.batches g sent (omega arith)
   ran_cost w j n store (u ∷ us) g sent few =
       let b : Batch = record { updates = u ∷ us; versions = 1 } in
-      let within = slice_get_within w.up j n g in
-      let less = length-remove w.up j within in
-      let fewer = mul_step (length w.up) (length (remove w.up j)) (up_events setup) (omega arith) in
-      let one = length_push w.held (n, w.version + 1) in
-      let more = mul_step (length w.held + 1) (length w.held) (2 + setup.post_stages) refl in
-      let same = length-set w.progress n (decided w.events (w.version + 1) w.store (slice_get w.progress n)) in
       let all = length_more w.batches b in
-      rw (same, one, all) (omega arith)
+      run_cost w j n (w.version + 1) w.stores (w.batches ++ b ∷ []) g sent (omega arith)
 
   send_cost : (w : State) → w.done ≤ w.sent → w.sent < length (commands_in w.batches) → events_left setup (happens setup a w Send) < events_left setup w
   send_cost w g h =

@@ -11,11 +11,14 @@ use Rattle.replay_state.specs.State.{State, Progress, Entered, Up, Held, Slow, F
 use Rattle.replay_state.specs.Step.{tick, idled, pass_of, finished, went_up, released, decided}
 use Rattle.run_model.specs.Members.{Member}
 use Rattle.run_model.proofs.Members.{get_member}
-use Rattle.replay_state.proofs.Lists.{get_past, set_cases, push_cases, member_remove, member_push, member_set, weight, weight_push, weight_remove, weight_set, is, mark_set, mark_push}
-use Rattle.replay_state.proofs.Counts.{AreCounted, counts_same}
-use Rattle.replay_state.proofs.Visible.{visible_more, visible_merged, visible_total}
+use Rattle.replay_state.proofs.Lists.{set_cases, member_remove, member_push, member_set, weight, weight_push, weight_remove, weight_set, is, mark_set, mark_push}
+use Rattle.replay_state.proofs.Counts.{AreCounted}
+use Rattle.replay_state.proofs.Visible.{visible_total}
 use Rattle.replay_state.proofs.Fates.{pass_mark, up_mark, held_mark, in_first, in_last, in_up, in_held, Places, at_first, at_up, held_fate, is_at, Needs, FateOk, fate_more, EachFine, each_push, each_set, each_weaker, Pairs, pairs_push, pairs_set, fits_late, fits_now}
 use Rattle.replay_state.proofs.Steps.{let_in, let_down, finished_at, up_at, out_at, moved_at, run_at, go_at, sent_one, applied_one, acked_one, counts_sent}
+use Rattle.lemmas.proofs.Lists.{get_before_pushed, get_past}
+use Rattle.lemmas.proofs.Tests.{true_not_false}
+use Rattle.output_commit.proofs.Seeing.{visible_merged, visible_more}
 
 pub record Fine (w : State) : Type 0 where
   pub counts : AreCounted w
@@ -27,15 +30,6 @@ pub record Fine (w : State) : Type 0 where
 -- what is visible is.batches at most the version
 pub shown_le : (w : State) (n : ℕ) → Fine w → visible w.batches n ≤ w.version
 shown_le w n c = let a = visible_total (w.batches) n in let b = c.counts.versions in omega arith
-
-pub pass_version : (a v b u : ℕ) → Entered a v ≡ Entered b u → v ≡ u
-pass_version a v b u e = cc
-
-pub pass_held : (a v b d u : ℕ) (y : Store) → Entered a v ≡ Held b d u y → ⊥
-pass_held a v b d u y e = cc
-
-pub true_false : true ≡ false → ⊥
-true_false e = cc
 
 pub member_weight : {X : Type 0} (f : X → ℕ) (xs : List X) (x : X) → Member x xs → f x ≤ weight f xs
 member_weight f [] x m = absurd m
@@ -58,31 +52,21 @@ pub needs_set : (w : State) (k : ℕ) (o f : Progress) (x : State) → Fine w �
     → visible x.batches x.acked ≡ visible w.batches w.acked
     → ((a v : ℕ) → f ≡ Entered a v → o ≡ Entered a v) → ((a d v : ℕ) (y : Store) → f ≡ Held a d v y → o ≡ Held a d v y) → Needs x
 needs_set w k o f x c there fates passes held down acked from_pass from_held = record {
-  firsts = λ z a v m t h. c.needs.firsts z a v (passes z m) t
-      (elim (set_cases w.progress k z.number o f (Entered a v) there (subst (λ l. slice_get l z.number ≡ Some (Entered a v)) fates h)) [
-        | inl e ↦ subst (λ n. slice_get w.progress n ≡ Some (Entered a v)) (sym e.0) (there ∙ ap Some (from_pass a v e.1))
-        | inr old ↦ old
-      ]);
-  helds = λ p need a d v y m h. c.needs.helds p need a d v y (held (p, need) m)
-      (elim (set_cases w.progress k p o f (Held a d v y) there (subst (λ l. slice_get l p ≡ Some (Held a d v y)) fates h)) [
-        | inl e ↦ subst (λ n. slice_get w.progress n ≡ Some (Held a d v y)) (sym e.0) (there ∙ ap Some (from_held a d v y e.1))
-        | inr old ↦ old
-      ]);
-  downs = λ p a d v y m h. rw acked (c.needs.downs p a d v y (down p m)
-      (elim (set_cases w.progress k p o f (Held a d v y) there (subst (λ l. slice_get l p ≡ Some (Held a d v y)) fates h)) [
-        | inl e ↦ subst (λ n. slice_get w.progress n ≡ Some (Held a d v y)) (sym e.0) (there ∙ ap Some (from_held a d v y e.1))
-        | inr old ↦ old
-      ]));
-  lasts = λ z a d v y m t h. rw acked (c.needs.lasts z a d v y (passes z m) t
-      (elim (set_cases w.progress k z.number o f (Held a d v y) there (subst (λ l. slice_get l z.number ≡ Some (Held a d v y)) fates h)) [
-        | inl e ↦ subst (λ n. slice_get w.progress n ≡ Some (Held a d v y)) (sym e.0) (there ∙ ap Some (from_held a d v y e.1))
-        | inr old ↦ old
-      ]));
+  firsts = λ z a v m t h. c.needs.firsts z a v (passes z m) t (was z.number (Entered a v) (from_pass a v) h);
+  helds = λ p need a d v y m h. c.needs.helds p need a d v y (held (p, need) m) (was p (Held a d v y) (from_held a d v y) h);
+  downs = λ p a d v y m h. rw acked (c.needs.downs p a d v y (down p m) (was p (Held a d v y) (from_held a d v y) h));
+  lasts = λ z a d v y m t h. rw acked (c.needs.lasts z a d v y (passes z m) t (was z.number (Held a d v y) (from_held a d v y) h));
 }
+  where
+    was : (p : ℕ) (q : Progress) → (f ≡ q → o ≡ q) → slice_get x.progress p ≡ Some q → slice_get w.progress p ≡ Some q
+    was p q from h = elim (set_cases w.progress k p o f q there (subst (λ l. slice_get l p ≡ Some q) fates h)) [
+      | inl e ↦ subst (λ n. slice_get w.progress n ≡ Some q) (sym e.0) (there ∙ ap Some (from e.1))
+      | inr old ↦ old
+    ]
 
 pub fine_tick : (w : State) → Fine w → Fine (tick w)
 fine_tick w c = record {
-  counts = counts_same w (tick w) refl refl refl refl refl refl c.counts;
+  counts = c.counts;
   places = record { firsts = c.places.firsts; ups = c.places.ups; helds = c.places.helds };
   needs = record { firsts = c.needs.firsts; helds = c.needs.helds; downs = c.needs.downs; lasts = c.needs.lasts };
   each = each_weaker (FateOk w.events w.version (visible w.batches w.done)) (FateOk (w.events + 1) w.version (visible w.batches w.done)) w.progress (λ f. fate_more _ _ _ _ _ _ f (omega arith) (omega arith) (omega arith)) c.each;
@@ -91,7 +75,7 @@ fine_tick w c = record {
 
 pub fine_idled : (w : State) → Fine w → Fine (idled w)
 fine_idled w c = record {
-  counts = counts_same w (idled w) refl refl refl refl refl refl c.counts;
+  counts = c.counts;
   places = record { firsts = c.places.firsts; ups = c.places.ups; helds = c.places.helds };
   needs = record { firsts = c.needs.firsts; helds = c.needs.helds; downs = c.needs.downs; lasts = c.needs.lasts };
   each = c.each;
@@ -119,7 +103,7 @@ pub fine_applied : (w : State) → w.done < w.sent → Fine w → Fine (applied_
 fine_applied w h c =
     let more = visible_more (w.batches) w.done (w.done + 1) (omega arith) in
     record {
-      counts = record { versions = c.counts.versions; stores = c.counts.stores; sent_in = c.counts.sent_in; done_in = omega arith; acked_in = let a = c.counts.acked_in in omega arith };
+      counts = record { versions = c.counts.versions; all = c.counts.all; sent_in = c.counts.sent_in; done_in = omega arith; acked_in = let a = c.counts.acked_in in omega arith };
       places = record { firsts = c.places.firsts; ups = c.places.ups; helds = c.places.helds };
       needs = record { firsts = c.needs.firsts; helds = c.needs.helds; downs = c.needs.downs; lasts = c.needs.lasts };
       each = each_weaker (FateOk w.events w.version (visible w.batches w.done)) (FateOk w.events w.version (visible w.batches (w.done + 1))) w.progress (λ f. fate_more _ _ _ _ _ _ f (omega arith) (omega arith) more) c.each;
@@ -130,7 +114,7 @@ pub fine_acked : (w : State) → w.acked < w.done → Fine w → Fine (acked_one
 fine_acked w h c =
     let more = visible_more (w.batches) w.acked (w.acked + 1) (omega arith) in
     record {
-      counts = record { versions = c.counts.versions; stores = c.counts.stores; sent_in = c.counts.sent_in; done_in = c.counts.done_in; acked_in = omega arith };
+      counts = record { versions = c.counts.versions; all = c.counts.all; sent_in = c.counts.sent_in; done_in = c.counts.done_in; acked_in = omega arith };
       places = record { firsts = c.places.firsts; ups = c.places.ups; helds = c.places.helds };
       needs = record {
         firsts = c.needs.firsts;
@@ -146,7 +130,7 @@ pub fine_moved : (w : State) (j : ℕ) (x : Pass) → slice_get w.passes j ≡ S
 fine_moved w j x g c =
     let y : Pass = record x { left = x.left - 1 } in
     record {
-      counts = counts_same w (moved_at w j x) refl refl refl refl refl refl c.counts;
+      counts = c.counts;
       places = record {
         firsts = λ p. weight_set (in_first p) w.passes j x y g refl ∙ c.places.firsts p;
         ups = c.places.ups;
@@ -175,16 +159,16 @@ fine_let_in w stages c =
     let f : Progress = Entered w.events v in
     let x : Pass = pass_of w true n stages in
     record {
-      counts = counts_same w (let_in w stages) refl refl refl refl refl refl c.counts;
+      counts = c.counts;
       places = record {
         firsts = λ p. let m = mark_push pass_mark w.progress p f refl in let r = weight_push (in_first p) w.passes x in let u = c.places.firsts p in omega arith;
         ups = λ p. let m = mark_push up_mark w.progress p f refl in let u = c.places.ups p in omega arith;
         helds = λ p. let m = mark_push held_mark w.progress p f refl in let r = weight_push (in_last p) w.passes x in let u = c.places.helds p in omega arith;
       };
       needs = record {
-        firsts = λ z a u m t h. elim (push_cases w.progress f (Entered a u) z.number h) [
+        firsts = λ z a u m t h. elim (get_before_pushed w.progress f (Entered a u) z.number h) [
           | inl e ↦ elim (member_push w.passes x z m) [
-            | inl q ↦ sym (pass_version w.events v a u e.1) ∙ ap (λ k. k.version) q
+            | inl q ↦ let same : v ≡ u = cc (e.1) in sym same ∙ ap (λ k. k.version) q
             | inr old ↦ absurd (no_first w c z old t e.0)
           ]
           | inr there ↦ elim (member_push w.passes x z m) [
@@ -192,11 +176,15 @@ fine_let_in w stages c =
             | inr old ↦ c.needs.firsts z a u old t there
           ]
         ];
-        helds = λ p need a d u y m h. elim (push_cases w.progress f (Held a d u y) p h) [ inl e ↦ absurd (pass_held _ _ _ _ _ _ e.1) | inr there ↦ c.needs.helds p need a d u y m there ];
-        downs = λ p a d u y m h. elim (push_cases w.progress f (Held a d u y) p h) [ inl e ↦ absurd (pass_held _ _ _ _ _ _ e.1) | inr there ↦ c.needs.downs p a d u y m there ];
-        lasts = λ z a d u y m t h. elim (push_cases w.progress f (Held a d u y) z.number h) [
-          | inl e ↦ absurd (pass_held _ _ _ _ _ _ e.1)
-          | inr there ↦ elim (member_push w.passes x z m) [ inl q ↦ absurd (true_false (ap (λ k. k.pre) q ∙ t)) | inr old ↦ c.needs.lasts z a d u y old t there ]
+        helds = λ p need a d u y m h. elim (get_before_pushed w.progress f (Held a d u y) p h) [
+          | inl e ↦ cc
+              (e.1)
+          | inr there ↦ c.needs.helds p need a d u y m there
+        ];
+        downs = λ p a d u y m h. elim (get_before_pushed w.progress f (Held a d u y) p h) [ inl e ↦ cc (e.1) | inr there ↦ c.needs.downs p a d u y m there ];
+        lasts = λ z a d u y m t h. elim (get_before_pushed w.progress f (Held a d u y) z.number h) [
+          | inl e ↦ cc (e.1)
+          | inr there ↦ elim (member_push w.passes x z m) [ inl q ↦ absurd (true_not_false (ap (λ k. k.pre) q ∙ t)) | inr old ↦ c.needs.lasts z a d u y old t there ]
         ];
       };
       each = each_push (FateOk w.events w.version v) w.progress f c.each (omega arith, omega arith);
@@ -213,7 +201,7 @@ fine_finished w j x y g t c =
     let old = c.each x.number o at'.2 in
     let one : in_first x.number x ≡ 1 = rw (t, is_at x.number) refl in
     record {
-      counts = counts_same w (finished_at w j x y) refl refl refl refl refl refl c.counts;
+      counts = c.counts;
       places = record {
         firsts = λ p. rw new (let m = mark_set pass_mark w.progress x.number p o f at'.2 in let r = weight_remove (in_first p) w.passes j x g in let i : in_first p x ≡ is x.number p = rw t refl in let u = c.places.firsts p in omega arith);
         ups = λ p. rw new (let m = mark_set up_mark w.progress x.number p o f at'.2 in let u = c.places.ups p in omega arith);
@@ -234,7 +222,7 @@ fine_sent_up w j x g t c =
     let new : went_up (slice_get w.progress x.number) ≡ f = ap went_up at'.2 in
     let old = c.each x.number o at'.2 in
     record {
-      counts = counts_same w (up_at w j x) refl refl refl refl refl refl c.counts;
+      counts = c.counts;
       places = record {
         firsts = λ p. rw new (let m = mark_set pass_mark w.progress x.number p o f at'.2 in let r = weight_remove (in_first p) w.passes j x g in let i : in_first p x ≡ is x.number p = rw t refl in let u = c.places.firsts p in omega arith);
         ups = λ p. rw new (let m = mark_set up_mark w.progress x.number p o f at'.2 in let r = weight_push (in_up p) w.up x.number in let u = c.places.ups p in omega arith);
@@ -257,7 +245,7 @@ fine_came_down a w j x g t c =
     let seen = c.needs.lasts x fate.0 fate.1 fate.2 fate.3 (get_member w.passes j x g) t fate.4 in
     let more = visible_more (w.batches) w.acked w.done c.counts.acked_in in
     record {
-      counts = counts_same w (out_at a w j x) refl refl refl refl refl refl c.counts;
+      counts = c.counts;
       places = record {
         firsts = λ p. rw new (let m = mark_set pass_mark w.progress x.number p o f fate.4 in let r = weight_remove (in_first p) w.passes j x g in let i : in_first p x ≡ 0 = rw t refl in let u = c.places.firsts p in omega arith);
         ups = λ p. rw new (let m = mark_set up_mark w.progress x.number p o f fate.4 in let u = c.places.ups p in omega arith);
@@ -271,7 +259,7 @@ fine_came_down a w j x g t c =
 
 pub fine_let_go : (w : State) (j p need : ℕ) → slice_get w.held j ≡ Some (p, need) → need ≤ visible w.batches w.acked → Fine w → Fine (go_at w j p)
 fine_let_go w j p need g h c = record {
-  counts = counts_same w (go_at w j p) refl refl refl refl refl refl c.counts;
+  counts = c.counts;
   places = record {
     firsts = c.places.firsts;
     ups = c.places.ups;
@@ -294,14 +282,14 @@ pub fine_let_down : (w : State) (j p stages : ℕ) → slice_get w.down j ≡ So
 fine_let_down w j p stages g c =
     let x : Pass = pass_of w false p stages in
     record {
-      counts = counts_same w (let_down w j p stages) refl refl refl refl refl refl c.counts;
+      counts = c.counts;
       places = record {
         firsts = λ q. let r = weight_push (in_first q) w.passes x in let u = c.places.firsts q in omega arith;
         ups = c.places.ups;
         helds = λ q. let r = weight_remove (in_up q) w.down j p g in let b = weight_push (in_last q) w.passes x in let u = c.places.helds q in omega arith;
       };
       needs = record {
-        firsts = λ z a v m t there. elim (member_push w.passes x z m) [ inl e ↦ absurd (true_false (sym t ∙ sym (ap (λ k. k.pre) e))) | inr old ↦ c.needs.firsts z a v old t there ];
+        firsts = λ z a v m t there. elim (member_push w.passes x z m) [ inl e ↦ absurd (true_not_false (sym t ∙ sym (ap (λ k. k.pre) e))) | inr old ↦ c.needs.firsts z a v old t there ];
         helds = c.needs.helds;
         downs = λ q a d v y m. c.needs.downs q a d v y (member_remove w.down j q m);
         lasts = λ z a d v y m t there. elim (member_push w.passes x z m) [
@@ -315,15 +303,6 @@ fine_let_down w j p stages g c =
 
 pub pair_first : (p v q u : ℕ) → ◌≡◌ {A = ℕ × ℕ} (p, v) (q, u) → p ≡ q
 pair_first p v q u e = ap (λ (x : ℕ × ℕ). x.0) e
-
-pub pair_second : (p v q u : ℕ) → ◌≡◌ {A = ℕ × ℕ} (p, v) (q, u) → v ≡ u
-pair_second p v q u e = ap (λ (x : ℕ × ℕ). x.1) e
-
-pub held_version : (a d v a' d' v' : ℕ) (y y' : Store) → Held a d v y ≡ Held a' d' v' y' → v ≡ v'
-held_version a d v a' d' v' y y' e = cc
-
-pub up_is_held : {a b d v : ℕ} {y : Store} → Some (Up a) ≡ Some (Held b d v y) → ⊥
-up_is_held e = cc
 
 -- what stands behind the server isn't up
 pub not_held : (w : State) → Fine w → (q need a : ℕ) → Member (q, need) w.held → slice_get w.progress q ≡ Some (Up a) → ⊥
@@ -362,16 +341,17 @@ fine_run a w j p v stores batches g later shows counts c =
       };
       needs = record {
         firsts = λ z a u m t there. elim (set_cases w.progress p z.number o f (Entered a u) fate.1 (subst (λ k. slice_get (set w.progress p k) z.number ≡ Some (Entered a u)) new there)) [
-          | inl e ↦ absurd (pass_held a u fate.0 w.events v y (sym e.1))
+          | inl e ↦ cc (e.1)
           | inr old_there ↦ c.needs.firsts z a u m t old_there
         ];
         helds = λ q need a d u z m there. elim (set_cases w.progress p q o f (Held a d u z) fate.1 (subst (λ k. slice_get (set w.progress p k) q ≡ Some (Held a d u z)) new there)) [
           | inl e ↦ elim (member_push w.held (p, v) (q, need) m) [
-            | inl fresh ↦ sym (held_version _ _ _ _ _ _ _ _ e.1) ∙ pair_second p v q need fresh
+            | inl fresh ↦ let same : v ≡ u = cc (e.1) in sym same ∙ ap (λ (x : ℕ × ℕ). x.1) fresh
             | inr old_one ↦ absurd (not_held w c q need fate.0 old_one (subst (λ k. slice_get w.progress k ≡ Some (Up fate.0)) (sym e.0) fate.1))
           ]
           | inr old_there ↦ elim (member_push w.held (p, v) (q, need) m) [
-            | inl fresh ↦ absurd (up_is_held (sym fate.1 ∙ subst (λ k. slice_get w.progress k ≡ Some (Held a d u z)) (sym (pair_first p v q need fresh)) old_there))
+            | inl fresh ↦ let same : q ≡ p = sym (ap (λ (x : ℕ × ℕ). x.0) fresh) in let both = sym fate.1
+                ∙ subst (λ k. slice_get w.progress k ≡ Some (Held a d u z)) same old_there in cc both
             | inr old_one ↦ c.needs.helds q need a d u z old_one old_there
           ]
         ];

@@ -1,5 +1,5 @@
 -- what the lists, the fates and pairs of fates say
-use Rattle.std.proofs.Common.{◌≡◌, ℕ, ◌+◌, ◌<◌, ◌≤◌, true, false, cond, List, [], ◌∷◌, ◌++◌, Option, Some, None, inl, inr, refl, sym, ◌∙◌, subst, arith, set}
+use Rattle.std.proofs.Common.{◌≡◌, ℕ, ◌+◌, ◌<◌, ◌≤◌, true, false, cond, List, [], ◌∷◌, ◌++◌, Option, Some, None, ◌⊎◌, inl, inr, refl, sym, ◌∙◌, subst, arith, set}
 use Rattle.std.specs.Prelude.{slice_get}
 use Rattle.std.proofs.lemmas.Bool.{eq-eqb}
 use Rattle.std.proofs.lemmas.Option.{same_Some, none-some}
@@ -9,31 +9,20 @@ use Rattle.replay_state.specs.State.{State, Progress, Entered, Up, Held, Slow, F
 use Rattle.replay_state.proofs.Words.{admitted_at, released_at}
 use Rattle.run_model.specs.Members.{Member}
 use Rattle.replay_state.proofs.Words.{version_at}
-use Rattle.replay_state.proofs.Lists.{set_cases, push_cases, weight, weight_remove, is}
+use Rattle.replay_state.proofs.Lists.{set_cases, weight, weight_remove, is}
+use Rattle.lemmas.proofs.Lists.{get_before_pushed}
 
 abbrev pub pass_mark : Option Progress → ℕ
-pass_mark None = 0
 pass_mark (Some (Entered a v)) = 1
-pass_mark (Some (Up a)) = 0
-pass_mark (Some (Held a d v y)) = 0
-pass_mark (Some (Slow a d v y r)) = 0
-pass_mark (Some (Fast a d v y)) = 0
+pass_mark o = 0
 
 abbrev pub up_mark : Option Progress → ℕ
-up_mark None = 0
-up_mark (Some (Entered a v)) = 0
 up_mark (Some (Up a)) = 1
-up_mark (Some (Held a d v y)) = 0
-up_mark (Some (Slow a d v y r)) = 0
-up_mark (Some (Fast a d v y)) = 0
+up_mark o = 0
 
 abbrev pub held_mark : Option Progress → ℕ
-held_mark None = 0
-held_mark (Some (Entered a v)) = 0
-held_mark (Some (Up a)) = 0
 held_mark (Some (Held a d v y)) = 1
-held_mark (Some (Slow a d v y r)) = 0
-held_mark (Some (Fast a d v y)) = 0
+held_mark o = 0
 
 abbrev pub in_first : ℕ → Pass → ℕ
 in_first p x = cond x.pre (is x.number p) 0
@@ -57,28 +46,16 @@ pub is_at : (p : ℕ) → is p p ≡ 1
 is_at p = let e = eq-eqb p p refl in rw e refl
 
 pub pass_fate : (f : Option Progress) → 0 < pass_mark f → (a v : ℕ) × (f ≡ Some (Entered a v))
-pass_fate None h = absurd (omega arith)
 pass_fate (Some (Entered a v)) h = (a, v, refl)
-pass_fate (Some (Up a)) h = absurd (omega arith)
-pass_fate (Some (Held a d v y)) h = absurd (omega arith)
-pass_fate (Some (Slow a d v y r)) h = absurd (omega arith)
-pass_fate (Some (Fast a d v y)) h = absurd (omega arith)
+pass_fate f h = absurd (omega arith)
 
 pub up_fate : (f : Option Progress) → 0 < up_mark f → (a : ℕ) × (f ≡ Some (Up a))
-up_fate None h = absurd (omega arith)
-up_fate (Some (Entered a v)) h = absurd (omega arith)
 up_fate (Some (Up a)) h = (a, refl)
-up_fate (Some (Held a d v y)) h = absurd (omega arith)
-up_fate (Some (Slow a d v y r)) h = absurd (omega arith)
-up_fate (Some (Fast a d v y)) h = absurd (omega arith)
+up_fate f h = absurd (omega arith)
 
 pub held_fate : (f : Option Progress) → 0 < held_mark f → (a d v : ℕ) × (y : Store) × (f ≡ Some (Held a d v y))
-held_fate None h = absurd (omega arith)
-held_fate (Some (Entered a v)) h = absurd (omega arith)
-held_fate (Some (Up a)) h = absurd (omega arith)
 held_fate (Some (Held a d v y)) h = (a, d, v, y, refl)
-held_fate (Some (Slow a d v y r)) h = absurd (omega arith)
-held_fate (Some (Fast a d v y)) h = absurd (omega arith)
+held_fate f h = absurd (omega arith)
 
 pub at_first : (w : State) (j : ℕ) (x : Pass) → Places w → slice_get w.passes j ≡ Some x → x.pre ≡ true → (a v : ℕ) × (slice_get w.progress x.number ≡ Some (Entered a v))
 at_first w j x c g t = pass_fate (slice_get w.progress x.number)
@@ -108,9 +85,8 @@ FateOk now version most (Fast a d v y) = (a ≤ d) × (d ≤ now) × (v ≤ most
 pub fate_more : (now version most now' version' most' : ℕ) (f : Progress) → now ≤ now' → version ≤ version' → most ≤ most' → FateOk now version most f → FateOk now' version' most' f
 fate_more now version most now' version' most' (Entered a v) x y z h = (omega arith, omega arith)
 fate_more now version most now' version' most' (Up a) x y z h = omega arith
-fate_more now version most now' version' most' (Held a d v w) x y z h = (h.0, omega arith, omega arith)
 fate_more now version most now' version' most' (Slow a d v w r) x y z h = (h.0, h.1, omega arith, omega arith)
-fate_more now version most now' version' most' (Fast a d v w) x y z h = (h.0, omega arith, omega arith)
+fate_more now version most now' version' most' f x y z h = (h.0, omega arith, omega arith)
 
 abbrev pub Each : (Progress → Type 0) → List Progress → Type 0
 Each P fates = (p : ℕ) (f : Progress) → slice_get fates p ≡ Some f → P f
@@ -119,7 +95,7 @@ abbrev pub EachFine : State → Type 0
 EachFine w = Each (FateOk w.events w.version (visible w.batches w.done)) w.progress
 
 pub each_push : (P : Progress → Type 0) (fates : List Progress) (f : Progress) → Each P fates → P f → Each P (fates ++ f ∷ [])
-each_push P fates f all new p g h = elim (push_cases fates f g p h) [ inl e ↦ subst P e.1 new | inr old ↦ all p g old ]
+each_push P fates f all new p g h = elim (get_before_pushed fates f g p h) [ inl e ↦ subst P e.1 new | inr old ↦ all p g old ]
 
 pub each_set : (P : Progress → Type 0) (fates : List Progress) (k : ℕ) (o f : Progress) → slice_get fates k ≡ Some o → Each P fates → P f → Each P (set fates k f)
 each_set P fates k o f there all new p g h = elim (set_cases fates k p o f g there h) [ inl e ↦ subst P e.1 new | inr old ↦ all p g old ]
@@ -139,43 +115,34 @@ pub record Fits (fates : List Progress) (f : Progress) : Type 0 where
   pub second : (p : ℕ) (g : Progress) → slice_get fates p ≡ Some g → Pair g f
   pub self : Pair f f
 
-pub pairs_push : (fates : List Progress) (f : Progress) → Pairs fates → Fits fates f → Pairs (fates ++ f ∷ [])
-pairs_push fates f all fits p q x y hx hy = elim (push_cases fates f x p hx) [
-  | inl e ↦ elim (push_cases fates f y q hy) [
-    | inl e' ↦ subst (λ z. Pair z y) e.1 (subst (λ z. Pair f z) e'.1 fits.self)
-    | inr old' ↦ subst (λ z. Pair z y) e.1 (fits.first q y old')
+-- where each fate is the new one or was there
+pairs_new : (fates more : List Progress) (f : Progress) → ((p : ℕ) (x : Progress) → slice_get more p ≡ Some x → (f ≡ x) ⊎ (slice_get fates p ≡ Some x))
+    → Pairs fates → Fits fates f → Pairs more
+pairs_new fates more f cases all fits p q x y hx hy = elim (cases p x hx) [
+  | inl e ↦ elim (cases q y hy) [
+    | inl other ↦ subst (λ z. Pair z y) e (subst (λ z. Pair f z) other fits.self)
+    | inr old ↦ subst (λ z. Pair z y) e (fits.first q y old)
   ]
-  | inr old ↦ elim (push_cases fates f y q hy) [
-    | inl e' ↦ subst (λ z. Pair x z) e'.1 (fits.second p x old)
-    | inr old' ↦ all p q x y old old'
+  | inr there ↦ elim (cases q y hy) [
+    | inl other ↦ subst (λ z. Pair x z) other (fits.second p x there)
+    | inr old ↦ all p q x y there old
   ]
 ]
 
+pub pairs_push : (fates : List Progress) (f : Progress) → Pairs fates → Fits fates f → Pairs (fates ++ f ∷ [])
+pairs_push fates f = pairs_new fates (fates ++ f ∷ []) f (λ p x h. elim (get_before_pushed fates f x p h) [ inl e ↦ inl e.1 | inr old ↦ inr old ])
+
 pub pairs_set : (fates : List Progress) (k : ℕ) (o f : Progress) → slice_get fates k ≡ Some o → Pairs fates → Fits fates f → Pairs (set fates k f)
-pairs_set fates k o f there all fits p q x y hx hy = elim (set_cases fates k p o f x there hx) [
-  | inl e ↦ elim (set_cases fates k q o f y there hy) [
-    | inl e' ↦ subst (λ z. Pair z y) e.1 (subst (λ z. Pair f z) e'.1 fits.self)
-    | inr old' ↦ subst (λ z. Pair z y) e.1 (fits.first q y old')
-  ]
-  | inr old ↦ elim (set_cases fates k q o f y there hy) [
-    | inl e' ↦ subst (λ z. Pair x z) e'.1 (fits.second p x old)
-    | inr old' ↦ all p q x y old old'
-  ]
-]
+pairs_set fates k o f there = pairs_new fates (set fates k f) f (λ p x h. elim (set_cases fates k p o f x there h) [ inl e ↦ inl e.1 | inr old ↦ inr old ])
 
 pub admitted_le : (now version most a : ℕ) (f : Progress) → FateOk now version most f → admitted_at (Some f) ≡ Some a → a ≤ now
 admitted_le now version most a (Entered b v) h e = let same = same_Some _ _ e in omega arith
-admitted_le now version most a (Up b) h e = let same = same_Some _ _ e in omega arith
-admitted_le now version most a (Held b d v y) h e = let same = same_Some _ _ e in omega arith
-admitted_le now version most a (Slow b d v y r) h e = let same = same_Some _ _ e in omega arith
-admitted_le now version most a (Fast b d v y) h e = let same = same_Some _ _ e in omega arith
+admitted_le now version most a f h e = let same = same_Some _ _ e in omega arith
 
 pub released_le : (now version most r v : ℕ) (f : Progress) → FateOk now version most f → released_at (Some f) ≡ Some r → version_at (Some f) ≡ Some v → v ≤ most
-released_le now version most r v (Entered b u) h e k = cc
-released_le now version most r v (Up b) h e k = cc
-released_le now version most r v (Held b d u y) h e k = cc
 released_le now version most r v (Slow b d u y t) h e k = let same = same_Some _ _ k in omega arith
 released_le now version most r v (Fast b d u y) h e k = let same = same_Some _ _ k in omega arith
+released_le now version most r v f h e k = cc
 
 -- a fate that isn't released yet, and whose version, if any, is at least what is shown
 pub fits_late : (now version most : ℕ) (fates : List Progress) (f : Progress) → Each (FateOk now version most) fates → released_at (Some f) ≡ None

@@ -1,24 +1,27 @@
 -- The objects of each version, batch by batch, also where batches are taken up.
 use Rattle.std.proofs.Common.{◌≡◌, ℕ, ◌+◌, ◌-◌, ◌*◌, ◌≤◌, Bool, true, leb, eqb, List, [], ◌∷◌, ◌++◌, inl, inr, refl, sym, ◌∙◌, ap, subst, arith, zero, suc, take, map, length}
 use Rattle.std.proofs.lemmas.Bool.{cases_Bool, cases_lt}
-use Rattle.std.proofs.lemmas.List.{take_all, take-append-le, length-map, get_or_append_left, get_or_push}
+use Rattle.std.proofs.lemmas.List.{take-map, take_all, take-append-le, length-map, get_or_append_left, get_or_push}
 use Rattle.state_store.specs.Store.{Object, Store, object_at}
 use Rattle.writeback_table.specs.declared.command.Update.{Update}
 use Rattle.writeback_table.specs.declared.command.Command.{Command}
-use Rattle.writeback_table.specs.declared.command.Command.TheVariants.{Stage, On, Main, Off, Clear}
-use Rattle.writeback_table.specs.Commands.{clear_of, commands_of, counts_on, ons}
+use Rattle.writeback_table.specs.declared.command.Command.TheVariants.{On}
+use Rattle.writeback_table.specs.Commands.{commands_of, ons}
 use Rattle.writeback_table.specs.Batches.{all_commands, changed_at, changed_by, object_after, TakesAll, AreTaken, count_of}
 use Rattle.output_commit.specs.Batches.{Batch, commands_in, merged, take_up}
 use Rattle.replay_state.specs.State.{store_at}
 use Rattle.replay_state.proofs.Counts.{shows, versions_of, versions_in, sum_of, sums, sum_append, sum_batch, first_sum, first_split, joined}
+use Rattle.writeback_table.proofs.Histories.{batch_ons, ons_append}
+use Rattle.lemmas.proofs.Lists.{take_parts}
 
 -- ---- changes one behind the other
 
-changed_append : (o : ℕ) (object : Object) (us vs : List Update) → changed_by o object (us ++ vs) ≡ changed_by o (changed_by o object us) vs
+pub changed_append : (o : ℕ) (object : Object) (us vs : List Update) → changed_by o object (us ++ vs) ≡ changed_by o (changed_by o object us) vs
 changed_append o object [] vs = refl
 changed_append o object (u ∷ us) vs = changed_append o (changed_at o object u) us vs
 
-takes_append : (o : ℕ) (object : Object) (us vs : List Update) → TakesAll o object us → TakesAll o (changed_by o object us) vs → TakesAll o object (us ++ vs)
+pub takes_append : (o : ℕ) (object : Object) (us vs : List Update) → TakesAll o object us → TakesAll o (changed_by o object us) vs
+    → TakesAll o object (us ++ vs)
 takes_append o object [] vs h k = k
 takes_append o object (u ∷ us) vs h k = (h.0, takes_append o (changed_at o object u) us vs h.1 k)
 
@@ -134,53 +137,20 @@ begun_at o room stores now (suc k) v object (b ∷ bs) low h =
 shows_ons : (v : ℕ) (cs : List Command) → sum_of (map (shows v) cs) ≡ v * ons cs
 shows_ons v [] = omega arith
 shows_ons v (On ∷ cs) = let r = shows_ons v cs in let e : v * (1 + ons cs) ≡ v + v * ons cs = grind arith in omega arith
-shows_ons v (Stage u ∷ cs) = let r = shows_ons v cs in let e : 0 + ons cs ≡ ons cs = omega arith in rw e (omega arith)
-shows_ons v (Main u ∷ cs) = let r = shows_ons v cs in let e : 0 + ons cs ≡ ons cs = omega arith in rw e (omega arith)
-shows_ons v (Off ∷ cs) = let r = shows_ons v cs in let e : 0 + ons cs ≡ ons cs = omega arith in rw e (omega arith)
-shows_ons v (Clear o k ∷ cs) = let r = shows_ons v cs in let e : 0 + ons cs ≡ ons cs = omega arith in rw e (omega arith)
-
-take_map : {X Y : Type 0} (f : X → Y) (xs : List X) (n : ℕ) → take n (map f xs) ≡ map f (take n xs)
-take_map f xs zero = refl
-take_map f [] (suc n) = refl
-take_map f (x ∷ xs) (suc n) = ap (λ l. f x ∷ l) (take_map f xs n)
-
-ons_append : (xs ys : List Command) → ons (xs ++ ys) ≡ ons xs + ons ys
-ons_append [] ys = omega arith
-ons_append (x ∷ xs) ys = let r = ons_append xs ys in omega arith
-
-ons_none : (f : Update → Command) → ((u : Update) → counts_on (f u) ≡ 0) → (us : List Update) → ons (map f us) ≡ 0
-ons_none f none [] = refl
-ons_none f none (u ∷ us) = let r = ons_none f none us in let h = none u in omega arith
-
-ons_batch : (us : List Update) → ons (commands_of us) ≡ 1
-ons_batch us =
-    let mains = map (λ u. Main u) us in
-    let clears = map clear_of us in
-    let one = ons_append (map (λ u. Stage u) us) (On ∷ (mains ++ (Off ∷ clears))) in
-    let two = ons_append mains (Off ∷ clears) in
-    let a = ons_none (λ u. Stage u) (λ u. refl) us in
-    let b = ons_none (λ u. Main u) (λ u. refl) us in
-    let c = ons_none clear_of (λ u. refl) us in
-    omega arith
+shows_ons v (command ∷ cs) = let r = shows_ons v cs in let e : 0 + ons cs ≡ ons cs = omega arith in rw e (omega arith)
 
 pub ons_most : (cs : List Command) (n : ℕ) → ons (take n cs) ≤ ons cs
 ons_most cs zero = omega arith
 ons_most [] (suc n) = omega arith
 ons_most (c ∷ cs) (suc n) = let r = ons_most cs n in omega arith
 
-take_split : {X : Type 0} (xs ys : List X) (n : ℕ) → length xs ≤ n → take n (xs ++ ys) ≡ xs ++ take (n - length xs) ys
-take_split [] ys n low = let e : n - 0 ≡ n = omega arith in rw e refl
-take_split (x ∷ xs) ys zero low = absurd (omega arith)
-take_split (x ∷ xs) ys (suc n) low = let e : suc n - suc (length xs) ≡ n - length xs = omega arith in rw e (ap (λ l. x ∷ l) (take_split xs ys n (omega arith)))
-
 -- the versions of one batch after n of its commands
 of_batch : (b : Batch) (n : ℕ) → first_sum (versions_of b) n ≡ b.versions * ons (take n (commands_of b.updates))
-of_batch b n = ap sum_of (take_map (shows b.versions) (commands_of b.updates) n) ∙ shows_ons b.versions (take n (commands_of b.updates))
+of_batch b n = ap sum_of (take-map (shows b.versions) n (commands_of b.updates)) ∙ shows_ons b.versions (take n (commands_of b.updates))
 
 first_few : (b : Batch) (bs : List Batch) (k : ℕ) → k ≤ 1 → versions_first (b ∷ bs) k ≡ b.versions * k
-first_few b bs zero low = omega arith
-first_few b bs (suc zero) low = omega arith
 first_few b bs (suc (suc k)) low = absurd (omega arith)
+first_few b bs k low = omega arith
 
 pub sums_counts : (bs : List Batch) (n : ℕ) → sums bs n ≡ versions_first bs (ons (take n (commands_in bs)))
 sums_counts [] zero = refl
@@ -193,18 +163,19 @@ sums_counts (b ∷ bs) n =
     elim (cases_lt (length cs) n) [
       | inl past ↦
           let all : take n cs ≡ cs = take_all n cs (omega arith) in
-          let whole : ons (take n cs) ≡ 1 = ap ons all ∙ ons_batch b.updates in
+          let whole : ons (take n cs) ≡ 1 = ap ons all ∙ batch_ons b.updates in
           let rest = sums_counts bs (n - length cs) in
           let same : n - length (versions_of b) ≡ n - length cs = omega arith in
           let later : sums bs (n - length (versions_of b)) ≡ versions_first bs (ons (take (n - length cs) (commands_in bs))) = ap (sums bs) same ∙ rest in
           let count : ons (take n (cs ++ commands_in bs)) ≡ suc (ons (take (n - length cs) (commands_in bs))) =
-          ap ons (take_split cs (commands_in bs) n (omega arith)) ∙ ons_append cs (take (n - length cs) (commands_in bs)) ∙ (let w = ons_batch b.updates in omega arith) in
+          ap ons (take_parts cs (commands_in bs) n ∙ ap (λ l. l ++ take (n - length cs) (commands_in bs)) all)
+          ∙ ons_append cs (take (n - length cs) (commands_in bs)) ∙ (let w = batch_ons b.updates in omega arith) in
           let first : first_sum (versions_of b) n ≡ b.versions = one ∙ ap (λ k. b.versions * k) whole ∙ omega arith in
           rw count (omega arith)
       | inr within ↦
           let none : n - length (versions_of b) ≡ 0 = omega arith in
           let count : ons (take n (cs ++ commands_in bs)) ≡ ons (take n cs) = ap ons (take-append-le n cs (commands_in bs) within) in
-          let few : ons (take n cs) ≤ 1 = let m = ons_most cs n in let w = ons_batch b.updates in omega arith in
+          let few : ons (take n cs) ≤ 1 = let m = ons_most cs n in let w = batch_ons b.updates in omega arith in
           let first = first_few b bs (ons (take n cs)) few in
           let later : sums bs (n - length (versions_of b)) ≡ 0 = ap (sums bs) none in
           rw count (omega arith)

@@ -1,27 +1,12 @@
 -- lists: what is at a place, members and weights, after an edit
-use Rattle.std.proofs.Common.{◌≡◌, ℕ, ◌+◌, ◌*◌, cond, eqb, List, [], ◌∷◌, ◌++◌, ◌<◌, ◌≤◌, Option, Some, None, ◌⊎◌, inl, inr, refl, sym, ◌∙◌, ap, subst, arith, zero, suc, length, map, set}
+use Rattle.std.proofs.Common.{◌≡◌, ℕ, ◌+◌, ◌*◌, cond, eqb, List, [], ◌∷◌, ◌++◌, ◌≤◌, Option, Some, None, ◌⊎◌, inl, inr, refl, sym, ◌∙◌, ap, subst, arith, zero, suc, length, map, set}
 use Rattle.std.specs.Prelude.{slice_get, remove}
 use Rattle.std.proofs.lemmas.Bool.{cases_eq, eq-eqb, ne_eqb}
 use Rattle.std.proofs.lemmas.Option.{same_Some}
 use Rattle.replay_state.specs.State.{Progress}
 pub use Rattle.replay_state.specs.Drain.{weight}
 use Rattle.run_model.specs.Members.{Member}
-
-pub get_set_same : {X : Type 0} (xs : List X) (k : ℕ) (x y : X) → slice_get xs k ≡ Some x → slice_get (set xs k y) k ≡ Some y
-get_set_same [] k x y h = cc
-get_set_same (z ∷ xs) zero x y h = refl
-get_set_same (z ∷ xs) (suc k) x y h = get_set_same xs k x y h
-
-pub get_set_other : {X : Type 0} (xs : List X) (k n : ℕ) (y : X) → (n ≡ k → ⊥) → slice_get (set xs k y) n ≡ slice_get xs n
-get_set_other [] k n y h = refl
-get_set_other (z ∷ xs) zero zero y h = absurd (h refl)
-get_set_other (z ∷ xs) zero (suc n) y h = refl
-get_set_other (z ∷ xs) (suc k) zero y h = refl
-get_set_other (z ∷ xs) (suc k) (suc n) y h = get_set_other xs k n y (λ e. h (ap suc e))
-
-pub get_push_same : {X : Type 0} (xs : List X) (y : X) → slice_get (xs ++ y ∷ []) (length xs) ≡ Some y
-get_push_same [] y = refl
-get_push_same (z ∷ xs) y = get_push_same xs y
+use Rattle.lemmas.proofs.Lists.{get_past, get_pushed, get_set_other, get_set_same}
 
 pub get_push_other : {X : Type 0} (xs : List X) (y : X) (n : ℕ) → (n ≡ length xs → ⊥) → slice_get (xs ++ y ∷ []) n ≡ slice_get xs n
 get_push_other [] y zero h = absurd (h refl)
@@ -29,21 +14,11 @@ get_push_other [] y (suc n) h = refl
 get_push_other (z ∷ xs) y zero h = refl
 get_push_other (z ∷ xs) y (suc n) h = get_push_other xs y n (λ e. h (ap suc e))
 
-pub get_past : {X : Type 0} (xs : List X) → slice_get xs (length xs) ≡ None
-get_past [] = refl
-get_past (x ∷ xs) = get_past xs
-
 -- what is at a place after an edit is new or was there
 pub set_cases : {X : Type 0} (xs : List X) (k p : ℕ) (x y z : X) → slice_get xs k ≡ Some x → slice_get (set xs k y) p ≡ Some z → ((p ≡ k) × (y ≡ z)) ⊎ (slice_get xs p ≡ Some z)
 set_cases xs k p x y z there h = elim (cases_eq p k) [
   | inl e ↦ inl (e, same_Some _ _ (sym (get_set_same xs k x y there) ∙ subst (λ n. slice_get (set xs k y) n ≡ Some z) e h))
   | inr d ↦ inr (sym (get_set_other xs k p y d) ∙ h)
-]
-
-pub push_cases : {X : Type 0} (xs : List X) (y z : X) (p : ℕ) → slice_get (xs ++ y ∷ []) p ≡ Some z → ((p ≡ length xs) × (y ≡ z)) ⊎ (slice_get xs p ≡ Some z)
-push_cases xs y z p h = elim (cases_eq p (length xs)) [
-  | inl e ↦ inl (e, same_Some _ _ (sym (get_push_same xs y) ∙ subst (λ n. slice_get (xs ++ y ∷ []) n ≡ Some z) e h))
-  | inr d ↦ inr (sym (get_push_other xs y p d) ∙ h)
 ]
 
 pub member_remove : {X : Type 0} (xs : List X) (j : ℕ) (x : X) → Member x (remove xs j) → Member x xs
@@ -108,26 +83,13 @@ mark_set M fates k p o f there = elim (cases_eq p k) [
 
 pub mark_push : (M : Option Progress → ℕ) (fates : List Progress) (p : ℕ) (f : Progress) → M None ≡ 0 → M (slice_get (fates ++ f ∷ []) p) ≡ M (slice_get fates p) + M (Some f) * is (length fates) p
 mark_push M fates p f none = elim (cases_eq p (length fates)) [
-  | inl e ↦ rw (e, get_push_same fates f, get_past fates, is_self (length fates), none) (omega arith)
+  | inl e ↦ rw (e, get_pushed fates f, get_past fates, is_self (length fates), none) (omega arith)
   | inr d ↦ rw (get_push_other fates f p d, is_other (length fates) p d) (omega arith)
 ]
-
-pub get_within : {X : Type 0} (xs : List X) (i : ℕ) → i < length xs → (x : X) × (slice_get xs i ≡ Some x)
-get_within [] i h = absurd (omega arith)
-get_within (x ∷ xs) zero h = (x, refl)
-get_within (x ∷ xs) (suc i) h = get_within xs i (omega arith)
-
-pub none_within : {X : Type 0} (xs : List X) → length xs ≡ 0 → xs ≡ []
-none_within [] h = refl
-none_within (x ∷ xs) h = absurd (omega arith)
 
 pub remove_push : {X : Type 0} (xs : List X) (y : X) → remove (xs ++ y ∷ []) (length xs) ≡ xs
 remove_push [] y = refl
 remove_push (x ∷ xs) y = ap (λ l. x ∷ l) (remove_push xs y)
-
-pub map_map : {X Y Z : Type 0} (f : X → Y) (g : Y → Z) (xs : List X) → map g (map f xs) ≡ map (λ x. g (f x)) xs
-map_map f g [] = refl
-map_map f g (x ∷ xs) = ap (λ l. g (f x) ∷ l) (map_map f g xs)
 
 pub map_agree : {X Y : Type 0} (f g : X → Y) (xs : List X) → ((x : X) → Member x xs → f x ≡ g x) → map f xs ≡ map g xs
 map_agree f g [] h = refl
@@ -136,7 +98,7 @@ map_agree f g (x ∷ xs) h = let a = h x (inl refl) in let r = map_agree f g xs 
 -- a fact about each place that an edit keeps
 pub kept_push : {X Y : Type 0} (what : Option X → Y) (xs : List X) (x : X) → what (Some x) ≡ what None → (n : ℕ) → what (slice_get (xs ++ x ∷ []) n) ≡ what (slice_get xs n)
 kept_push what xs x same n = elim (cases_eq n (length xs)) [
-  | inl e ↦ rw e (ap what (get_push_same xs x) ∙ same ∙ sym (ap what (get_past xs)))
+  | inl e ↦ rw e (ap what (get_pushed xs x) ∙ same ∙ sym (ap what (get_past xs)))
   | inr d ↦ ap what (get_push_other xs x n d)
 ]
 

@@ -1,29 +1,31 @@
 -- One call ends each pass.
 use Rattle.std.proofs.Common.{◌≡◌, ℕ, ◌+◌, Bool, true, false, cond, leb, eqb, List, [], ◌∷◌, ◌++◌, Option, Some, None, inl, inr, refl, sym, ◌∙◌, ap, subst, arith, length, map, set}
 use Rattle.std.specs.Prelude.{slice_get, remove, is_some}
-use Rattle.std.proofs.lemmas.Bool.{cases_Bool}
+use Rattle.std.proofs.lemmas.Bool.{cases_Bool, cases_eq}
 use Rattle.packet_fields.specs.declared.packet.Packet.{Packet}
 use Rattle.packet_fields.specs.declared.verdict.Verdict.{Verdict}
 use Rattle.state_store.specs.Store.{Store, start_store}
 use Rattle.writeback_table.specs.declared.command.Update.{Update}
 use Rattle.writeback_table.specs.declared.command.Command.{Command}
 use Rattle.run_model.specs.declared.event.Event.{Event}
-use Rattle.run_model.specs.declared.event.Event.TheVariants.{Admit, Stage, Serve, Send, Apply, Ack, Hold, Down}
+use Rattle.run_model.specs.declared.event.Event.TheVariants.{Admit, Stage, Serve, Apply, Hold, Down}
 use Rattle.replay_state.specs.Answers.{Answers, Setup}
 use Rattle.output_commit.specs.Batches.{commands_in}
 use Rattle.replay_state.specs.State.{State, Progress, Entered, Up, Held, Slow, Fast, Pass, seen, store_at, first_state}
 use Rattle.replay_state.specs.Step.{applies, happens, step, steps, tick}
 use Rattle.replay_state.specs.Step.{finished, went_up, decided, released, came_in, ended, entered, staged, pass_of, with_changes, ran, served, let_go, came_down}
 use Rattle.replay_state.specs.Program.{SplitProgram}
-use Rattle.replay_state.specs.Journal.{UpAnswer, Finished, SentUp, GoingUp, DownAnswer, Released, GoingDown, Call, CalledUp, CalledStageUp, CalledCommand, CalledDown, CalledStageDown}
+use Rattle.replay_state.specs.Journal.{UpAnswer, GoingUp, DownAnswer, Released, GoingDown, Call, CalledUp, CalledStageUp, CalledDown, CalledStageDown}
 use Rattle.replay_state.specs.Journal.{only_for, up_end, down_end, ends_up, ends_down, journal, is_up_end, is_down_end, question_of}
 use Rattle.replay_state.specs.Journal.{Question, asks_stage, asks_command, asks_down, asks, asked, questions, IsAnswered}
 use Rattle.replay_state.specs.Journal.{one_if, up_ends, down_ends, has_passed, has_come_down, EndOnce}
-use Rattle.replay_state.proofs.Lists.{get_push_same, is, mark_set, mark_push, remove_push}
+use Rattle.replay_state.proofs.Lists.{is, is_other, is_self, mark_push, remove_push}
 use Rattle.replay_state.proofs.Fates.{at_first, at_last, at_up}
 use Rattle.replay_state.proofs.Effects.{Fine, fine_let_down, fine_let_in, fine_tick}
 use Rattle.replay_state.proofs.Sane.{Sane, sane_step, sane_first}
+use Rattle.replay_state.proofs.Steps.{out_at}
 use Rattle.replay_state.proofs.Answered.{ending, up_of, down_of}
+use Rattle.lemmas.proofs.Lists.{get_pushed, get_set_other, get_set_same}
 
 -- ---- questions that end passes
 
@@ -31,21 +33,14 @@ abbrev mark : Option ℕ → ℕ → ℕ
 mark None n = 0
 mark (Some m) n = is m n
 
-abbrev ups : ℕ → List Question → ℕ
-ups n [] = 0
-ups n (q ∷ qs) = mark (up_of q) n + ups n qs
+-- how many of the questions end such a pass of packet n
+abbrev marks : (Question → Option ℕ) → ℕ → List Question → ℕ
+marks of n [] = 0
+marks of n (q ∷ qs) = mark (of q) n + marks of n qs
 
-abbrev downs : ℕ → List Question → ℕ
-downs n [] = 0
-downs n (q ∷ qs) = mark (down_of q) n + downs n qs
-
-ups_append : (n : ℕ) (qs more : List Question) → ups n (qs ++ more) ≡ ups n qs + ups n more
-ups_append n [] more = omega arith
-ups_append n (q ∷ qs) more = let r = ups_append n qs more in omega arith
-
-downs_append : (n : ℕ) (qs more : List Question) → downs n (qs ++ more) ≡ downs n qs + downs n more
-downs_append n [] more = omega arith
-downs_append n (q ∷ qs) more = let r = downs_append n qs more in omega arith
+marks_append : (of : Question → Option ℕ) (n : ℕ) (qs more : List Question) → marks of n (qs ++ more) ≡ marks of n qs + marks of n more
+marks_append of n [] more = omega arith
+marks_append of n (q ∷ qs) more = let r = marks_append of n qs more in omega arith
 
 only_counts : {X : Type 0} (m n : ℕ) (x : X) → one_if (is_some (only_for m n (Some x))) ≡ is m n
 only_counts m n x = elim (cases_Bool (eqb m n)) [ inl t ↦ rw t refl | inr t ↦ rw t refl ]
@@ -54,9 +49,8 @@ none_counts : (X : Type 0) (m n : ℕ) → one_if (is_some (only_for {X = X} m n
 none_counts X m n = elim (cases_Bool (eqb m n)) [ inl t ↦ rw t refl | inr t ↦ rw t refl ]
 
 up_counts : (m n : ℕ) (answer : UpAnswer) → one_if (is_some (only_for m n (up_end answer))) ≡ mark (ending (is_up_end answer) m) n
-up_counts m n (Finished y) = only_counts m n (Finished y)
-up_counts m n (SentUp frame) = only_counts m n (SentUp frame)
 up_counts m n GoingUp = none_counts UpAnswer m n
+up_counts m n answer = only_counts m n answer
 
 down_counts : (m n : ℕ) (answer : DownAnswer) → one_if (is_some (only_for m n (down_end answer))) ≡ mark (ending (is_down_end answer) m) n
 down_counts m n (Released y) = only_counts m n y
@@ -65,22 +59,18 @@ down_counts m n GoingDown = none_counts Verdict m n
 call_ups : (call : Call) (n : ℕ) → one_if (is_some (ends_up n call)) ≡ mark (up_of (question_of call)) n
 call_ups (CalledUp fine m packet answer) n = up_counts m n answer
 call_ups (CalledStageUp m answer) n = up_counts m n answer
-call_ups (CalledCommand command) n = refl
-call_ups (CalledDown fine m frame answer) n = refl
-call_ups (CalledStageDown m answer) n = refl
+call_ups call n = refl
 
 call_downs : (call : Call) (n : ℕ) → one_if (is_some (ends_down n call)) ≡ mark (down_of (question_of call)) n
-call_downs (CalledUp fine m packet answer) n = refl
-call_downs (CalledStageUp m answer) n = refl
-call_downs (CalledCommand command) n = refl
 call_downs (CalledDown fine m frame answer) n = down_counts m n answer
 call_downs (CalledStageDown m answer) n = down_counts m n answer
+call_downs call n = refl
 
-calls_up : (calls : List Call) (n : ℕ) → up_ends n calls ≡ ups n (map question_of calls)
+calls_up : (calls : List Call) (n : ℕ) → up_ends n calls ≡ marks up_of n (map question_of calls)
 calls_up [] n = refl
 calls_up (call ∷ calls) n = let one = call_ups call n in let rest = calls_up calls n in omega arith
 
-calls_down : (calls : List Call) (n : ℕ) → down_ends n calls ≡ downs n (map question_of calls)
+calls_down : (calls : List Call) (n : ℕ) → down_ends n calls ≡ marks down_of n (map question_of calls)
 calls_down [] n = refl
 calls_down (call ∷ calls) n = let one = call_downs call n in let rest = calls_down calls n in omega arith
 
@@ -110,38 +100,45 @@ up_gain pre m n = cond pre (is m n) 0
 abbrev down_gain : Bool → ℕ → ℕ → ℕ
 down_gain pre m n = cond pre 0 (is m n)
 
+no_gain : (b : Bool) → ◌≡◌ {A = ℕ} (cond b 0 0) 0
+no_gain true = refl
+no_gain false = refl
+
+-- a packet that changes, where one pass of it ends or none
+gain_set : (M : Option Progress → ℕ) (fates : List Progress) (k n : ℕ) (old new : Progress) (ends : Bool) → slice_get fates k ≡ Some old
+    → M (Some new) ≡ M (Some old) + cond ends 1 0
+    → M (slice_get (set fates k new) n) ≡ M (slice_get fates n) + cond ends (is k n) 0
+gain_set M fates k n old new ends there e = elim (cases_eq n k) [
+  | inl q ↦ rw (q, get_set_same fates k old new there, there, is_self k) e
+  | inr d ↦ rw (get_set_other fates k n new d, is_other k n d, no_gain ends) (omega arith)
+]
+
+gains_set : (w x : State) (k : ℕ) (old new : Progress) (up down : Bool) → slice_get w.progress k ≡ Some old → x.progress ≡ set w.progress k new
+    → passed (Some new) ≡ passed (Some old) + cond up 1 0 → came (Some new) ≡ came (Some old) + cond down 1 0
+    → Gains w x (λ n. cond up (is k n) 0) (λ n. cond down (is k n) 0)
+gains_set w x k old new up down there same p c = record {
+  up = λ n. ap (λ l. passed (slice_get l n)) same ∙ gain_set passed w.progress k n old new up there p;
+  down = λ n. ap (λ l. came (slice_get l n)) same ∙ gain_set came w.progress k n old new down there c;
+}
+
 module _ (setup : Setup) (a : Answers) where
   gains_in : (w : State) (j : ℕ) (x : Pass) (o : Option Verdict) → slice_get w.passes j ≡ Some x → x.pre ≡ true → Fine w
       → Gains w (came_in (record w { passes = remove w.passes j }) x.number o) (λ n. is x.number n) (λ n. 0)
   gains_in w j x None g t k =
-      let at' = at_first w j x k.places g t in
-      let old : Progress = Entered at'.0 at'.1 in
-      let new : went_up (slice_get w.progress x.number) ≡ Up at'.0 = ap went_up at'.2 in
-      record {
-        up = λ n. rw new (let m = mark_set passed w.progress x.number n old (Up at'.0) at'.2 in omega arith);
-        down = λ n. rw new (let m = mark_set came w.progress x.number n old (Up at'.0) at'.2 in omega arith);
-      }
+      let fate = at_first w j x k.places g t in
+      gains_set w (came_in (record w { passes = remove w.passes j }) x.number None) x.number (Entered fate.0 fate.1) (Up fate.0) true false fate.2
+      (ap (λ o. set w.progress x.number (went_up o)) fate.2) refl refl
   gains_in w j x (Some y) g t k =
-      let at' = at_first w j x k.places g t in
-      let old : Progress = Entered at'.0 at'.1 in
-      let f : Progress = Fast at'.0 w.events at'.1 y in
-      let new : finished w.events y (slice_get w.progress x.number) ≡ f = ap (finished w.events y) at'.2 in
-      record {
-        up = λ n. rw new (let m = mark_set passed w.progress x.number n old f at'.2 in omega arith);
-        down = λ n. rw new (let m = mark_set came w.progress x.number n old f at'.2 in omega arith);
-      }
+      let fate = at_first w j x k.places g t in
+      gains_set w (came_in (record w { passes = remove w.passes j }) x.number (Some y)) x.number (Entered fate.0 fate.1)
+      (Fast fate.0 w.events fate.1 y) true false fate.2
+      (ap (λ o. set w.progress x.number (finished w.events y o)) fate.2) refl refl
 
-  gains_out : (w : State) (j : ℕ) (x : Pass) → slice_get w.passes j ≡ Some x → x.pre ≡ false → Fine w
-      → Gains w (record w { passes = remove w.passes j; progress = set w.progress x.number (released (λ over. a.post over x.number) w.events (slice_get w.progress x.number)) }) (λ n. 0) (λ n. is x.number n)
+  gains_out : (w : State) (j : ℕ) (x : Pass) → slice_get w.passes j ≡ Some x → x.pre ≡ false → Fine w → Gains w (out_at a w j x) (λ n. 0) (λ n. is x.number n)
   gains_out w j x g t k =
-      let at' = at_last w j x k.places g t in
-      let old : Progress = Held at'.0 at'.1 at'.2 at'.3 in
-      let f : Progress = Slow at'.0 at'.1 at'.2 (a.post at'.3 x.number) w.events in
-      let new : released (λ over. a.post over x.number) w.events (slice_get w.progress x.number) ≡ f = ap (released (λ over. a.post over x.number) w.events) at'.4 in
-      record {
-        up = λ n. rw new (let m = mark_set passed w.progress x.number n old f at'.4 in omega arith);
-        down = λ n. rw new (let m = mark_set came w.progress x.number n old f at'.4 in omega arith);
-      }
+      let fate = at_last w j x k.places g t in
+      gains_set w (out_at a w j x) x.number (Held fate.0 fate.1 fate.2 fate.3) (Slow fate.0 fate.1 fate.2 (a.post fate.3 x.number) w.events) false true fate.4
+      (ap (λ o. set w.progress x.number (released (λ over. a.post over x.number) w.events o)) fate.4) refl refl
 
   gains_ended : (w : State) (j : ℕ) (x : Pass) → slice_get w.passes j ≡ Some x → Fine w
       → Gains w (ended a (record w { passes = remove w.passes j }) x) (up_gain x.pre x.number) (down_gain x.pre x.number)
@@ -156,29 +153,23 @@ module _ (setup : Setup) (a : Answers) where
   gains_entered w x k = elim (cases_Bool (eqb x.left 0)) [
     | inl t ↦ rw t (
         let r : Gains w (ended a (record w { passes = remove (w.passes ++ x ∷ []) (length w.passes) }) x) (up_gain x.pre x.number) (down_gain x.pre x.number) =
-        let g = gains_ended (record w { passes = w.passes ++ x ∷ [] }) (length w.passes) x (get_push_same w.passes x) k in
+        let g = gains_ended (record w { passes = w.passes ++ x ∷ [] }) (length w.passes) x (get_pushed w.passes x) k in
         record { up = g.up; down = g.down } in
         subst (λ l. Gains w (ended a (record w { passes = l }) x) (up_gain x.pre x.number) (down_gain x.pre x.number)) (remove_push w.passes x) r)
     | inr t ↦ rw t (gains_none w (record w { passes = w.passes ++ x ∷ [] }) refl)
   ]
 
+  gains_run : (w x : State) (j p v : ℕ) → slice_get w.up j ≡ Some p → x.progress ≡ set w.progress p (decided w.events v w.store (slice_get w.progress p))
+      → Fine w
+      → Gains w x (λ n. 0) (λ n. 0)
+  gains_run w x j p v g same k =
+      let fate = at_up w j p k.places g in
+      gains_set w x p (Up fate.0) (Held fate.0 w.events v w.store) false false fate.1 (same
+      ∙ ap (λ o. set w.progress p (decided w.events v w.store o)) fate.1) refl refl
+
   gains_ran : (w : State) (j p : ℕ) (store : Store) (us : List Update) → slice_get w.up j ≡ Some p → Fine w → Gains w (ran a w (with_changes store us w) j p) (λ n. 0) (λ n. 0)
-  gains_ran w j p store [] g k =
-      let at' = at_up w j p k.places g in
-      let f : Progress = Held at'.0 w.events w.version w.store in
-      let new : decided w.events w.version w.store (slice_get w.progress p) ≡ f = ap (decided w.events w.version w.store) at'.1 in
-      record {
-        up = λ n. rw new (let m = mark_set passed w.progress p n (Up at'.0) f at'.1 in omega arith);
-        down = λ n. rw new (let m = mark_set came w.progress p n (Up at'.0) f at'.1 in omega arith);
-      }
-  gains_ran w j p store (u ∷ us) g k =
-      let at' = at_up w j p k.places g in
-      let f : Progress = Held at'.0 w.events (w.version + 1) w.store in
-      let new : decided w.events (w.version + 1) w.store (slice_get w.progress p) ≡ f = ap (decided w.events (w.version + 1) w.store) at'.1 in
-      record {
-        up = λ n. rw new (let m = mark_set passed w.progress p n (Up at'.0) f at'.1 in omega arith);
-        down = λ n. rw new (let m = mark_set came w.progress p n (Up at'.0) f at'.1 in omega arith);
-      }
+  gains_ran w j p store [] g k = gains_run w (ran a w (with_changes store [] w) j p) j p w.version g refl k
+  gains_ran w j p store (u ∷ us) g k = gains_run w (ran a w (with_changes store (u ∷ us) w) j p) j p (w.version + 1) g refl k
 
   gains_served : (w : State) (j : ℕ) (o : Option ℕ) → slice_get w.up j ≡ o → Fine w → Gains w (served a w j o) (λ n. 0) (λ n. 0)
   gains_served w j None g k = gains_none w w refl
@@ -191,9 +182,10 @@ module _ (setup : Setup) (a : Answers) where
 -- ---- what an event asks, and what ends by it
 
 abbrev Asked : State → State → List Question → Type 0
-Asked w x qs = Gains w x (λ n. ups n qs) (λ n. downs n qs)
+Asked w x qs = Gains w x (λ n. marks up_of n qs) (λ n. marks down_of n qs)
 
-as_asked : (w x : State) (u d : ℕ → ℕ) (qs : List Question) → ((n : ℕ) → u n ≡ ups n qs) → ((n : ℕ) → d n ≡ downs n qs) → Gains w x u d → Asked w x qs
+as_asked : (w x : State) (u d : ℕ → ℕ) (qs : List Question) → ((n : ℕ) → u n ≡ marks up_of n qs) → ((n : ℕ) → d n ≡ marks down_of n qs) → Gains w x u d
+    → Asked w x qs
 as_asked w x u d qs p q g = record {
   up = λ n. let e = p n in let h = g.up n in omega arith;
   down = λ n. let e = q n in let h = g.down n in omega arith;
@@ -214,10 +206,6 @@ module _ (setup : Setup) (a : Answers) (s : SplitProgram) (packets : List Packet
         up = λ n. let h = g.up n in let m = mark_push passed w.progress n f refl in let e = ending_mark (eqb setup.pre_stages 0) (length w.progress) n in omega arith;
         down = λ n. let h = g.down n in let m = mark_push came w.progress n f refl in let e = no_gain (eqb setup.pre_stages 0) in omega arith;
       }
-    where
-      no_gain : (b : Bool) → ◌≡◌ {A = ℕ} (cond b 0 0) 0
-      no_gain true = refl
-      no_gain false = refl
 
   asked_stage : (w : State) (j : ℕ) (o : Option Pass) → slice_get w.passes j ≡ o → Fine w → Asked w (staged a w j o) (asks_stage o)
   asked_stage w j None g k = gains_none w w refl
@@ -245,20 +233,15 @@ module _ (setup : Setup) (a : Answers) (s : SplitProgram) (packets : List Packet
         up = λ n. let h = r.up n in let e = no_gain (eqb setup.post_stages 0) in omega arith;
         down = λ n. let h = r.down n in let e = ending_mark (eqb setup.post_stages 0) p n in omega arith;
       }
-    where
-      no_gain : (b : Bool) → ◌≡◌ {A = ℕ} (cond b 0 0) 0
-      no_gain true = refl
-      no_gain false = refl
 
   asked_happens : (w : State) (e : Event) → Fine w → Asked w (happens setup a w e) (asks setup s packets calls w e)
   asked_happens w Admit k = asked_admit w k
   asked_happens w (Stage j) k = asked_stage w j (slice_get w.passes j) refl k
   asked_happens w (Serve j) k = gains_served setup a w j (slice_get w.up j) refl k
-  asked_happens w Send k = gains_none w _ refl
   asked_happens w Apply k = asked_command w (happens setup a w Apply) (slice_get (commands_in w.batches) w.done) refl
-  asked_happens w Ack k = gains_none w _ refl
   asked_happens w (Hold j) k = gains_go setup a w j (slice_get w.held j)
   asked_happens w (Down j) k = asked_down w j (slice_get w.down j) refl k
+  asked_happens w e k = gains_none w _ refl
 
   asked_step : (w : State) (e : Event) → Fine w → Asked w (step setup a w e) (asked setup s packets calls w e)
   asked_step w e k = elim (cases_Bool (applies setup w e)) [
@@ -275,8 +258,10 @@ module _ (setup : Setup) (s : SplitProgram) (packets : List Packet) (calls : Lis
       let one = asked_step setup a s packets calls w e k.fine in
       let rest = asked_steps next es (sane_step setup a w e k) in
       record {
-        up = λ n. let p = one.up n in let q = rest.up n in let r = ups_append n (asked setup s packets calls w e) (questions setup s packets calls next es) in omega arith;
-        down = λ n. let p = one.down n in let q = rest.down n in let r = downs_append n (asked setup s packets calls w e) (questions setup s packets calls next es) in omega arith;
+        up = λ n. let p = one.up n in let q = rest.up n in let r = marks_append up_of n (asked setup s packets calls w e)
+            (questions setup s packets calls next es) in omega arith;
+        down = λ n. let p = one.down n in let q = rest.down n in
+            let r = marks_append down_of n (asked setup s packets calls w e) (questions setup s packets calls next es) in omega arith;
       }
 
   pub end_once : (events : List Event) (st : State) → IsAnswered setup s packets events calls st → EndOnce calls st
@@ -284,6 +269,8 @@ module _ (setup : Setup) (s : SplitProgram) (packets : List Packet) (calls : Lis
       let begin = first_state (start_store setup.objects) in
       let g = asked_steps begin events (sane_first setup (journal s calls) (start_store setup.objects)) in
       record {
-        up = λ n. calls_up calls n ∙ ap (ups n) h.asked ∙ (let p = g.up n in omega arith) ∙ ap (λ (w : State). passed (slice_get w.progress n)) (sym h.run);
-        down = λ n. calls_down calls n ∙ ap (downs n) h.asked ∙ (let p = g.down n in omega arith) ∙ ap (λ (w : State). came (slice_get w.progress n)) (sym h.run);
+        up = λ n. calls_up calls n ∙ ap (marks up_of n) h.asked ∙ (let p = g.up n in omega arith)
+            ∙ ap (λ (w : State). passed (slice_get w.progress n)) (sym h.run);
+        down = λ n. calls_down calls n ∙ ap (marks down_of n) h.asked ∙ (let p = g.down n in omega arith)
+            ∙ ap (λ (w : State). came (slice_get w.progress n)) (sym h.run);
       }

@@ -20,13 +20,14 @@ use Rattle.run_model.specs.Members.{Member}
 use Rattle.run_model.proofs.Rising.{Before}
 use Rattle.run_model.proofs.Members.{get_member}
 use Rattle.replay_state.proofs.Words.{upto, beyond}
-use Rattle.replay_state.proofs.Lists.{get_set_same, get_set_other, map_agree}
+use Rattle.replay_state.proofs.Lists.{map_agree}
 use Rattle.replay_state.proofs.Order.{rising_mid, rising_split, member_mid, member_mid_is, member_mid_old, member_left, member_parts, member_filter, upto_all}
 use Rattle.replay_state.proofs.Sorting.{IsOrder}
 use Rattle.replay_state.proofs.Serial.{left_by, said_by, told_by, left_by_push, left_by_mid, said_by_mid, said_by_push, upto_mid}
 use Rattle.replay_state.proofs.Fates.{FateOk, at_first, at_up}
 use Rattle.replay_state.proofs.Effects.{Fine, shown_le}
 use Rattle.replay_state.proofs.Steps.{finished_at, run_at}
+use Rattle.lemmas.proofs.Lists.{get_set_other, get_set_same}
 
 -- the order gains e between l and r, where a packet that was not decided now is
 pub order_gain : (fates more : List Progress) (l r : List Decided) (e : Decided) → IsOrder fates (l ++ r)
@@ -70,12 +71,10 @@ told_gain a fates more n es o undecided same =
 
 -- what the fates say of the entries
 pub entry_ok : (now version most n : ℕ) (f : Option Progress) (e : Decided) → ((g : Progress) → f ≡ Some g → FateOk now version most g) → most ≤ version → entry_of n f ≡ Some e → e.version ≤ version
-entry_ok now version most n None e ok le h = cc
-entry_ok now version most n (Some (Entered a v)) e ok le h = cc
-entry_ok now version most n (Some (Up a)) e ok le h = cc
 entry_ok now version most n (Some (Held a d v y)) e ok le h = let is = ap (λ z. z.version) (same_Some _ _ h) in let o = ok _ refl in omega arith
 entry_ok now version most n (Some (Slow a d v y r)) e ok le h = let is = ap (λ z. z.version) (same_Some _ _ h) in let o = ok _ refl in omega arith
 entry_ok now version most n (Some (Fast a d v y)) e ok le h = let is = ap (λ z. z.version) (same_Some _ _ h) in let o = ok _ refl in omega arith
+entry_ok now version most n f e ok le h = cc
 
 pub entry_fact : (w : State) (es : List Decided) (e : Decided) → Fine w → IsOrder w.progress es → Member e es → e.version ≤ w.version
 entry_fact w es e c o m = entry_ok w.events w.version (visible w.batches w.done) e.number (slice_get w.progress e.number) e (c.each e.number) (shown_le w w.done c) (o.sound e m)
@@ -135,16 +134,20 @@ alike_trans rep a b c h k o t = h o t ∙ k o t
 pub alike_sym : (rep : ℕ → Bool) (a b : Store) → IsAlike rep a b → IsAlike rep b a
 alike_sym rep a b h o t = sym (h o t)
 
-pub record InOrder (setup : Setup) (a : Answers) (start : Store) (w : State) : Type 0 where
+-- The order of the entries, which lead from this start to what the server has now, and its versions and packets.
+pub record Ordered (setup : Setup) (a : Answers) (start now : Store) (version : ℕ) (stores : List Store) (events : ℕ) (fates : List Progress) : Type 0 where
   pub entries : List Decided
-  pub order : IsOrder w.progress entries
-  pub store : left_by a start entries ≡ w.store
-  pub verdicts : said_by a start entries ≡ told_by (what_at a w.progress) entries
-  pub begun : (v : ℕ) → v ≤ w.version → IsAlike setup.replicated (store_at w.stores v) (left_by a start (upto v entries))
-  pub kept : (v : ℕ) → v ≤ w.version → IsKept setup.objects (store_at w.stores v)
+  pub order : IsOrder fates entries
+  pub store : left_by a start entries ≡ now
+  pub verdicts : said_by a start entries ≡ told_by (what_at a fates) entries
+  pub begun : (v : ℕ) → v ≤ version → IsAlike setup.replicated (store_at stores v) (left_by a start (upto v entries))
+  pub kept : (v : ℕ) → v ≤ version → IsKept setup.objects (store_at stores v)
   pub here : (e : Decided) → Member e entries → e.number < setup.total
-  pub past : (e : Decided) → Member e entries → e.event ≤ w.events
+  pub past : (e : Decided) → Member e entries → e.event ≤ events
   pub apart : Apart entries
+
+abbrev pub InOrder : Setup → Answers → Store → State → Type 0
+InOrder setup a start w = Ordered setup a start w.store w.version w.stores w.events w.progress
 
 -- nothing was decided at this event yet
 abbrev pub Fresh : State → List Decided → Type 0
@@ -205,73 +208,83 @@ module _ (setup : Setup) (a : Answers) (start : Store) (law : AreSound setup a) 
   pub unseen_alike : (store : Store) (p : ℕ) → IsSoundAt setup a store p → a.changes store p ≡ [] → IsAlike setup.replicated (a.after store p) store
   unseen_alike store p r none o rep = r.changed o rep ∙ ap (changed_by o (object_at store o)) none
 
-  pub in_order_unseen : (w : State) (j p : ℕ) → Fine w → Few setup w → (o : InOrder setup a start w) → Fresh w o.entries → slice_get w.up j ≡ Some p → a.changes w.store p ≡ []
+  -- the store of a version that is not before that of the run
+  run_newest : (w : State) (p v u : ℕ) → Fine w → (o : InOrder setup a start w) → w.version ≤ v → v ≤ u
+      → left_by a start (upto u (o.entries ++ run_entry w p v ∷ [])) ≡ a.after w.store p
+  run_newest w p v u c o later last =
+      let es = o.entries in
+      let e = run_entry w p v in
+      let all = upto_all u (es ++ e ∷ []) (λ x m. elim (gains_push es e x m) [
+        | inl q ↦ subst (λ (z : Decided). z.version ≤ u) q last
+        | inr old ↦ let fact = entry_fact w es x c o.order old in omega arith
+      ]) in
+      ap (left_by a start) all ∙ left_by_push a start es e ∙ ap (λ s. a.after s p) o.store
+
+  -- the server runs a packet, and has this version and these stores then
+  in_order_run : (w : State) (j p v : ℕ) (stores : List Store) → Fine w → Few setup w → (o : InOrder setup a start w) → Fresh w o.entries
+      → slice_get w.up j ≡ Some p → w.version ≤ v
+      → ((u : ℕ) → u ≤ v → IsAlike setup.replicated (store_at stores u) (left_by a start (upto u (o.entries ++ run_entry w p v ∷ []))))
+      → ((u : ℕ) → u ≤ v → IsKept setup.objects (store_at stores u))
+      → Ordered setup a start (a.after w.store p) v stores w.events (set w.progress p (decided w.events v w.store (slice_get w.progress p)))
+  in_order_run w j p v stores c few o fresh g later begun kept =
+      let es = o.entries in
+      let e = run_entry w p v in
+      record {
+        entries = es ++ e ∷ [];
+        order = order_run w j p v es c o.order fresh g later;
+        store = left_by_push a start es e ∙ ap (λ s. a.after s p) o.store;
+        verdicts = said_run w j p v es c o.order g o.store o.verdicts;
+        begun = begun;
+        kept = kept;
+        here = here_gain setup.total es (es ++ e ∷ []) e o.here (up_within w j p c few g) (gains_push es e);
+        past = past_gain w.events es (es ++ e ∷ []) e o.past (omega arith) (gains_push es e);
+        apart = apart_gain w.events es (es ++ e ∷ []) e o.apart fresh refl (gains_push es e);
+      }
+
+  pub in_order_unseen : (w : State) (j p : ℕ) → Fine w → Few setup w → (o : InOrder setup a start w) → Fresh w o.entries → slice_get w.up j ≡ Some p
+      → a.changes w.store p ≡ []
       → InOrder setup a start (run_at a w j p w.version w.stores w.batches)
   in_order_unseen w j p c few o fresh g none =
       let es = o.entries in
       let e = run_entry w p w.version in
-      let within = up_within w j p c few g in
-      let r = law.each p w.store within (store_kept w o) in
-      let new : left_by a start (es ++ e ∷ []) ≡ a.after w.store p = left_by_push a start es e ∙ ap (λ s. a.after s p) o.store in
-      record {
-        entries = es ++ e ∷ [];
-        order = order_run w j p w.version es c o.order fresh g (omega arith);
-        store = new;
-        verdicts = said_run w j p w.version es c o.order g o.store o.verdicts;
-        begun = λ v h. elim (cases_lt v w.version) [
-          | inl early ↦ subst (λ l. IsAlike setup.replicated (store_at w.stores v) (left_by a start l)) (sym (upto_push_late v es e early)) (o.begun v h)
-          | inr last ↦
-              let all = upto_all v (es ++ e ∷ []) (λ x m. elim (gains_push es e x m) [
-                | inl q ↦ subst (λ (z : Decided). z.version ≤ v) q last
-                | inr old ↦ let fact = entry_fact w es x c o.order old in omega arith
-              ]) in
-              let before = upto_all v es (λ x m. let fact = entry_fact w es x c o.order m in omega arith) in
-              let was = alike_left setup.replicated (store_at w.stores v) (left_by a start (upto v es)) w.store (o.begun v h) (ap (left_by a start) before ∙ o.store) in
-              let is = alike_trans setup.replicated (store_at w.stores v) w.store (a.after w.store p) was (alike_sym setup.replicated (a.after w.store p) w.store (unseen_alike w.store p r none)) in
-              alike_left setup.replicated (store_at w.stores v) (a.after w.store p) (left_by a start (upto v (es ++ e ∷ []))) is (sym (ap (left_by a start) all ∙ new))
-        ];
-        kept = o.kept;
-        here = here_gain setup.total es (es ++ e ∷ []) e o.here within (gains_push es e);
-        past = past_gain w.events es (es ++ e ∷ []) e o.past (omega arith) (gains_push es e);
-        apart = apart_gain w.events es (es ++ e ∷ []) e o.apart fresh refl (gains_push es e);
-      }
+      let r = law.each p w.store (up_within w j p c few g) (store_kept w o) in
+      in_order_run w j p w.version w.stores c few o fresh g (omega arith)
+      (λ v h. elim (cases_lt v w.version) [
+        | inl early ↦ subst (λ l. IsAlike setup.replicated (store_at w.stores v) (left_by a start l)) (sym (upto_push_late v es e early)) (o.begun v h)
+        | inr last ↦
+            let before = upto_all v es (λ x m. let fact = entry_fact w es x c o.order m in omega arith) in
+            let was = alike_left setup.replicated (store_at w.stores v) (left_by a start (upto v es)) w.store (o.begun v h) (ap (left_by a start) before
+            ∙ o.store) in
+            let is = alike_trans setup.replicated (store_at w.stores v) w.store (a.after w.store p) was
+            (alike_sym setup.replicated (a.after w.store p) w.store (unseen_alike w.store p r none)) in
+            alike_left setup.replicated (store_at w.stores v) (a.after w.store p) (left_by a start (upto v (es ++ e ∷ []))) is
+            (sym (run_newest w p w.version v c o (omega arith) last))
+      ])
+      o.kept
 
   pub in_order_seen : (w : State) (j p : ℕ) (batches : List Batch) → Fine w → Few setup w → (o : InOrder setup a start w) → Fresh w o.entries → slice_get w.up j ≡ Some p
       → InOrder setup a start (run_at a w j p (w.version + 1) (w.stores ++ a.after w.store p ∷ []) batches)
   in_order_seen w j p batches c few o fresh g =
       let es = o.entries in
       let e = run_entry w p (w.version + 1) in
-      let within = up_within w j p c few g in
-      let r = law.each p w.store within (store_kept w o) in
-      let new : left_by a start (es ++ e ∷ []) ≡ a.after w.store p = left_by_push a start es e ∙ ap (λ s. a.after s p) o.store in
-      let count = c.counts.stores in
-      record {
-        entries = es ++ e ∷ [];
-        order = order_run w j p (w.version + 1) es c o.order fresh g (omega arith);
-        store = new;
-        verdicts = said_run w j p (w.version + 1) es c o.order g o.store o.verdicts;
-        begun = λ v h. elim (cases_lt v (w.version + 1)) [
-          | inl early ↦
-              let there = get_or_append_left w.stores (a.after w.store p ∷ []) [] v (omega arith) in
-              subst (λ l. IsAlike setup.replicated (store_at (w.stores ++ a.after w.store p ∷ []) v) (left_by a start l)) (sym (upto_push_late v es e early))
-              (subst (λ x. IsAlike setup.replicated x (left_by a start (upto v es))) (sym there) (o.begun v (omega arith)))
-          | inr last ↦
-              let all = upto_all v (es ++ e ∷ []) (λ x m. elim (gains_push es e x m) [
-                | inl q ↦ subst (λ (z : Decided). z.version ≤ v) q last
-                | inr old ↦ let fact = entry_fact w es x c o.order old in omega arith
-              ]) in
-              let there = get_or_push w.stores (a.after w.store p) [] v (omega arith) in
-              let same : store_at (w.stores ++ a.after w.store p ∷ []) v ≡ left_by a start (upto v (es ++ e ∷ [])) = there ∙ sym (ap (left_by a start) all ∙ new) in
-              λ n t. ap (λ x. object_at x n) same
-        ];
-        kept = λ v h. elim (cases_lt v (w.version + 1)) [
-          | inl early ↦ subst (IsKept setup.objects) (sym (get_or_append_left w.stores (a.after w.store p ∷ []) [] v (omega arith))) (o.kept v (omega arith))
-          | inr last ↦ subst (IsKept setup.objects) (sym (get_or_push w.stores (a.after w.store p) [] v (omega arith))) r.kept
-        ];
-        here = here_gain setup.total es (es ++ e ∷ []) e o.here within (gains_push es e);
-        past = past_gain w.events es (es ++ e ∷ []) e o.past (omega arith) (gains_push es e);
-        apart = apart_gain w.events es (es ++ e ∷ []) e o.apart fresh refl (gains_push es e);
-      }
+      let r = law.each p w.store (up_within w j p c few g) (store_kept w o) in
+      let stores = w.stores ++ a.after w.store p ∷ [] in
+      let count = c.counts.all in
+      in_order_run w j p (w.version + 1) stores c few o fresh g (omega arith)
+      (λ v h. elim (cases_lt v (w.version + 1)) [
+        | inl early ↦
+            let there = get_or_append_left w.stores (a.after w.store p ∷ []) [] v (omega arith) in
+            subst (λ l. IsAlike setup.replicated (store_at stores v) (left_by a start l)) (sym (upto_push_late v es e early))
+            (subst (λ x. IsAlike setup.replicated x (left_by a start (upto v es))) (sym there) (o.begun v (omega arith)))
+        | inr last ↦
+            let there = get_or_push w.stores (a.after w.store p) [] v (omega arith) in
+            let same : store_at stores v ≡ left_by a start (upto v (es ++ e ∷ [])) = there ∙ sym (run_newest w p (w.version + 1) v c o (omega arith) last) in
+            λ n t. ap (λ x. object_at x n) same
+      ])
+      (λ v h. elim (cases_lt v (w.version + 1)) [
+        | inl early ↦ subst (IsKept setup.objects) (sym (get_or_append_left w.stores (a.after w.store p ∷ []) [] v (omega arith))) (o.kept v (omega arith))
+        | inr last ↦ subst (IsKept setup.objects) (sym (get_or_push w.stores (a.after w.store p) [] v (omega arith))) r.kept
+      ])
 
   -- a fast packet stands behind the packets of the version over which it entered
   pub in_order_fast : (w : State) (j : ℕ) (x : Pass) (y : Verdict) → Fine w → Few setup w → (o : InOrder setup a start w) → Fresh w o.entries → slice_get w.passes j ≡ Some x → x.pre ≡ true
@@ -327,16 +340,17 @@ module _ (setup : Setup) (a : Answers) (start : Store) (law : AreSound setup a) 
         apart = apart_gain w.events es (l ++ e ∷ r) e o.apart fresh refl gains;
       }
 
-  unfoldable pub in_order_same : (w x : State) → x.store ≡ w.store → x.version ≡ w.version → x.stores ≡ w.stores → w.events ≤ x.events
-      → ((n : ℕ) → entry_of n (slice_get x.progress n) ≡ entry_of n (slice_get w.progress n)) → ((n : ℕ) → what_at a x.progress n ≡ what_at a w.progress n)
-      → InOrder setup a start w → InOrder setup a start x
-  in_order_same w x p q d later same told o = record {
+  -- the same order, where events passed or packets changed that neither decide nor tell another verdict
+  unfoldable pub order_stays : (now : Store) (version : ℕ) (stores : List Store) (events later : ℕ) (fates more : List Progress) → events ≤ later
+      → ((n : ℕ) → entry_of n (slice_get more n) ≡ entry_of n (slice_get fates n)) → ((n : ℕ) → what_at a more n ≡ what_at a fates n)
+      → Ordered setup a start now version stores events fates → Ordered setup a start now version stores later more
+  order_stays now version stores events later fates more low same told o = record {
     entries = o.entries;
-    order = order_same w.progress x.progress o.entries o.order same;
-    store = o.store ∙ sym p;
-    verdicts = o.verdicts ∙ sym (map_agree (λ e. what_at a x.progress e.number) (λ e. what_at a w.progress e.number) o.entries (λ e m. told e.number));
-    begun = λ v h. subst (λ l. IsAlike setup.replicated (store_at l v) (left_by a start (upto v o.entries))) (sym d) (o.begun v (subst (λ z. v ≤ z) q h));
-    kept = λ v h. subst (λ l. IsKept setup.objects (store_at l v)) (sym d) (o.kept v (subst (λ z. v ≤ z) q h));
+    order = order_same fates more o.entries o.order same;
+    store = o.store;
+    verdicts = o.verdicts ∙ sym (map_agree (λ e. what_at a more e.number) (λ e. what_at a fates e.number) o.entries (λ e m. told e.number));
+    begun = o.begun;
+    kept = o.kept;
     here = o.here;
     past = λ e m. let k = o.past e m in omega arith;
     apart = o.apart;

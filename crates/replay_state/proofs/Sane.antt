@@ -3,18 +3,17 @@ use Rattle.std.proofs.Common.{ℕ, ◌+◌, ◌≤◌, List, [], ◌∷◌, ◌+
 use Rattle.std.specs.Prelude.{⊤, slice_get}
 use Rattle.std.proofs.lemmas.Option.{none-some}
 use Rattle.std.proofs.lemmas.List.{length_push, length-set}
-use Rattle.state_store.specs.Store.{Store}
+use Rattle.state_store.specs.Store.{Store, start_store}
 use Rattle.run_model.specs.declared.event.Event.{Event}
 use Rattle.replay_state.specs.Answers.{Answers, Setup}
 use Rattle.output_commit.specs.Batches.{Batch}
 use Rattle.replay_state.specs.State.{State, Progress, Entered, seen, first_state}
-use Rattle.replay_state.specs.Step.{idled, step, steps, tick}
+use Rattle.replay_state.specs.Step.{idled, state_of, step, steps, tick}
 use Rattle.replay_state.specs.Step.{finished, went_up, released, decided}
-use Rattle.replay_state.proofs.Counts.{counts_same}
 use Rattle.replay_state.proofs.Visible.{visible_push}
 use Rattle.replay_state.proofs.Effects.{Fine, fine_tick, fine_idled, fine_sent, fine_applied, fine_acked, fine_moved, fine_let_in, fine_finished, fine_sent_up, fine_came_down, fine_let_go, fine_let_down, fine_run}
-use Rattle.replay_state.proofs.Walk.{Closed, closed_step, ends_any}
-use Rattle.replay_state.proofs.Steps.{counts_seen, run_at}
+use Rattle.replay_state.proofs.Walk.{Closed, closed_step, ends_any, leads_steps}
+use Rattle.replay_state.proofs.Steps.{counts_seen}
 
 pub record Sane (setup : Setup) (w : State) : Type 0 where
   pub fine : Fine w
@@ -34,7 +33,7 @@ module _ (setup : Setup) (a : Answers) where
     out = λ w j x g t h. record { fine = fine_came_down a w j x g t h.fine; few = same_few w x.number (released (λ over. a.post over x.number) w.events (slice_get w.progress x.number)) h };
     moved = λ w j x g h. record { fine = fine_moved w j x g h.fine; few = h.few };
     unseen = λ w j p g e h. record {
-      fine = fine_run a w j p w.version w.stores w.batches g (omega arith) (λ n l. refl) (counts_same w (run_at a w j p w.version w.stores w.batches) refl refl refl refl refl refl h.fine.counts) h.fine;
+      fine = fine_run a w j p w.version w.stores w.batches g (omega arith) (λ n l. refl) h.fine.counts h.fine;
       few = same_few w p (decided w.events w.version w.store (slice_get w.progress p)) h;
     };
     shown = λ w j p u us g e h.
@@ -60,13 +59,12 @@ module _ (setup : Setup) (a : Answers) where
       closed_step setup a (λ n. ⊤) (Sane setup) sane_closed sane_tick sane_idle w e (λ t. ends_any setup a w e) h
 
   pub sane_steps : (w : State) (es : List Event) → Sane setup w → Sane setup (steps setup a w es)
-  sane_steps w [] h = h
-  sane_steps w (e ∷ es) h = sane_steps (step setup a w e) es (sane_step w e h)
+  sane_steps = leads_steps setup a (Sane setup) (Sane setup) (λ w h. h) sane_closed sane_tick sane_idle
 
   pub sane_first : (start : Store) → Sane setup (first_state start)
   sane_first start = record {
     fine = record {
-      counts = record { versions = refl; stores = refl; sent_in = omega arith; done_in = omega arith; acked_in = omega arith };
+      counts = record { versions = refl; all = refl; sent_in = omega arith; done_in = omega arith; acked_in = omega arith };
       places = record { firsts = λ p. refl; ups = λ p. refl; helds = λ p. refl };
       needs = record { firsts = λ x b v m. absurd m; helds = λ p n b d v y m. absurd m; downs = λ p b d v y m. absurd m; lasts = λ x b d v y m. absurd m };
       each = λ p f g. absurd (none-some _ g);
@@ -74,3 +72,6 @@ module _ (setup : Setup) (a : Answers) where
     };
     few = omega arith;
   }
+
+  pub sane_of : (es : List Event) → Sane setup (state_of setup a es)
+  sane_of es = sane_steps (first_state (start_store setup.objects)) es (sane_first (start_store setup.objects))

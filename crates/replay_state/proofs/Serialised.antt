@@ -1,14 +1,13 @@
 -- What the invariant says of the run that is told.
 use Rattle.std.proofs.Common.{◌≡◌, ℕ, zero, suc, ◌<◌, ◌≤◌, Bool, true, false, cond, ◌⊎◌, List, [], ◌∷◌, Option, Some, None, inl, inr, refl, sym, ◌∙◌, ap, subst, arith, map, length}
-use Rattle.std.specs.Prelude.{slice_get, is_some, IsTrue}
+use Rattle.std.specs.Prelude.{slice_get}
 use Rattle.std.specs.Option.{option_map}
 use Rattle.std.proofs.lemmas.Bool.{cases_lt, cases_Bool, eqb-true, and_parts}
-use Rattle.std.proofs.lemmas.List.{length-map}
+use Rattle.std.proofs.lemmas.List.{length-map, nil_from_length}
 use Rattle.std.proofs.lemmas.Option.{same_Some, none-some, slice_get-map}
 use Rattle.packet_fields.specs.declared.verdict.Verdict.{Verdict}
 use Rattle.state_store.specs.declared.object.ObjectDecl.{ObjectDecl}
 use Rattle.state_store.specs.Store.{Store, start_store, object_at, rows_of}
-use Rattle.run_model.specs.declared.event.Event.{Event}
 use Rattle.run_model.specs.declared.fate.Fate.{Fate}
 use Rattle.run_model.specs.declared.run.ObjectRows.{ObjectRows}
 use Rattle.run_model.specs.declared.serial.Decided.{Decided}
@@ -20,48 +19,39 @@ use Rattle.run_model.specs.Serialises.{Serialises, AllReleased, IsDrained, Shows
 use Rattle.replay_state.specs.Answers.{Answers, Setup, meaning_of}
 use Rattle.output_commit.specs.Batches.{commands_in, visible}
 use Rattle.replay_state.specs.State.{State, Progress, Entered, Up, Held, Slow, Fast, fate_of, seen}
-use Rattle.replay_state.specs.Step.{state_of}
 use Rattle.replay_state.specs.Drain.{is_quiet}
-use Rattle.replay_state.specs.Run.{run_of, job_run, seen_store}
-use Rattle.replay_state.specs.Sound.{AreSound}
+use Rattle.replay_state.specs.Run.{run_of, seen_store}
 use Rattle.run_model.proofs.Rising.{rising_places, times_none, times_once, Before, Rising, before_self, before_not_back}
-use Rattle.run_model.proofs.Members.{member_get, get_mapped, get_member}
+use Rattle.run_model.proofs.Members.{member_get, get_member}
 use Rattle.run_model.proofs.SerialSort.{order_unique}
 use Rattle.replay_state.proofs.Words.{version_at, entry_of, admitted_at, released_at, verdict_at, is_decided, serial_store, serial_verdicts, upto}
 use Rattle.replay_state.proofs.Order.{upto_all}
-use Rattle.replay_state.proofs.Lists.{weight, get_within, none_within}
+use Rattle.replay_state.proofs.Lists.{weight}
 use Rattle.replay_state.proofs.Sorting.{IsOrder, entry_number, of_fates}
 use Rattle.replay_state.proofs.Visible.{visible_all}
 use Rattle.replay_state.proofs.Fates.{FateOk, Pair, pass_mark, up_mark, held_mark, in_first, in_last, in_up, in_held}
 use Rattle.replay_state.proofs.Serial.{left_by, numbers_of}
 use Rattle.replay_state.proofs.Effects.{Fine}
 use Rattle.replay_state.proofs.Runs.{Apart, entry_fact, what_at}
-use Rattle.replay_state.proofs.Keeping.{Kept, kept_of}
+use Rattle.replay_state.proofs.Keeping.{Kept}
+use Rattle.lemmas.proofs.Lists.{get_mapped, get_within, map_get}
 
 pub entry_version : (n : ℕ) (f : Option Progress) (e : Decided) → entry_of n f ≡ Some e → version_at f ≡ Some e.version
-entry_version n None e h = cc
-entry_version n (Some (Entered a v)) e h = cc
-entry_version n (Some (Up a)) e h = cc
 entry_version n (Some (Held a d v y)) e h = ap (λ z. Some z.version) (same_Some _ _ h)
 entry_version n (Some (Slow a d v y r)) e h = ap (λ z. Some z.version) (same_Some _ _ h)
 entry_version n (Some (Fast a d v y)) e h = ap (λ z. Some z.version) (same_Some _ _ h)
+entry_version n f e h = cc
 
 -- the entry of a decided packet
 pub decided_entry : (n : ℕ) (f : Option Progress) → is_decided f ≡ true → (e : Decided) × (entry_of n f ≡ Some e)
-decided_entry n None h = cc
-decided_entry n (Some (Entered a v)) h = cc
-decided_entry n (Some (Up a)) h = cc
 decided_entry n (Some (Held a d v y)) h = (_, refl)
 decided_entry n (Some (Slow a d v y r)) h = (_, refl)
 decided_entry n (Some (Fast a d v y)) h = (_, refl)
+decided_entry n f h = cc
 
 pub undecided_entry : (n : ℕ) (f : Option Progress) (e : Decided) → is_decided f ≡ false → entry_of n f ≡ Some e → ⊥
-undecided_entry n None e h k = cc
 undecided_entry n (Some (Entered a v)) e h k = cc
-undecided_entry n (Some (Up a)) e h k = cc
-undecided_entry n (Some (Held a d v y)) e h k = cc
-undecided_entry n (Some (Slow a d v y r)) e h k = cc
-undecided_entry n (Some (Fast a d v y)) e h k = cc
+undecided_entry n f e h k = cc
 
 pub once_from : (fates : List Progress) (es : List Decided) (p : ℕ) → IsOrder fates es → times p (map (λ e. e.number) es) ≡ cond (is_decided (slice_get fates p)) 1 0
 once_from fates es p o = elim (cases_Bool (is_decided (slice_get fates p))) [
@@ -98,18 +88,14 @@ entries_before now version most p q r a f g x y ok kk pair hr ha lt hx hy =
     record { version = le; event = λ h. omega arith; number = λ h k. absurd (omega arith) }
   where
     event_le : (f : Progress) (p : ℕ) (x : Decided) (now version most r : ℕ) → FateOk now version most f → released_at (Some f) ≡ Some r → entry_of p (Some f) ≡ Some x → x.event ≤ r
-    event_le (Up a) p x now version most r ok e h = cc
-    event_le (Entered a v) p x now version most r ok e h = cc
-    event_le (Held a d v y) p x now version most r ok e h = cc
     event_le (Slow a d v y t) p x now version most r ok e h = let i = same_Some _ _ e in let k = ap (λ z. z.event) (same_Some _ _ h) in omega arith
     event_le (Fast a d v y) p x now version most r ok e h = let i = same_Some _ _ e in let k = ap (λ z. z.event) (same_Some _ _ h) in omega arith
+    event_le f p x now version most r ok e h = cc
 
     event_ge : (f : Progress) (p : ℕ) (x : Decided) (now version most a : ℕ) → FateOk now version most f → admitted_at (Some f) ≡ Some a → entry_of p (Some f) ≡ Some x → a ≤ x.event
     event_ge (Up b) p x now version most a ok e h = cc
     event_ge (Entered b v) p x now version most a ok e h = cc
-    event_ge (Held b d v y) p x now version most a ok e h = let i = same_Some _ _ e in let k = ap (λ z. z.event) (same_Some _ _ h) in omega arith
-    event_ge (Slow b d v y t) p x now version most a ok e h = let i = same_Some _ _ e in let k = ap (λ z. z.event) (same_Some _ _ h) in omega arith
-    event_ge (Fast b d v y) p x now version most a ok e h = let i = same_Some _ _ e in let k = ap (λ z. z.event) (same_Some _ _ h) in omega arith
+    event_ge f p x now version most a ok e h = let i = same_Some _ _ e in let k = ap (λ z. z.event) (same_Some _ _ h) in omega arith
 
 pub some_since : (f : Option Progress) (p : ℕ) (x : Decided) → entry_of p f ≡ Some x → (g : Progress) × (f ≡ Some g)
 some_since None p x h = cc
@@ -123,41 +109,18 @@ shown x = option_map fate_of x
 pub fates_at : (ps : List Progress) (p : ℕ) → slice_get (map fate_of ps) p ≡ shown (slice_get ps p)
 fates_at ps p = slice_get-map fate_of ps p
 
-decided_is : (x : Option Progress) → is_some (run.decided_at (shown x)) ≡ is_decided x
-decided_is None = refl
-decided_is (Some (Entered a v)) = refl
-decided_is (Some (Up a)) = refl
-decided_is (Some (Held a d v y)) = refl
-decided_is (Some (Slow a d v y r)) = refl
-decided_is (Some (Fast a d v y)) = refl
-
 decided_when : (p : ℕ) (x : Option Progress) (e : Decided) (at : ℕ × ℕ) → entry_of p x ≡ Some e → run.decided_at (shown x) ≡ Some at → (at.0 ≡ e.version) × (at.1 ≡ e.event)
 decided_when p None e at h k = absurd (none-some e h)
 decided_when p (Some (Entered a v)) e at h k = absurd (none-some e h)
 decided_when p (Some (Up a)) e at h k = absurd (none-some e h)
-decided_when p (Some (Held a d v y)) e at h k = let same = same_Some _ _ k in let is = same_Some _ _ h in
-    (sym (ap (λ z. z.0) same) ∙ ap (λ (z : Decided). z.version) is, sym (ap (λ z. z.1) same) ∙ ap (λ (z : Decided). z.event) is)
-decided_when p (Some (Slow a d v y r)) e at h k = let same = same_Some _ _ k in let is = same_Some _ _ h in
-    (sym (ap (λ z. z.0) same) ∙ ap (λ (z : Decided). z.version) is, sym (ap (λ z. z.1) same) ∙ ap (λ (z : Decided). z.event) is)
-decided_when p (Some (Fast a d v y)) e at h k = let same = same_Some _ _ k in let is = same_Some _ _ h in
+decided_when p (Some old) e at h k = let same = same_Some _ _ k in let is = same_Some _ _ h in
     (sym (ap (λ z. z.0) same) ∙ ap (λ (z : Decided). z.version) is, sym (ap (λ z. z.1) same) ∙ ap (λ (z : Decided). z.event) is)
 
 -- a release tells the verdict
 released_said : (a : Answers) (p : ℕ) (x : Option Progress) (r : ℕ) (y : Verdict) → run.released_at (shown x) ≡ Some (r, y) → (verdict_at a p x ≡ Some y) × (released_at x ≡ Some r)
-released_said a p None r y k = absurd (none-some _ k)
-released_said a p (Some (Entered b v)) r y k = absurd (none-some _ k)
-released_said a p (Some (Up b)) r y k = absurd (none-some _ k)
-released_said a p (Some (Held b d v z)) r y k = absurd (none-some _ k)
 released_said a p (Some (Slow b d v z t)) r y k = let same = same_Some _ _ k in (ap (λ f. Some (f.1)) same, ap (λ f. Some (f.0)) same)
 released_said a p (Some (Fast b d v z)) r y k = let same = same_Some _ _ k in (ap (λ f. Some (f.1)) same, ap (λ f. Some (f.0)) same)
-
-admitted_is : (x : Option Progress) → run.admitted_at (shown x) ≡ admitted_at x
-admitted_is None = refl
-admitted_is (Some (Entered a v)) = refl
-admitted_is (Some (Up a)) = refl
-admitted_is (Some (Held a d v y)) = refl
-admitted_is (Some (Slow a d v y r)) = refl
-admitted_is (Some (Fast a d v y)) = refl
+released_said a p x r y k = absurd (none-some _ k)
 
 -- the order that is told
 order_is : (ps : List Progress) (es : List Decided) → IsOrder ps es → order_of (map fate_of ps) ≡ numbers_of es
@@ -191,33 +154,30 @@ earlier_in es i j x y up apart lt hi hj =
           ]
     ]
 
-map_get : {X Y : Type 0} (f : X → Y) (xs : List X) (i : ℕ) (x : X) → slice_get xs i ≡ Some x → slice_get (map f xs) i ≡ Some (f x)
-map_get f xs i x h = slice_get-map f xs i ∙ ap (option_map f) h
-
 -- ---- the run serialises
 
-module _ (setup : Setup) (a : Answers) (w : State) (k : Kept setup a (start_store setup.objects) w) where
-  numbers_are : order_of (map fate_of w.progress) ≡ numbers_of k.in_order.entries
-  numbers_are = order_is w.progress k.in_order.entries k.in_order.order
+module _ (setup : Setup) (a : Answers) (w : State) (k : Kept setup a w) where
+  numbers_are : order_of (map fate_of w.progress) ≡ numbers_of k.own.entries
+  numbers_are = order_is w.progress k.own.entries k.own.order
 
   -- the entry at a place of the order
   at_place : (i p : ℕ) → slice_get (order_of (map fate_of w.progress)) i ≡ Some p
-      → (x : Decided) × (slice_get k.in_order.entries i ≡ Some x) × (entry_of p (slice_get w.progress p) ≡ Some x)
+      → (x : Decided) × (slice_get k.own.entries i ≡ Some x) × (entry_of p (slice_get w.progress p) ≡ Some x)
   at_place i p h =
-      let es = k.in_order.entries in
+      let es = k.own.entries in
       let x = get_mapped (λ (e : Decided). e.number) es i p (subst (λ l. slice_get l i ≡ Some p) numbers_are h) in
-      (x.0, x.1, subst (λ z. entry_of z (slice_get w.progress z) ≡ Some (x.0)) x.2 (k.in_order.order.sound (x.0) (get_member es i (x.0) x.1)))
+      (x.0, x.1, subst (λ z. entry_of z (slice_get w.progress z) ≡ Some (x.0)) x.2 (k.own.order.sound (x.0) (get_member es i (x.0) x.1)))
 
   -- the verdict there
-  verdict_there : (i p : ℕ) (x : Decided) (y : Verdict) → slice_get k.in_order.entries i ≡ Some x → x.number ≡ p → verdict_at a p (slice_get w.progress p) ≡ Some y
+  verdict_there : (i p : ℕ) (x : Decided) (y : Verdict) → slice_get k.own.entries i ≡ Some x → x.number ≡ p → verdict_at a p (slice_get w.progress p) ≡ Some y
       → slice_get (run_verdicts (meaning_of setup a) (run_of setup w)) i ≡ Some y
   verdict_there i p x y h is said =
       let start = start_store setup.objects in
-      let es = k.in_order.entries in
+      let es = k.own.entries in
       let told = map_get (λ (e : Decided). what_at a w.progress e.number) es i x h in
       let what : what_at a w.progress x.number ≡ Some y = subst (λ n. what_at a w.progress n ≡ Some y) (sym is) said in
       let there : slice_get (map (λ z. Some z) (serial_verdicts a start (numbers_of es))) i ≡ Some (Some y) =
-      ap (λ l. slice_get l i) k.in_order.verdicts ∙ told ∙ ap Some what in
+      ap (λ l. slice_get l i) k.own.verdicts ∙ told ∙ ap Some what in
       let found = get_mapped (λ z. Some z) (serial_verdicts a start (numbers_of es)) i (Some y) there in
       ap (λ l. slice_get (meaning.serial_verdicts (meaning_of setup a) start l) i) numbers_are
       ∙ ap (λ l. slice_get l i) (verdicts_are setup a start (numbers_of es)) ∙ found.1 ∙ found.2
@@ -226,15 +186,15 @@ module _ (setup : Setup) (a : Answers) (w : State) (k : Kept setup a (start_stor
   left_is : run_store (meaning_of setup a) (run_of setup w) ≡ w.store
   left_is =
       ap (meaning.serial_store (meaning_of setup a) (start_store setup.objects)) numbers_are
-      ∙ store_is setup a (start_store setup.objects) (numbers_of k.in_order.entries) ∙ k.in_order.store
+      ∙ store_is setup a (start_store setup.objects) (numbers_of k.own.entries) ∙ k.own.store
 
   pub serialises_from : Serialises (meaning_of setup a) (run_of setup w)
   serialises_from =
-      let o = k.in_order in
+      let o = k.own in
       let ps = w.progress in
       record {
-        admitted = let same = length-map ps fate_of in let few = k.few in omega arith;
-        once = λ p. rw (fates_at ps p, decided_is (slice_get ps p), numbers_are) (once_from ps o.entries p o.order);
+        admitted = let same = length-map ps fate_of in let few = k.base.few in omega arith;
+        once = λ p. rw (fates_at ps p, numbers_are) (once_from ps o.entries p o.order);
         ascends = λ i j p q x y hi hj hp hq lt.
             let c = at_place i p hi in
             let d = at_place j q hj in
@@ -255,9 +215,10 @@ module _ (setup : Setup) (a : Answers) (w : State) (k : Kept setup a (start_stor
             let f = some_since (slice_get ps p) p (x.0) x.2 in
             let g = some_since (slice_get ps q) q (z.0) z.2 in
             let told = released_said a p (slice_get ps p) r y (sym (ap run.released_at (fates_at ps p)) ∙ hp) in
-            let came = sym (admitted_is (slice_get ps q)) ∙ sym (ap run.admitted_at (fates_at ps q)) ∙ hq in
+            let came = sym (ap run.admitted_at (fates_at ps q)) ∙ hq in
             place_before o.entries i j (x.0) (z.0) o.order.rising
-            (entries_before w.events w.version (visible w.batches w.done) p q r b f.0 g.0 (x.0) (z.0) (k.fine.each p f.0 f.1) (k.fine.each q g.0 g.1) (k.fine.pairs p q f.0 g.0 f.1 g.1)
+            (entries_before w.events w.version (visible w.batches w.done) p q r b f.0 g.0 (x.0) (z.0) (k.base.fine.each p f.0 f.1)
+            (k.base.fine.each q g.0 g.1) (k.base.fine.pairs p q f.0 g.0 f.1 g.1)
             (sym (ap released_at f.1) ∙ told.1) (sym (ap admitted_at g.1) ∙ came) lt
             (sym (ap (entry_of p) f.1) ∙ x.2) (sym (ap (entry_of q) g.1) ∙ z.2))
             x.1 z.1;
@@ -279,34 +240,32 @@ quiet_parts w h =
     let c = and_parts _ _ b.0 in
     let d = and_parts _ _ c.0 in
     record {
-      passes = none_within w.passes (eqb-true _ _ d.0);
-      up = none_within w.up (eqb-true _ _ d.1);
-      held = none_within w.held (eqb-true _ _ c.1);
-      down = none_within w.down (eqb-true _ _ b.1);
+      passes = nil_from_length w.passes (eqb-true _ _ d.0);
+      up = nil_from_length w.up (eqb-true _ _ d.1);
+      held = nil_from_length w.held (eqb-true _ _ c.1);
+      down = nil_from_length w.down (eqb-true _ _ b.1);
       acked = eqb-true _ _ a.1;
     }
 
 pub released_since : (a : Answers) (p : ℕ) (x : Option Progress) (z : Progress) → x ≡ Some z → pass_mark x ≡ 0 → up_mark x ≡ 0 → held_mark x ≡ 0
     → (e : Decided) × (r : ℕ) × (y : Verdict) × (entry_of p x ≡ Some e) × (run.released_at (shown x) ≡ Some (r, y)) × (verdict_at a p x ≡ Some y)
 released_since a p None z h i j k = absurd (none-some z h)
-released_since a p (Some (Entered x v)) z h i j k = absurd (omega arith)
-released_since a p (Some (Up x)) z h i j k = absurd (omega arith)
-released_since a p (Some (Held x d v y)) z h i j k = absurd (omega arith)
 released_since a p (Some (Slow x d v y r)) z h i j k = (_, r, y, refl, refl, refl)
 released_since a p (Some (Fast x d v y)) z h i j k = (_, d, y, refl, refl, refl)
+released_since a p (Some old) z h i j k = absurd (omega arith)
 
-complete_from : (setup : Setup) (a : Answers) (w : State) → Kept setup a (start_store setup.objects) w → is_quiet w ≡ true → AllReleased (meaning_of setup a) (run_of setup w)
+pub complete_from : (setup : Setup) (a : Answers) (w : State) → Kept setup a w → is_quiet w ≡ true → AllReleased (meaning_of setup a) (run_of setup w)
 complete_from setup a w k quiet =
     let q = quiet_parts w quiet in
-    let o = k.in_order in
+    let o = k.own in
     let ps = w.progress in
     let same = length-map ps fate_of in
     record {
       each = λ p within.
           let f = get_within ps p (omega arith) in
-          let no_pass : pass_mark (slice_get ps p) ≡ 0 = sym (k.fine.places.firsts p) ∙ ap (weight (in_first p)) q.passes in
-          let no_up : up_mark (slice_get ps p) ≡ 0 = sym (k.fine.places.ups p) ∙ ap (weight (in_up p)) q.up in
-          let held = k.fine.places.helds p in
+          let no_pass : pass_mark (slice_get ps p) ≡ 0 = sym (k.base.fine.places.firsts p) ∙ ap (weight (in_first p)) q.passes in
+          let no_up : up_mark (slice_get ps p) ≡ 0 = sym (k.base.fine.places.ups p) ∙ ap (weight (in_up p)) q.up in
+          let held = k.base.fine.places.helds p in
           let none_held = ap (weight (in_held p)) q.held in
           let none_down = ap (weight (in_up p)) q.down in
           let none_last = ap (weight (in_last p)) q.passes in
@@ -326,7 +285,7 @@ complete_from setup a w k quiet =
     }
 
 -- the switch sees the newest version then
-newest_from : (w : State) → Fine w → is_quiet w ≡ true → seen w ≡ w.version
+pub newest_from : (w : State) → Fine w → is_quiet w ≡ true → seen w ≡ w.version
 newest_from w c quiet =
     let q = quiet_parts w quiet in
     let a = c.counts.acked_in in let b = c.counts.done_in in let d = c.counts.sent_in in let e = q.acked in
@@ -357,40 +316,15 @@ part_of test n (object ∷ objects) store i shown h =
       | inr later ↦ part_of test (suc n) objects store later.0 shown later.1
     ]
 
-shown_from : (setup : Setup) (a : Answers) (w : State) → Kept setup a (start_store setup.objects) w → is_quiet w ≡ true
+pub shown_from : (setup : Setup) (a : Answers) (w : State) → Kept setup a w → is_quiet w ≡ true
     → ShowsWhatIsLeft (meaning_of setup a) (run_of setup w)
 shown_from setup a w k quiet i shown here =
-    let o = k.in_order in
-    let newest = newest_from w k.fine quiet in
+    let o = k.own in
+    let newest = newest_from w k.base.fine quiet in
     let part = part_of setup.replicated 0 setup.objects (seen_store w) i shown here in
     let all : upto (seen w) o.entries ≡ o.entries =
-    upto_all (seen w) o.entries (λ e m. let low = entry_fact w o.entries e k.fine o.order m in omega arith) in
+    upto_all (seen w) o.entries (λ e m. let low = entry_fact w o.entries e k.base.fine o.order m in omega arith) in
     let begun : object_at (seen_store w) shown.object ≡ object_at (left_by a (start_store setup.objects) o.entries) shown.object =
     o.begun (seen w) (omega arith) shown.object part.0
     ∙ ap (λ es. object_at (left_by a (start_store setup.objects) es) shown.object) all in
     part.1 ∙ ap rows_of (begun ∙ ap (λ s. object_at s shown.object) (o.store ∙ sym (left_is setup a w k)))
-
--- ---- of every run
-
-module _ (setup : Setup) (a : Answers) (law : AreSound setup a) (events : List Event) where
-  kept_then : Kept setup a (start_store setup.objects) (state_of setup a events)
-  kept_then = kept_of setup a (start_store setup.objects) law law.start events
-
-  pub serialises : Serialises (meaning_of setup a) (job_run setup a events)
-  serialises = serialises_from setup a (state_of setup a events) kept_then
-
-  pub complete : IsTrue (is_quiet (state_of setup a events)) → AllReleased (meaning_of setup a) (job_run setup a events)
-  complete quiet = complete_from setup a (state_of setup a events) kept_then quiet
-
-  pub done : (job_run setup a events).drained ≡ true → IsDrained (meaning_of setup a) (job_run setup a events)
-  done drained =
-      let w = state_of setup a events in
-      let parts = and_parts _ _ drained in
-      record {
-        all = length-map w.progress fate_of ∙ eqb-true _ _ parts.0;
-        complete = complete parts.1;
-        shown = shown_from setup a w kept_then parts.1;
-      }
-
-  pub newest : IsTrue (is_quiet (state_of setup a events)) → seen (state_of setup a events) ≡ (state_of setup a events).version
-  newest quiet = newest_from (state_of setup a events) kept_then.fine quiet

@@ -5,13 +5,13 @@ use Rattle.std.proofs.lemmas.Bool.{cases_eq, ltb-true}
 use Rattle.packet_fields.specs.declared.verdict.Verdict.{Verdict}
 use Rattle.state_store.specs.Store.{Store}
 use Rattle.replay_state.specs.Answers.{Answers, Setup}
-use Rattle.replay_state.specs.State.{State, Pass, Progress, Entered, Up, Held, Slow, Fast, seen, store_at}
+use Rattle.replay_state.specs.State.{State, Pass, Progress, Entered, Up, Fast, seen, store_at}
 use Rattle.run_model.specs.declared.event.Event.{Event}
 use Rattle.run_model.specs.declared.event.Event.TheVariants.{Admit}
 use Rattle.replay_state.specs.Step.{applies, step, steps, tick}
 use Rattle.replay_state.specs.Step.{finished, went_up, decided, released, entered, pass_of}
 use Rattle.run_model.proofs.Members.{get_member}
-use Rattle.replay_state.proofs.Lists.{get_set_same, get_set_other, get_push_same, get_push_other, get_past}
+use Rattle.replay_state.proofs.Lists.{get_push_other}
 use Rattle.std.specs.Option.{option_map}
 use Rattle.std.proofs.lemmas.Option.{none-some, slice_get-map}
 use Rattle.std.proofs.lemmas.List.{get_or_append_left, length_push}
@@ -21,28 +21,22 @@ use Rattle.replay_state.specs.State.{fate_of, first_state}
 use Rattle.replay_state.specs.Step.{state_of}
 use Rattle.replay_state.specs.Run.{job_run, seen_store}
 use Rattle.replay_state.proofs.AtOnce.{fast_at_once, slow_at_once}
-use Rattle.replay_state.proofs.Effects.{Fine, shown_le}
-use Rattle.replay_state.proofs.Sane.{Sane, sane_closed, sane_tick, sane_idle, sane_steps, sane_first}
-use Rattle.replay_state.proofs.Walk.{Closed, closed_entered, closed_step, ends_any}
+use Rattle.replay_state.proofs.Effects.{shown_le}
+use Rattle.replay_state.proofs.Sane.{Sane, sane_closed, sane_idle, sane_of, sane_tick}
+use Rattle.replay_state.proofs.Walk.{Both, Closed, Leads, beside, closed_entered, leads_steps}
 use Rattle.replay_state.proofs.Steps.{let_in, steps_append}
+use Rattle.lemmas.proofs.Lists.{get_past, get_pushed, get_set_other, get_set_same}
+use Rattle.lemmas.proofs.Tests.{true_not_false}
 
 -- the switch finished it
 abbrev pub is_fast : Option Progress → Bool
-is_fast None = false
-is_fast (Some (Entered a v)) = false
-is_fast (Some (Up a)) = false
-is_fast (Some (Held a d v over)) = false
-is_fast (Some (Slow a d v y r)) = false
-is_fast (Some (Fast a d v y)) = true
+is_fast o = run.is_fast (option_map fate_of o)
 
 -- its preprocessing has ended
 abbrev pub is_settled : Option Progress → Bool
 is_settled None = false
 is_settled (Some (Entered a v)) = false
-is_settled (Some (Up a)) = true
-is_settled (Some (Held a d v over)) = true
-is_settled (Some (Slow a d v y r)) = true
-is_settled (Some (Fast a d v y)) = true
+is_settled (Some old) = true
 
 abbrev pub Stays : Option Progress → Option Progress → Type 0
 Stays o p = is_settled o ≡ true → (is_fast p ≡ is_fast o) × (is_settled p ≡ true)
@@ -54,41 +48,26 @@ set_stays xs n f h m = elim (cases_eq m n) [
 ]
   where
     go : (o : Option Progress) → slice_get xs n ≡ o → Stays (slice_get xs n) (slice_get (set xs n (f (slice_get xs n))) n)
-    go None g = λ s. absurd (none_settled (sym (ap is_settled g) ∙ s))
-      where
-        none_settled : false ≡ true → ⊥
-        none_settled e = cc
+    go None g = λ s. let bad : false ≡ true = sym (ap is_settled g) ∙ s in cc
     go (Some old) g =
         let now : slice_get (set xs n (f (slice_get xs n))) n ≡ Some (f (Some old)) = get_set_same xs n old (f (slice_get xs n)) g ∙ ap (λ o. Some (f o)) g in
         subst (λ o. Stays o (slice_get (set xs n (f (slice_get xs n))) n)) (sym g) (subst (λ p. Stays (Some old) p) (sym now) (h old))
 
 up_stays : (old : Progress) → Stays (Some old) (Some (went_up (Some old)))
 up_stays (Entered a v) s = cc
-up_stays (Up a) s = (refl, refl)
-up_stays (Held a d v o) s = (refl, refl)
-up_stays (Slow a d v y r) s = (refl, refl)
-up_stays (Fast a d v y) s = (refl, refl)
+up_stays old s = (refl, refl)
 
 finished_stays : (event : ℕ) (verdict : Verdict) (old : Progress) → Stays (Some old) (Some (finished event verdict (Some old)))
 finished_stays event verdict (Entered a v) s = cc
-finished_stays event verdict (Up a) s = (refl, refl)
-finished_stays event verdict (Held a d v o) s = (refl, refl)
-finished_stays event verdict (Slow a d v y r) s = (refl, refl)
-finished_stays event verdict (Fast a d v y) s = (refl, refl)
+finished_stays event verdict old s = (refl, refl)
 
 decided_stays : (event version : ℕ) (store : Store) (old : Progress) → Stays (Some old) (Some (decided event version store (Some old)))
 decided_stays event version store (Entered a v) s = cc
-decided_stays event version store (Up a) s = (refl, refl)
-decided_stays event version store (Held a d v o) s = (refl, refl)
-decided_stays event version store (Slow a d v y r) s = (refl, refl)
-decided_stays event version store (Fast a d v y) s = (refl, refl)
+decided_stays event version store old s = (refl, refl)
 
 released_stays : (f : Store → Verdict) (event : ℕ) (old : Progress) → Stays (Some old) (Some (released f event (Some old)))
 released_stays f event (Entered a v) s = cc
-released_stays f event (Up a) s = (refl, refl)
-released_stays f event (Held a d v o) s = (refl, refl)
-released_stays f event (Slow a d v y r) s = (refl, refl)
-released_stays f event (Fast a d v y) s = (refl, refl)
+released_stays f event old s = (refl, refl)
 
 -- a packet whose preprocessing had ended, and has still
 abbrev pub Keeps : State → State → Type 0
@@ -100,12 +79,9 @@ keeps_set w x n f stays h m s = let one = h m s in let two = set_stays x.progres
 
 keeps_push : (w x : State) (p : Progress) → Keeps w x → (m : ℕ) → Stays (slice_get w.progress m) (slice_get (x.progress ++ p ∷ []) m)
 keeps_push w x p h m s = elim (cases_eq m (length x.progress)) [
-  | inl e ↦ absurd (none_settled (sym (ap is_settled (subst (λ k. slice_get x.progress k ≡ None) (sym e) (get_past x.progress))) ∙ (h m s).1))
+  | inl e ↦ let bad : false ≡ true = sym (ap is_settled (subst (λ k. slice_get x.progress k ≡ None) (sym e) (get_past x.progress))) ∙ (h m s).1 in cc
   | inr d ↦ let same = get_push_other x.progress p m d in let one = h m s in (ap is_fast same ∙ one.0, ap is_settled same ∙ one.1)
 ]
-  where
-    none_settled : false ≡ true → ⊥
-    none_settled e = cc
 
 module _ (setup : Setup) (a : Answers) (w : State) where
   keeps : Closed setup a (λ n. ⊤) (Keeps w)
@@ -124,12 +100,8 @@ module _ (setup : Setup) (a : Answers) (w : State) where
     acked = λ x low h. h;
   }
 
-  keeps_from : (x : State) (es : List Event) → Keeps w x → Keeps w (steps setup a x es)
-  keeps_from x [] h = h
-  keeps_from x (e ∷ es) h = keeps_from (step setup a x e) es (closed_step setup a (λ n. ⊤) (Keeps w) keeps (λ z k. k) (λ z k. k) x e (λ t. ends_any setup a x e) h)
-
   pub keeps_steps : (es : List Event) → Keeps w (steps setup a w es)
-  keeps_steps es = keeps_from w es (λ m s. (refl, s))
+  keeps_steps es = leads_steps setup a (Keeps w) (Keeps w) (λ z k. k) keeps (λ z k. k) (λ z k. k) w es (λ m s. (refl, s))
 
 -- ---- from its entry on
 
@@ -155,10 +127,13 @@ module _ (setup : Setup) (a : Answers) (n v : ℕ) (first : Store) where
   quick = is_some (a.pre first n)
 
   -- its version began with this store, and it entered over it or has ended so
-  pub record Traced (w : State) : Type 0 where
-    pub low : v < length w.stores
-    pub same : store_at w.stores v ≡ first
-    pub fate : Fated v quick (slice_get w.progress n)
+  pub record Traced (stores : List Store) (fates : List Progress) : Type 0 where
+    pub low : v < length stores
+    pub same : store_at stores v ≡ first
+    pub fate : Fated v quick (slice_get fates n)
+
+  abbrev pub IsTraced : State → Type 0
+  IsTraced w = Traced w.stores w.progress
 
   -- the packet was there before, so one that comes in is another
   fated_there : (o : Option Progress) → Fated v quick o → o ≡ None → ⊥
@@ -166,114 +141,81 @@ module _ (setup : Setup) (a : Answers) (n v : ℕ) (first : Store) where
   fated_there None (inr h) is = cc
   fated_there (Some p) h is = cc
 
-  traced_push : (w : State) (p : Progress) → Traced w → Fated v quick (slice_get (w.progress ++ p ∷ []) n)
-  traced_push w p t = elim (cases_eq n (length w.progress)) [
-    | inl e ↦ absurd (fated_there (slice_get w.progress n) t.fate (ap (slice_get w.progress) e ∙ get_past w.progress))
-    | inr d ↦ subst (Fated v quick) (sym (get_push_other w.progress p n d)) t.fate
-  ]
+  traced_push : (w : State) (p : Progress) → IsTraced w → Traced w.stores (w.progress ++ p ∷ [])
+  traced_push w p t = record {
+    low = t.low;
+    same = t.same;
+    fate = elim (cases_eq n (length w.progress)) [
+      | inl e ↦ absurd (fated_there (slice_get w.progress n) t.fate (ap (slice_get w.progress) e ∙ get_past w.progress))
+      | inr d ↦ subst (Fated v quick) (sym (get_push_other w.progress p n d)) t.fate
+    ];
+  }
+
+  traced_set : (w : State) (k : ℕ) (f : Option Progress → Progress) → ((old : Progress) → Stays (Some old) (Some (f (Some old))))
+      → (k ≡ n → (e : ℕ) → slice_get w.progress n ≡ Some (Entered e v) → Fated v quick (Some (f (Some (Entered e v))))) → IsTraced w
+      → Traced w.stores (set w.progress k (f (slice_get w.progress k)))
+  traced_set w k f stays enter t = record { low = t.low; same = t.same; fate = fated_set w.progress k n v quick f stays enter t.fate }
 
   -- what ended its pass is what is answered over that store
-  says : (w : State) (j : ℕ) (x : Pass) (o : Option Verdict) → Fine w → Traced w → slice_get w.passes j ≡ Some x → x.pre ≡ true → a.pre (store_at w.stores x.version) x.number ≡ o
+  says : (w : State) (j : ℕ) (x : Pass) (o : Option Verdict) → Both (Sane setup) IsTraced w → slice_get w.passes j ≡ Some x → x.pre ≡ true
+      → a.pre (store_at w.stores x.version) x.number ≡ o
       → x.number ≡ n → (e : ℕ) → slice_get w.progress n ≡ Some (Entered e v) → is_some o ≡ quick
-  says w j x o k t g pre answer is e h =
-      let version = sym (k.needs.firsts x e v (get_member w.passes j x g) pre (subst (λ z. slice_get w.progress z ≡ Some (Entered e v)) (sym is) h)) in
-      ap is_some (sym answer ∙ ap (λ z. a.pre (store_at w.stores z) x.number) version ∙ ap (λ s. a.pre s x.number) t.same ∙ ap (a.pre first) is)
+  says w j x o h g pre answer is e here =
+      let there = subst (λ z. slice_get w.progress z ≡ Some (Entered e v)) (sym is) here in
+      let version = sym (h.base.fine.needs.firsts x e v (get_member w.passes j x g) pre there) in
+      ap is_some (sym answer ∙ ap (λ z. a.pre (store_at w.stores z) x.number) version ∙ ap (λ s. a.pre s x.number) h.own.same ∙ ap (a.pre first) is)
+
+  traces : Leads setup a (λ k. ⊤) (Both (Sane setup) IsTraced) IsTraced IsTraced
+  traces = record {
+    let_in = λ w low h. traced_push w (Entered w.events (seen w)) h.own;
+    let_down = λ w j p g h. h.own;
+    finished = λ w j x y g t e h. traced_set w x.number (finished w.events y) (finished_stays w.events y)
+        (λ i k there. inr (refl, says w j x (Some y) h g t e i k there)) h.own;
+    sent_up = λ w j x g t e q h. traced_set w x.number went_up up_stays (λ i k there. inr (refl, says w j x None h g t e i k there)) h.own;
+    out = λ w j x g t h.
+        let post : Store → Verdict = λ over. a.post over x.number in
+        traced_set w x.number (released post w.events) (released_stays post w.events) (λ i e there. inl (e, refl)) h.own;
+    moved = λ w j x g h. h.own;
+    unseen = λ w j m g e h.
+        traced_set w m (decided w.events w.version w.store) (decided_stays w.events w.version w.store) (λ i k there. inl (k, refl)) h.own;
+    shown = λ w j m u us g e h.
+        let now = traced_set w m (decided w.events (w.version + 1) w.store) (decided_stays w.events (w.version + 1) w.store)
+        (λ i k there. inl (k, refl)) h.own in
+        record {
+          low = let l = length_push w.stores (a.after w.store m) in let k = h.own.low in omega arith;
+          same = get_or_append_left w.stores (a.after w.store m ∷ []) [] v h.own.low ∙ h.own.same;
+          fate = now.fate;
+        };
+    go = λ w j p need g low h. h.own;
+    sent = λ w low h. h.own;
+    applied = λ w low free h. h.own;
+    acked = λ w low h. h.own;
+  }
 
   -- the same, in a state that is one of a run
-  pub record Followed (w : State) : Type 0 where
-    pub sane : Sane setup w
-    pub traced : Traced w
+  abbrev pub Followed : State → Type 0
+  Followed = Both (Sane setup) IsTraced
 
-  traced_closed : Closed setup a (λ k. ⊤) Followed
-  traced_closed =
-      let sc = sane_closed setup a in
-      record {
-        let_in = λ w low h. record {
-          sane = sc.let_in w low h.sane;
-          traced = record { low = h.traced.low; same = h.traced.same; fate = traced_push w (Entered w.events (seen w)) h.traced };
-        };
-        let_down = λ w j p g h. record { sane = sc.let_down w j p g h.sane; traced = record { low = h.traced.low; same = h.traced.same; fate = h.traced.fate } };
-        finished = λ w j x y g t e h. record {
-          sane = sc.finished w j x y g t e h.sane;
-          traced = record {
-            low = h.traced.low;
-            same = h.traced.same;
-            fate = fated_set w.progress x.number n v quick (finished w.events y) (finished_stays w.events y) (λ i k there. inr (refl, says w j x (Some y) h.sane.fine h.traced g t e i k there)) h.traced.fate;
-          };
-        };
-        sent_up = λ w j x g t e q h. record {
-          sane = sc.sent_up w j x g t e q h.sane;
-          traced = record {
-            low = h.traced.low;
-            same = h.traced.same;
-            fate = fated_set w.progress x.number n v quick went_up up_stays (λ i k there. inr (refl, says w j x None h.sane.fine h.traced g t e i k there)) h.traced.fate;
-          };
-        };
-        out = λ w j x g t h. record {
-          sane = sc.out w j x g t h.sane;
-          traced = record {
-            low = h.traced.low;
-            same = h.traced.same;
-            fate = fated_set w.progress x.number n v quick (released (λ over. a.post over x.number) w.events) (released_stays (λ over. a.post over x.number) w.events) (λ i e there. inl (e, refl)) h.traced.fate;
-          };
-        };
-        moved = λ w j x g h. record { sane = sc.moved w j x g h.sane; traced = record { low = h.traced.low; same = h.traced.same; fate = h.traced.fate } };
-        unseen = λ w j m g e h. record {
-          sane = sc.unseen w j m g e h.sane;
-          traced = record {
-            low = h.traced.low;
-            same = h.traced.same;
-            fate = fated_set w.progress m n v quick (decided w.events w.version w.store) (decided_stays w.events w.version w.store) (λ i k there. inl (k, refl)) h.traced.fate;
-          };
-        };
-        shown = λ w j m u us g e h. record {
-          sane = sc.shown w j m u us g e h.sane;
-          traced = record {
-            low = let l = length_push w.stores (a.after w.store m) in let k = h.traced.low in omega arith;
-            same = get_or_append_left w.stores (a.after w.store m ∷ []) [] v h.traced.low ∙ h.traced.same;
-            fate = fated_set w.progress m n v quick (decided w.events (w.version + 1) w.store) (decided_stays w.events (w.version + 1) w.store) (λ i k there. inl (k, refl)) h.traced.fate;
-          };
-        };
-        go = λ w j p need g low h. record { sane = sc.go w j p need g low h.sane; traced = record { low = h.traced.low; same = h.traced.same; fate = h.traced.fate } };
-        sent = λ w low h. record { sane = sc.sent w low h.sane; traced = record { low = h.traced.low; same = h.traced.same; fate = h.traced.fate } };
-        applied = λ w low free h. record { sane = sc.applied w low free h.sane; traced = record { low = h.traced.low; same = h.traced.same; fate = h.traced.fate } };
-        acked = λ w low h. record { sane = sc.acked w low h.sane; traced = record { low = h.traced.low; same = h.traced.same; fate = h.traced.fate } };
-      }
+  followed_closed : Closed setup a (λ k. ⊤) Followed
+  followed_closed = beside setup a (λ k. ⊤) (Sane setup) IsTraced IsTraced IsTraced (sane_closed setup a) traces
 
-  pub followed_ended : (w : State) (x : Pass) → Followed (record w { passes = w.passes ++ x ∷ [] }) → (x.left ≡ 0 → ⊤) → Followed (entered a w x)
-  followed_ended w x h q = closed_entered setup a (λ k. ⊤) Followed traced_closed w x (λ z t e. tt) h
+  pub followed_ended : (w : State) (x : Pass) → Followed (record w { passes = w.passes ++ x ∷ [] }) → Followed (entered a w x)
+  followed_ended w x h = closed_entered setup a (λ k. ⊤) Followed Followed (λ w h. h) followed_closed w x (λ z t e. tt) h
 
   pub followed_steps : (w : State) (es : List Event) → Followed w → Followed (steps setup a w es)
-  followed_steps w [] h = h
-  followed_steps w (e ∷ es) h =
-      followed_steps (step setup a w e) es
-      (closed_step setup a (λ k. ⊤) Followed traced_closed (λ x k. record { sane = sane_tick setup a x k.sane; traced = record { low = k.traced.low; same = k.traced.same; fate = k.traced.fate } })
-      (λ x k. record { sane = sane_idle setup a x k.sane; traced = record { low = k.traced.low; same = k.traced.same; fate = k.traced.fate } }) w e (λ t. ends_any setup a w e) h)
+  followed_steps =
+      leads_steps setup a Followed Followed (λ w h. h) followed_closed (λ x k. record { base = sane_tick setup a x k.base; own = k.own })
+      (λ x k. record { base = sane_idle setup a x k.base; own = k.own })
 
 -- ---- what is told of it
 
-fast_told : (o : Option Progress) → run.is_fast (option_map fate_of o) ≡ is_fast o
-fast_told None = refl
-fast_told (Some (Entered a v)) = refl
-fast_told (Some (Up a)) = refl
-fast_told (Some (Held a d v over)) = refl
-fast_told (Some (Slow a d v y r)) = refl
-fast_told (Some (Fast a d v y)) = refl
-
 settled_told : (o : Option Progress) → is_settled o ≡ true → run.is_passing (option_map fate_of o) ≡ false
-settled_told None h = refl
 settled_told (Some (Entered a v)) h = cc
-settled_told (Some (Up a)) h = refl
-settled_told (Some (Held a d v over)) h = refl
-settled_told (Some (Slow a d v y r)) h = refl
-settled_told (Some (Fast a d v y)) h = refl
-
-true_false : true ≡ false → ⊥
-true_false e = cc
+settled_told o h = refl
 
 fated_told : (v : ℕ) (b : Bool) (o : Option Progress) → Fated v b o → run.is_passing (option_map fate_of o) ≡ false → run.is_fast (option_map fate_of o) ≡ b
-fated_told v b o (inl h) k = absurd (true_false (sym (ap (λ z. run.is_passing (option_map fate_of z)) h.1) ∙ k))
-fated_told v b o (inr h) k = fast_told o ∙ h.1
+fated_told v b o (inl h) k = absurd (true_not_false (sym (ap (λ z. run.is_passing (option_map fate_of z)) h.1) ∙ k))
+fated_told v b o (inr h) k = h.1
 
 module _ (setup : Setup) (a : Answers) (events more : List Event) where
   abbrev now : State
@@ -281,9 +223,6 @@ module _ (setup : Setup) (a : Answers) (events more : List Event) where
 
   abbrev last : Option Progress
   last = slice_get (state_of setup a (events ++ Admit ∷ more)).progress (length now.progress)
-
-  sane_now : Sane setup now
-  sane_now = sane_steps setup a (first_state (start_store setup.objects)) events (sane_first setup a (start_store setup.objects))
 
   last_is : last ≡ slice_get (steps setup a (step setup a now Admit) more).progress (length now.progress)
   last_is = ap (λ (w : State). slice_get w.progress (length now.progress)) (steps_append setup a (first_state (start_store setup.objects)) events (Admit ∷ more))
@@ -296,28 +235,28 @@ module _ (setup : Setup) (a : Answers) (events more : List Event) where
       let n = length now.progress in
       let w = tick now in
       let p : Progress = Entered w.events (seen now) in
-      let within = shown_le now now.done sane_now.fine in
-      let stores = sane_now.fine.counts.stores in
+      let within = shown_le now now.done (sane_of setup a events).fine in
+      let stores = (sane_of setup a events).fine.counts.all in
       let low = ltb-true (length now.progress) setup.total t in
       let start : Followed setup a n (seen now) (seen_store now) (let_in w setup.pre_stages) = record {
-        sane = (sane_closed setup a).let_in w low (sane_tick setup a now sane_now);
-        traced = record { low = omega arith; same = refl; fate = inl (w.events, get_push_same now.progress p) };
+        base = (sane_closed setup a).let_in w low (sane_tick setup a now (sane_of setup a events));
+        own = record { low = omega arith; same = refl; fate = inl (w.events, get_pushed now.progress p) };
       } in
-      rw t (followed_ended setup a n (seen now) (seen_store now) (record w { progress = w.progress ++ p ∷ [] }) (pass_of w true n setup.pre_stages) start (λ z. tt))
+      rw t (followed_ended setup a n (seen now) (seen_store now) (record w { progress = w.progress ++ p ∷ [] }) (pass_of w true n setup.pre_stages) start)
 
   pub fast_by_seen : applies setup now Admit ≡ true → run.is_passing (slice_get (job_run setup a (events ++ Admit ∷ more)).fates (length now.progress)) ≡ false
       → run.is_fast (slice_get (job_run setup a (events ++ Admit ∷ more)).fates (length now.progress)) ≡ is_some (a.pre (seen_store now) (length now.progress))
   fast_by_seen t passing =
-      let traced = (followed_steps setup a (length now.progress) (seen now) (seen_store now) (step setup a now Admit) more (entered_traced t)).traced in
+      let traced = (followed_steps setup a (length now.progress) (seen now) (seen_store now) (step setup a now Admit) more (entered_traced t)).own in
       let fate = subst (Fated (seen now) (is_some (a.pre (seen_store now) (length now.progress)))) (sym last_is) traced.fate in
       ap run.is_fast fate_is ∙ fated_told (seen now) (is_some (a.pre (seen_store now) (length now.progress))) last fate (sym (ap run.is_passing fate_is) ∙ passing)
 
   settled_once : setup.pre_stages ≡ 0 → applies setup now Admit ≡ true → (o : Option Verdict) → a.pre (seen_store now) (length now.progress) ≡ o → is_settled (slice_get (step setup a now Admit).progress (length now.progress)) ≡ true
   settled_once none t None h =
-      ap (λ (w : State). is_settled (slice_get w.progress (length now.progress))) (slow_at_once setup a now none t h) ∙ ap is_settled (get_push_same now.progress (Up (now.events + 1)))
+      ap (λ (w : State). is_settled (slice_get w.progress (length now.progress))) (slow_at_once setup a now none t h) ∙ ap is_settled (get_pushed now.progress (Up (now.events + 1)))
   settled_once none t (Some y) h =
       ap (λ (w : State). is_settled (slice_get w.progress (length now.progress))) (fast_at_once setup a now y none t h)
-      ∙ ap is_settled (get_push_same now.progress (Fast (now.events + 1) (now.events + 1) (seen now) y))
+      ∙ ap is_settled (get_pushed now.progress (Fast (now.events + 1) (now.events + 1) (seen now) y))
 
   pub settled_at_once : setup.pre_stages ≡ 0 → applies setup now Admit ≡ true → run.is_passing (slice_get (job_run setup a (events ++ Admit ∷ more)).fates (length now.progress)) ≡ false
   settled_at_once none t =

@@ -1,9 +1,9 @@
 -- Which commands leave what is seen of an object with either bit.
-use Rattle.std.proofs.Common.{◌≡◌, ℕ, ◌+◌, ◌<◌, ◌≤◌, Bool, true, false, ◌&&◌, cond, List, [], ◌∷◌, ◌++◌, Option, Some, None, inl, inr, refl, sym, ◌∙◌, ap, subst, arith, zero, suc, take, map, length}
+use Rattle.std.proofs.Common.{◌≡◌, ◌+◌, ℕ, ◌<◌, ◌≤◌, Bool, true, false, ◌&&◌, cond, List, [], ◌∷◌, ◌++◌, Option, Some, None, inl, inr, refl, sym, ◌∙◌, ap, subst, arith, zero, suc, take, map, length}
 use Rattle.std.specs.Prelude.{slice_get}
 use Rattle.std.specs.FinMap.{get, get-remove, get-empty, same_map}
 use Rattle.std.specs.Ordering.{eq_by_cmp}
-use Rattle.std.proofs.lemmas.Bool.{cases_Bool, and_parts}
+use Rattle.std.proofs.lemmas.Bool.{cases_Bool, and_parts, and_from}
 use Rattle.std.proofs.lemmas.Option.{same_Some, none-some}
 use Rattle.std.proofs.lemmas.Cmp.{nat_list_cmp_total}
 use Rattle.std.proofs.lemmas.Map.Lookups.{exact_bytes}
@@ -13,34 +13,28 @@ use Rattle.writeback_table.specs.declared.command.Command.{Command}
 use Rattle.writeback_table.specs.declared.command.Command.TheVariants.{Stage, On, Main, Off, Clear}
 use Rattle.writeback_table.specs.Pair.{Pair, visible, seen}
 use Rattle.writeback_table.specs.Commands.{clear_of, commands_of, counts_on, ons, names, pair_after, bit_after, pair_through, bit_through}
-use Rattle.writeback_table.specs.Batches.{all_commands, object_after, IsReady, IsSeenInOrder}
+use Rattle.writeback_table.specs.Batches.{all_commands, object_after, IsReady}
 use Rattle.replay_state.specs.Step.{disturbs}
-use Rattle.replay_state.proofs.Lists.{get_within}
+use Rattle.lemmas.proofs.Lists.{get_within, take_next}
+use Rattle.lemmas.proofs.Tests.{true_not_false}
+use Rattle.output_commit.proofs.Bits.{bit_past}
+use Rattle.writeback_table.proofs.Histories.{ons_append}
+use Rattle.writeback_table.proofs.Laws.{batches_are_seen_in_order, what_a_lookup_sees-others, what_a_lookup_sees-staged}
 
 -- ---- one command more
 
-pub take_one : {X : Type 0} (xs : List X) (n : ℕ) (x : X) → slice_get xs n ≡ Some x → take (suc n) xs ≡ take n xs ++ x ∷ []
-take_one [] n x h = cc
-take_one (y ∷ xs) zero x h = ap (λ z. z ∷ []) (same_Some _ _ h)
-take_one (y ∷ xs) (suc n) x h = ap (λ l. y ∷ l) (take_one xs n x h)
+take_one : {X : Type 0} (xs : List X) (n : ℕ) (x : X) → slice_get xs n ≡ Some x → take (suc n) xs ≡ take n xs ++ x ∷ []
+take_one xs n x h = let e : suc n ≡ n + 1 = omega arith in ap (λ k. take k xs) e ∙ take_next xs n x h
 
 pair_append : (o : ℕ) (pair : Pair) (cs ds : List Command) → pair_through o pair (cs ++ ds) ≡ pair_through o (pair_through o pair cs) ds
 pair_append o pair [] ds = refl
 pair_append o pair (c ∷ cs) ds = pair_append o (pair_after o pair c) cs ds
 
-pub bit_append : (bit : Bool) (cs ds : List Command) → bit_through bit (cs ++ ds) ≡ bit_through (bit_through bit cs) ds
-bit_append bit [] ds = refl
-bit_append bit (c ∷ cs) ds = bit_append (bit_after bit c) cs ds
-
 pub next_pair : (o : ℕ) (pair : Pair) (cs : List Command) (n : ℕ) (c : Command) → slice_get cs n ≡ Some c → pair_through o pair (take (suc n) cs) ≡ pair_after o (pair_through o pair (take n cs)) c
 next_pair o pair cs n c h = ap (pair_through o pair) (take_one cs n c h) ∙ pair_append o pair (take n cs) (c ∷ [])
 
 next_bit : (bit : Bool) (cs : List Command) (n : ℕ) (c : Command) → slice_get cs n ≡ Some c → bit_through bit (take (suc n) cs) ≡ bit_after (bit_through bit (take n cs)) c
-next_bit bit cs n c h = ap (bit_through bit) (take_one cs n c h) ∙ bit_append bit (take n cs) (c ∷ [])
-
-ons_append : (xs ys : List Command) → ons (xs ++ ys) ≡ ons xs + ons ys
-ons_append [] ys = omega arith
-ons_append (x ∷ xs) ys = let r = ons_append xs ys in omega arith
+next_bit bit cs n c h = ap (bit_through bit) (take_one cs n c h) ∙ bit_past bit (take n cs) (c ∷ [])
 
 next_ons : (cs : List Command) (n : ℕ) (c : Command) → slice_get cs n ≡ Some c → counts_on c ≡ 0 → ons (take (suc n) cs) ≡ ons (take n cs)
 next_ons cs n c h none = ap ons (take_one cs n c h) ∙ ons_append (take n cs) (c ∷ []) ∙ omega arith
@@ -48,11 +42,9 @@ next_ons cs n c h none = ap ons (take_one cs n c h) ∙ ons_append (take n cs) (
 -- ---- how commands stand in batches: mains while the bit is set, and clears behind these
 
 abbrev calm_after : Bool → Command → Bool
-calm_after calm (Stage u) = false
-calm_after calm On = false
-calm_after calm (Main u) = false
 calm_after calm Off = true
 calm_after calm (Clear o k) = calm
+calm_after calm command = false
 
 abbrev calm_through : Bool → List Command → Bool
 calm_through calm [] = calm
@@ -67,25 +59,20 @@ next_calm calm cs n c h = ap (calm_through calm) (take_one cs n c h) ∙ calm_ap
 
 -- what must hold where a command comes
 abbrev may_come : Bool → Bool → Command → Bool
-may_come bit calm (Stage u) = true
-may_come bit calm On = true
 may_come bit calm (Main u) = bit
 may_come bit calm Off = bit
 may_come bit calm (Clear o k) = calm
+may_come bit calm command = true
 
 abbrev in_turn : Bool → Bool → List Command → Bool
 in_turn bit calm [] = true
 in_turn bit calm (c ∷ cs) = may_come bit calm c && in_turn (bit_after bit c) (calm_after calm c) cs
 
-both : (x y : Bool) → x ≡ true → y ≡ true → (x && y) ≡ true
-both true y h k = k
-both false y h k = cc
-
 turn_append : (bit calm : Bool) (cs ds : List Command) → in_turn bit calm cs ≡ true → in_turn (bit_through bit cs) (calm_through calm cs) ds ≡ true → in_turn bit calm (cs ++ ds) ≡ true
 turn_append bit calm [] ds h k = k
 turn_append bit calm (c ∷ cs) ds h k =
     let parts = and_parts (may_come bit calm c) (in_turn (bit_after bit c) (calm_after calm c) cs) h in
-    both (may_come bit calm c) _ parts.0 (turn_append (bit_after bit c) (calm_after calm c) cs ds parts.1 k)
+    and_from (may_come bit calm c) _ parts.0 (turn_append (bit_after bit c) (calm_after calm c) cs ds parts.1 k)
 
 turn_clears : (us : List Update) → in_turn false true (map clear_of us) ≡ true
 turn_clears [] = refl
@@ -114,7 +101,7 @@ batch_bit bit (u ∷ us) vs = batch_bit bit us vs
 -- the bit is clear after whole batches
 pub all_bit : (batches : List (List Update)) → bit_through false (all_commands batches) ≡ false
 all_bit [] = refl
-all_bit (us ∷ batches) = bit_append false (commands_of us) (all_commands batches) ∙ ap (λ b. bit_through b (all_commands batches)) (batch_bit false us us) ∙ all_bit batches
+all_bit (us ∷ batches) = bit_past false (commands_of us) (all_commands batches) ∙ ap (λ b. bit_through b (all_commands batches)) (batch_bit false us us) ∙ all_bit batches
 
 turn_all : (calm : Bool) (batches : List (List Update)) → in_turn false calm (all_commands batches) ≡ true
 turn_all calm [] = refl
@@ -133,22 +120,18 @@ comes bit calm (x ∷ cs) (suc n) c h g =
 
 -- ---- tables with nothing staged but what the main table has
 
-pub record Looks : Type 0 where
-  pub staged : (pair : Pair) (key : List ℕ) (row : Option (List ℕ)) → get pair.staged key ≡ Some row → seen true pair key ≡ row
-  pub others : (pair : Pair) (key : List ℕ) → get pair.staged key ≡ None → seen true pair key ≡ look pair.main key
-
 abbrev Agrees : Pair → Type 0
 Agrees pair = (key : List ℕ) (row : Option (List ℕ)) → get pair.staged key ≡ Some row → look pair.main key ≡ row
 
-agree_key : (l : Looks) (pair : Pair) → Agrees pair → (key : List ℕ) (o : Option (Option (List ℕ))) → get pair.staged key ≡ o → seen true pair key ≡ look pair.main key
-agree_key l pair h key None g = l.others pair key g
-agree_key l pair h key (Some row) g = l.staged pair key row g ∙ sym (h key row g)
+agree_key : (pair : Pair) → Agrees pair → (key : List ℕ) (o : Option (Option (List ℕ))) → get pair.staged key ≡ o → seen true pair key ≡ look pair.main key
+agree_key pair h key None g = what_a_lookup_sees-others pair key g
+agree_key pair h key (Some row) g = what_a_lookup_sees-staged pair key row g ∙ sym (h key row g)
 
-agree_same : (l : Looks) (pair : Pair) → Agrees pair → visible true pair ≡ pair.main.contents
-agree_same l pair h = same_map nat_list_cmp_total exact_bytes (visible true pair) pair.main.contents (λ key. agree_key l pair h key (get pair.staged key) refl)
+agree_same : (pair : Pair) → Agrees pair → visible true pair ≡ pair.main.contents
+agree_same pair h = same_map nat_list_cmp_total exact_bytes (visible true pair) pair.main.contents (λ key. agree_key pair h key (get pair.staged key) refl)
 
-same_agree : (l : Looks) (pair : Pair) → visible true pair ≡ pair.main.contents → Agrees pair
-same_agree l pair h key row g = sym (ap (λ m. get m key) h) ∙ l.staged pair key row g
+same_agree : (pair : Pair) → visible true pair ≡ pair.main.contents → Agrees pair
+same_agree pair h key row g = sym (ap (λ m. get m key) h) ∙ what_a_lookup_sees-staged pair key row g
 
 kept_row : (b : Bool) (o : Option (Option (List ℕ))) (row : Option (List ℕ)) → cond b None o ≡ Some row → o ≡ Some row
 kept_row true o row h = cc
@@ -163,16 +146,12 @@ clear_agree o m k pair h = elim (cases_Bool (names o (Clear m k))) [
 -- ---- what stays seen
 
 main_stays : (o : ℕ) (pair : Pair) (c : Command) → disturbs false c ≡ false → (pair_after o pair c).main ≡ pair.main
-main_stays o pair (Stage u) h = elim (cases_Bool (names o (Stage u))) [ inl t ↦ rw t refl | inr t ↦ rw t refl ]
 main_stays o pair On h = refl
 main_stays o pair (Main u) h = cc
 main_stays o pair Off h = refl
-main_stays o pair (Clear m k) h = elim (cases_Bool (names o (Clear m k))) [ inl t ↦ rw t refl | inr t ↦ rw t refl ]
+main_stays o pair c h = elim (cases_Bool (names o c)) [ inl t ↦ rw t refl | inr t ↦ rw t refl ]
 
-true_false : true ≡ false → ⊥
-true_false e = cc
-
-module _ (l : Looks) (o : ℕ) (pair : Pair) (batches : List (List Update)) (ready : IsReady o pair batches) (law : IsSeenInOrder o pair batches) where
+module _ (o : ℕ) (pair : Pair) (batches : List (List Update)) (ready : IsReady o pair batches) where
   abbrev cs : List Command
   cs = all_commands batches
 
@@ -191,7 +170,8 @@ module _ (l : Looks) (o : ℕ) (pair : Pair) (batches : List (List Update)) (rea
   -- what is seen with the bit as it stands
   seen_at : (n : ℕ) (bit : Bool) → bit_at n ≡ bit → visible bit (at n) ≡ there n
   unfolding there
-  seen_at n bit e = subst (λ b. visible b (at n) ≡ (object_after o pair.main (take (ons (take n cs)) batches)).contents) e (law.seen n)
+  seen_at n bit e = subst (λ b. visible b (at n) ≡ (object_after o pair.main (take (ons (take n cs)) batches)).contents) e
+      ((batches_are_seen_in_order o pair batches ready).seen n)
 
   there_stays : (n : ℕ) (c : Command) → slice_get cs n ≡ Some c → counts_on c ≡ 0 → there (suc n) ≡ there n
   unfolding there
@@ -201,15 +181,13 @@ module _ (l : Looks) (o : ℕ) (pair : Pair) (batches : List (List Update)) (rea
   came n c g = comes false true cs n c (turn_all true batches) g
 
   agrees_next : (n : ℕ) (c : Command) → slice_get cs n ≡ Some c → (calm_at n ≡ true → Agrees (at n)) → calm_after (calm_at n) c ≡ true → Agrees (pair_after o (at n) c)
-  agrees_next n (Stage u) g before calm = absurd (true_false (sym calm))
-  agrees_next n On g before calm = absurd (true_false (sym calm))
-  agrees_next n (Main u) g before calm = absurd (true_false (sym calm))
   agrees_next n Off g before calm =
       let set = came n Off g in
       let now : bit_at (suc n) ≡ false = next_bit false cs n Off g in
       let pair_is : at (suc n) ≡ at n = next_pair o pair cs n Off g in
-      same_agree l (at n) (seen_at n true set ∙ sym (there_stays n Off g refl) ∙ sym (seen_at (suc n) false now) ∙ ap (λ p. visible false p) pair_is)
+      same_agree (at n) (seen_at n true set ∙ sym (there_stays n Off g refl) ∙ sym (seen_at (suc n) false now) ∙ ap (λ p. visible false p) pair_is)
   agrees_next n (Clear m k) g before calm = clear_agree o m k (at n) (before calm)
+  agrees_next n c g before calm = absurd (true_not_false (sym calm))
 
   agrees : (n : ℕ) → n ≤ length cs → calm_at n ≡ true → Agrees (at n)
   agrees zero low calm = λ key row g. absurd (none-some row (sym (ap (λ s. get s key) ready.empty ∙ get-empty key_cmp key) ∙ g))
@@ -219,18 +197,17 @@ module _ (l : Looks) (o : ℕ) (pair : Pair) (batches : List (List Update)) (rea
       subst Agrees (sym (next_pair o pair cs n c g.1)) (agrees_next n c g.1 (agrees n (omega arith)) (sym (next_calm true cs n c g.1) ∙ calm))
 
   with_bit : (n : ℕ) (c : Command) → slice_get cs n ≡ Some c → n < length cs → disturbs true c ≡ false → visible true (pair_after o (at n) c) ≡ visible true (at n)
-  with_bit n (Stage u) g low h = absurd (true_false h)
-  with_bit n On g low h = refl
+  with_bit n (Stage u) g low h = absurd (true_not_false h)
   with_bit n (Main u) g low h =
       let set = came n (Main u) g in
       let now : bit_at (suc n) ≡ true = next_bit false cs n (Main u) g ∙ set in
       ap (λ p. visible true p) (sym (next_pair o pair cs n (Main u) g)) ∙ seen_at (suc n) true now ∙ there_stays n (Main u) g refl ∙ sym (seen_at n true set)
-  with_bit n Off g low h = refl
   with_bit n (Clear m k) g low h =
       let calm = came n (Clear m k) g in
       let before = agrees n (omega arith) calm in
-      agree_same l (pair_after o (at n) (Clear m k)) (clear_agree o m k (at n) before)
-      ∙ ap (λ m. m.contents) (main_stays o (at n) (Clear m k) refl) ∙ sym (agree_same l (at n) before)
+      agree_same (pair_after o (at n) (Clear m k)) (clear_agree o m k (at n) before)
+      ∙ ap (λ m. m.contents) (main_stays o (at n) (Clear m k) refl) ∙ sym (agree_same (at n) before)
+  with_bit n c g low h = refl
 
   by_bit : (bit : Bool) (n : ℕ) (c : Command) → slice_get cs n ≡ Some c → n < length cs → disturbs bit c ≡ false → visible bit (pair_after o (at n) c) ≡ visible bit (at n)
   by_bit true n c g low h = with_bit n c g low h

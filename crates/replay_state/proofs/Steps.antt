@@ -1,6 +1,7 @@
 -- What the events do, one effect at a time.
-use Rattle.std.proofs.Common.{◌≡◌, refl, ℕ, ◌+◌, ◌-◌, ◌<◌, Bool, true, false, List, [], ◌∷◌, ◌++◌, arith, length}
+use Rattle.std.proofs.Common.{◌≡◌, refl, ℕ, ◌+◌, ◌-◌, ◌<◌, Bool, true, false, List, [], ◌∷◌, ◌++◌, Option, Some, None, inl, inr, arith, length}
 use Rattle.std.specs.Prelude.{slice_get, slice_set, remove}
+use Rattle.std.proofs.lemmas.Bool.{cases_Bool}
 use Rattle.std.proofs.lemmas.List.{length_push}
 use Rattle.packet_fields.specs.declared.verdict.Verdict.{Verdict}
 use Rattle.state_store.specs.Store.{Store}
@@ -8,8 +9,8 @@ use Rattle.writeback_table.specs.declared.command.Update.{Update}
 use Rattle.run_model.specs.declared.event.Event.{Event}
 use Rattle.replay_state.specs.Answers.{Answers, Setup}
 use Rattle.output_commit.specs.Batches.{Batch, commands_in, merged}
-use Rattle.replay_state.specs.State.{State, Pass, Entered, seen}
-use Rattle.replay_state.specs.Step.{step, steps, pass_of, finished, went_up, released, decided}
+use Rattle.replay_state.specs.State.{Entered, Pass, Progress, State, seen, store_at}
+use Rattle.replay_state.specs.Step.{came_in, decided, ended, finished, pass_of, released, step, steps, went_up}
 use Rattle.replay_state.proofs.Counts.{AreCounted, merged_is, long, length_more, sum_push}
 
 -- the pass before the server enters, and the one behind it
@@ -72,6 +73,19 @@ applied_one w = record w { done = w.done + 1 }
 abbrev pub acked_one : State → State
 acked_one w = record w { acked = w.acked + 1 }
 
+-- the end of a pass changes nothing but who goes up and how far packets have come
+pub ended_leaves : {X : Type 0} (f : State → X) (a : Answers)
+    → ((w : State) (up : List ℕ) (progress : List Progress) → f (record w { up = up; progress = progress }) ≡ f w)
+    → (w : State) (x : Pass) → f (ended a w x) ≡ f w
+ended_leaves f a same w x = elim (cases_Bool x.pre) [
+  | inl t ↦ rw t (comes_in (a.pre (store_at w.stores x.version) x.number))
+  | inr t ↦ rw t (same w w.up _)
+]
+  where
+    comes_in : (o : Option Verdict) → f (came_in w x.number o) ≡ f w
+    comes_in None = same w _ _
+    comes_in (Some y) = same w w.up _
+
 pub counts_sent : (w : State) (fits : List Update → Bool) → w.sent < length (commands_in w.batches) → AreCounted w → AreCounted (sent_one w fits)
 counts_sent w fits h k =
     let m = merged_is fits w.sent w.batches in
@@ -79,7 +93,7 @@ counts_sent w fits h k =
     let new = long (merged fits w.sent w.batches) in
     record {
       versions = let a = m.versions in let b = k.versions in omega arith;
-      stores = k.stores;
+      all = k.all;
       sent_in = let g = m.goes_on (omega arith) in omega arith;
       done_in = let g = k.done_in in omega arith;
       acked_in = k.acked_in;
@@ -89,7 +103,7 @@ counts_sent w fits h k =
 pub counts_seen : (a : Answers) (w : State) (j p : ℕ) (b : Batch) → b.versions ≡ 1 → AreCounted w → AreCounted (run_at a w j p (w.version + 1) (w.stores ++ a.after w.store p ∷ []) (w.batches ++ b ∷ []))
 counts_seen a w j p b one k = record {
   versions = let s = sum_push w.batches b in let v = k.versions in omega arith;
-  stores = let x = length_push w.stores (a.after w.store p) in let y = k.stores in omega arith;
+  all = let x = length_push w.stores (a.after w.store p) in let y = k.all in omega arith;
   sent_in = let l = length_more w.batches b in let s = k.sent_in in omega arith;
   done_in = k.done_in;
   acked_in = k.acked_in;

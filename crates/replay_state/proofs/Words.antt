@@ -2,9 +2,11 @@
 use Rattle.std.specs.Prelude.{ℕ, Bool, List, [], ◌∷◌, Option, Some, None, filter, is_some, nat_le, nat_lt}
 use Rattle.packet_fields.specs.declared.verdict.Verdict.{Verdict}
 use Rattle.state_store.specs.Store.{Store}
+use Rattle.std.specs.Option.{option_map}
 use Rattle.run_model.specs.Order.{decided_of}
+use Rattle.run_model.specs.Serialises as run
 use Rattle.replay_state.specs.Answers.{Answers}
-use Rattle.replay_state.specs.State.{Progress, Entered, Up, Held, Slow, Fast, fate_of}
+use Rattle.replay_state.specs.State.{Progress, Entered, Held, Slow, Fast, fate_of}
 use Rattle.run_model.specs.declared.serial.Decided.{Decided}
 
 -- the entries of versions up to v, and the later ones
@@ -16,12 +18,11 @@ beyond v es = filter (λ e. nat_lt v e.version) es
 
 -- the version over which a packet entered, or was decided
 abbrev pub version_at : Option Progress → Option ℕ
-version_at None = None
 version_at (Some (Entered a v)) = Some v
-version_at (Some (Up a)) = None
 version_at (Some (Held a d v y)) = Some v
 version_at (Some (Slow a d v y r)) = Some v
 version_at (Some (Fast a d v y)) = Some v
+version_at o = None
 
 -- where a packet of this number stands, if it is decided
 abbrev pub entry_of : ℕ → Option Progress → Option Decided
@@ -29,33 +30,23 @@ entry_of n None = None
 entry_of n (Some p) = decided_of n (fate_of p)
 
 abbrev pub is_decided : Option Progress → Bool
-is_decided p = is_some (entry_of 0 p)
+is_decided o = is_some (run.decided_at (option_map fate_of o))
 
 -- the events that admitted and released it
 abbrev pub admitted_at : Option Progress → Option ℕ
-admitted_at None = None
-admitted_at (Some (Entered a v)) = Some a
-admitted_at (Some (Up a)) = Some a
-admitted_at (Some (Held a d v over)) = Some a
-admitted_at (Some (Slow a d v y r)) = Some a
-admitted_at (Some (Fast a d v y)) = Some a
+admitted_at o = run.admitted_at (option_map fate_of o)
 
 abbrev pub released_at : Option Progress → Option ℕ
-released_at None = None
-released_at (Some (Entered a v)) = None
-released_at (Some (Up a)) = None
-released_at (Some (Held a d v over)) = None
 released_at (Some (Slow a d v y r)) = Some r
 released_at (Some (Fast a d v y)) = Some d
+released_at o = None
 
 -- the verdict of a decided packet: of one that is held it is that of the run that decided it
 abbrev pub verdict_at : Answers → ℕ → Option Progress → Option Verdict
-verdict_at a n None = None
-verdict_at a n (Some (Entered e v)) = None
-verdict_at a n (Some (Up e)) = None
 verdict_at a n (Some (Held e d v over)) = Some (a.post over n)
 verdict_at a n (Some (Slow e d v y r)) = Some y
 verdict_at a n (Some (Fast e d v y)) = Some y
+verdict_at a n o = None
 
 -- serial runs by answers
 abbrev pub serial_store : Answers → Store → List ℕ → Store

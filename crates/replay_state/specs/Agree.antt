@@ -4,7 +4,7 @@ use Rattle.state_store.specs.Store.{Store}
 use Rattle.replay_state.specs.Answers.{Answers, Setup}
 use Rattle.replay_state.specs.State.{State, Pass, Held, store_at}
 use Rattle.run_model.specs.declared.event.Event.{Event}
-use Rattle.run_model.specs.declared.event.Event.TheVariants.{Admit, Stage, Serve, Send, Apply, Ack, Hold, Down}
+use Rattle.run_model.specs.declared.event.Event.TheVariants.{Admit, Stage, Serve, Down}
 use Rattle.replay_state.specs.Step.{applies, pass_of, step}
 
 -- the same ends this pass
@@ -27,13 +27,10 @@ AgreeOn setup a b st Admit =
 AgreeOn setup a b st (Stage j) =
     (pass : Pass) → pass.left ≤ 1 → slice_get st.passes j ≡ Some pass → EndAlike a b st pass
 AgreeOn setup a b st (Serve j) = (n : ℕ) → slice_get st.up j ≡ Some n → RunAlike a b st n
-AgreeOn setup a b st Send = ⊤
-AgreeOn setup a b st Apply = ⊤
-AgreeOn setup a b st Ack = ⊤
-AgreeOn setup a b st (Hold j) = ⊤
 AgreeOn setup a b st (Down j) =
     (n : ℕ) → setup.post_stages ≡ 0 → slice_get st.down j ≡ Some n
     → EndAlike a b st (pass_of st false n setup.post_stages)
+AgreeOn setup a b st event = ⊤
 
 -- and so of each event in turn, where it applies
 abbrev pub Agree : Setup → Answers → Answers → State → List Event → Type 0

@@ -1,7 +1,7 @@
 -- Commands by what they are, and those that were applied.
 use Rattle.std.specs.Prelude.{ℕ, ◌+◌, List, [], ◌∷◌, Option, Some, None, if◌then◌else◌, slice_get}
 use Rattle.writeback_table.specs.declared.command.Command.{Command}
-use Rattle.writeback_table.specs.declared.command.Command.TheVariants.{Stage, On, Main, Off, Clear}
+use Rattle.writeback_table.specs.declared.command.Command.TheVariants.{Off}
 use Rattle.run_model.specs.declared.event.Event.{Event}
 use Rattle.run_model.specs.declared.event.Event.TheVariants as event
 use Rattle.replay_state.specs.Answers.{Setup}
@@ -11,10 +11,7 @@ use Rattle.replay_state.specs.Step.{applies}
 
 abbrev pub counts_off : Command → ℕ
 counts_off Off = 1
-counts_off (Stage update) = 0
-counts_off On = 0
-counts_off (Main update) = 0
-counts_off (Clear object key) = 0
+counts_off command = 0
 
 -- how many of the commands clear the bit
 abbrev pub offs : List Command → ℕ
@@ -28,14 +25,8 @@ one_or_none None = []
 one_or_none (Some command) = command ∷ []
 
 abbrev pub commands_at : State → Event → List Command
-commands_at st event.Admit = []
-commands_at st (event.Stage j) = []
-commands_at st (event.Serve j) = []
-commands_at st event.Send = []
 commands_at st event.Apply = one_or_none (slice_get (commands_in st.batches) st.done)
-commands_at st event.Ack = []
-commands_at st (event.Hold j) = []
-commands_at st (event.Down j) = []
+commands_at st event = []
 
 -- the commands that an event applies
 abbrev pub applied_by : Setup → State → Event → List Command

@@ -9,9 +9,9 @@ use Rattle.state_store.specs.Store.{Store, start_store}
 use Rattle.writeback_table.specs.declared.command.Command.{Command}
 use Rattle.replay_state.specs.Answers.{Answers, Setup}
 use Rattle.output_commit.specs.Batches.{commands_in}
-use Rattle.replay_state.specs.State.{State, Pass, Progress, Entered, Up, Held, Slow, Fast, first_state}
+use Rattle.replay_state.specs.State.{State, Pass, Progress, Entered, Held, Slow, first_state}
 use Rattle.run_model.specs.declared.event.Event.{Event}
-use Rattle.run_model.specs.declared.event.Event.TheVariants.{Admit, Stage, Serve, Send, Apply, Ack, Hold, Down}
+use Rattle.run_model.specs.declared.event.Event.TheVariants.{Admit, Stage, Apply, Down}
 use Rattle.replay_state.specs.Step.{applies, step, state_of}
 use Rattle.run_model.specs.Meaning.{packet_at}
 use Rattle.replay_state.specs.Program.{SplitProgram}
@@ -47,9 +47,8 @@ abbrev pub only_for : {X : Type 0} → ℕ → ℕ → Option X → Option X
 only_for m n answer = if m == n then answer else None
 
 abbrev pub up_end : UpAnswer → Option UpAnswer
-up_end (Finished y) = Some (Finished y)
-up_end (SentUp frame) = Some (SentUp frame)
 up_end GoingUp = None
+up_end answer = Some answer
 
 abbrev pub down_end : DownAnswer → Option Verdict
 down_end (Released y) = Some y
@@ -59,16 +58,12 @@ down_end GoingDown = None
 abbrev pub ends_up : ℕ → Call → Option UpAnswer
 ends_up n (CalledUp fine m packet answer) = only_for m n (up_end answer)
 ends_up n (CalledStageUp m answer) = only_for m n (up_end answer)
-ends_up n (CalledCommand command) = None
-ends_up n (CalledDown fine m frame answer) = None
-ends_up n (CalledStageDown m answer) = None
+ends_up n call = None
 
 abbrev pub ends_down : ℕ → Call → Option Verdict
-ends_down n (CalledUp fine m packet answer) = None
-ends_down n (CalledStageUp m answer) = None
-ends_down n (CalledCommand command) = None
 ends_down n (CalledDown fine m frame answer) = only_for m n (down_end answer)
 ends_down n (CalledStageDown m answer) = only_for m n (down_end answer)
+ends_down n call = None
 
 -- the answer that ended that pass
 abbrev pub up_answer : List Call → ℕ → Option UpAnswer
@@ -80,16 +75,12 @@ down_answer [] n = None
 down_answer (call ∷ calls) n = or_else (ends_down n call) (down_answer calls n)
 
 abbrev pub verdict_in : Option UpAnswer → Option Verdict
-verdict_in None = None
 verdict_in (Some (Finished y)) = Some y
-verdict_in (Some (SentUp frame)) = None
-verdict_in (Some GoingUp) = None
+verdict_in answer = None
 
 abbrev pub frame_in : Option UpAnswer → List ℕ
-frame_in None = []
-frame_in (Some (Finished y)) = []
 frame_in (Some (SentUp frame)) = frame
-frame_in (Some GoingUp) = []
+frame_in answer = []
 
 abbrev pub told : Option Verdict → Verdict
 told None = verdict.Drop
@@ -106,12 +97,8 @@ journal s calls = record {
 
 -- the frame in which a packet goes down, which the server ran over the store that its progress tells
 abbrev pub over_in : Option Progress → Store
-over_in None = []
-over_in (Some (Entered a v)) = []
-over_in (Some (Up a)) = []
 over_in (Some (Held a d v over)) = over
-over_in (Some (Slow a d v y r)) = []
-over_in (Some (Fast a d v y)) = []
+over_in progress = []
 
 abbrev pub down_frame : SplitProgram → List Call → State → ℕ → List ℕ
 down_frame s calls st n = s.serve_down (over_in (slice_get st.progress n)) (frame_in (up_answer calls n))
@@ -127,9 +114,8 @@ pub data Question : Type 0 where
   AsksStageDown : (number : ℕ) (ends : Bool) → Question
 
 abbrev pub is_up_end : UpAnswer → Bool
-is_up_end (Finished y) = true
-is_up_end (SentUp frame) = true
 is_up_end GoingUp = false
+is_up_end answer = true
 
 abbrev pub is_down_end : DownAnswer → Bool
 is_down_end (Released y) = true
@@ -161,12 +147,9 @@ abbrev pub asks : Setup → SplitProgram → List Packet → List Call → State
 asks setup s packets calls st Admit =
     AsksUp setup.fine (length st.progress) (packet_at packets (length st.progress)) (setup.pre_stages == 0) ∷ []
 asks setup s packets calls st (Stage j) = asks_stage (slice_get st.passes j)
-asks setup s packets calls st (Serve j) = []
-asks setup s packets calls st Send = []
 asks setup s packets calls st Apply = asks_command (slice_get (commands_in st.batches) st.done)
-asks setup s packets calls st Ack = []
-asks setup s packets calls st (Hold j) = []
 asks setup s packets calls st (Down j) = asks_down setup s calls st (slice_get st.down j)
+asks setup s packets calls st event = []
 
 abbrev pub asked : Setup → SplitProgram → List Packet → List Call → State → Event → List Question
 asked setup s packets calls st event = if applies setup st event then asks setup s packets calls st event else []
@@ -188,27 +171,21 @@ pub record IsAnswered (setup : Setup) (s : SplitProgram) (packets : List Packet)
 
 -- the frame in an answer to a call for packet n, where it is one
 abbrev pub GoesUpSo : (ℕ → List ℕ → Type 0) → ℕ → UpAnswer → Type 0
-GoesUpSo P n (Finished verdict) = ⊤
 GoesUpSo P n (SentUp frame) = P n frame
-GoesUpSo P n GoingUp = ⊤
+GoesUpSo P n answer = ⊤
 
 -- so it is of each frame that the switch sent up for a packet
 abbrev pub FramesAre : (ℕ → List ℕ → Type 0) → List Call → Type 0
 FramesAre P [] = ⊤
 FramesAre P (CalledUp fine n packet answer ∷ calls) = GoesUpSo P n answer × FramesAre P calls
 FramesAre P (CalledStageUp n answer ∷ calls) = GoesUpSo P n answer × FramesAre P calls
-FramesAre P (CalledCommand command ∷ calls) = FramesAre P calls
-FramesAre P (CalledDown fine n frame answer ∷ calls) = FramesAre P calls
-FramesAre P (CalledStageDown n answer ∷ calls) = FramesAre P calls
+FramesAre P (call ∷ calls) = FramesAre P calls
 
 -- so it is of each frame that the switch was given for a packet that comes down
 abbrev pub DownFramesAre : (ℕ → List ℕ → Type 0) → List Call → Type 0
 DownFramesAre P [] = ⊤
-DownFramesAre P (CalledUp fine n packet answer ∷ calls) = DownFramesAre P calls
-DownFramesAre P (CalledStageUp n answer ∷ calls) = DownFramesAre P calls
-DownFramesAre P (CalledCommand command ∷ calls) = DownFramesAre P calls
 DownFramesAre P (CalledDown fine n frame answer ∷ calls) = P n frame × DownFramesAre P calls
-DownFramesAre P (CalledStageDown n answer ∷ calls) = DownFramesAre P calls
+DownFramesAre P (call ∷ calls) = DownFramesAre P calls
 
 -- the packet went up in a frame
 abbrev pub HasGoneUp : List Call → ℕ → Type 0
@@ -241,18 +218,11 @@ down_ends n (call ∷ calls) = one_if (is_some (ends_down n call)) + down_ends n
 abbrev pub has_passed : Option Progress → Bool
 has_passed None = false
 has_passed (Some (Entered a v)) = false
-has_passed (Some (Up a)) = true
-has_passed (Some (Held a d v over)) = true
-has_passed (Some (Slow a d v y r)) = true
-has_passed (Some (Fast a d v y)) = true
+has_passed (Some old) = true
 
 abbrev pub has_come_down : Option Progress → Bool
-has_come_down None = false
-has_come_down (Some (Entered a v)) = false
-has_come_down (Some (Up a)) = false
-has_come_down (Some (Held a d v over)) = false
 has_come_down (Some (Slow a d v y r)) = true
-has_come_down (Some (Fast a d v y)) = false
+has_come_down o = false
 
 -- one call has ended each pass that has ended, and none any other
 pub record EndOnce (calls : List Call) (st : State) : Type 0 where

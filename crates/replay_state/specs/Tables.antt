@@ -1,7 +1,7 @@
 -- What lookups see in the tables that the switch keeps of replicated objects.
 use Rattle.std.specs.Prelude.{◌≡◌, ℕ, true, false, Some, slice_get}
 use Rattle.std.specs.FinMap as map
-use Rattle.state_store.specs.Store.{Store, object_at, start_store}
+use Rattle.state_store.specs.Store.{Store, object_at}
 use Rattle.writeback_table.specs.declared.command.Command.{Command}
 use Rattle.writeback_table.specs.Pair.{Pair, first_pair}
 use Rattle.writeback_table.specs.Commands.{pair_through, room_for}
@@ -15,12 +15,12 @@ abbrev pub pair_now : Setup → State → ℕ → Pair
 pair_now setup st o = pair_through o (first_pair setup.objects setup.writeback o) (applied_commands st)
 
 -- lookups of replicated objects see those of a store
-abbrev pub IsShown : Setup → State → Store → Type 0
-IsShown setup st store = Shows setup.replicated setup.objects setup.writeback (commands_in st.batches) st.done store
+abbrev pub LookupsShow : Setup → State → Store → Type 0
+LookupsShow setup st store = Shows setup.replicated setup.objects setup.writeback (commands_in st.batches) st.done store
 
 pub record IsSeen (setup : Setup) (st : State) : Type 0 where
   -- lookups see the objects of the visible version
-  pub shows : IsShown setup st (store_at st.stores (seen st))
+  pub shows : LookupsShow setup st (store_at st.stores (seen st))
   -- the next command finds room
   pub room : (o : ℕ) (command : Command) → setup.replicated o ≡ true
       → slice_get (commands_in st.batches) st.done ≡ Some command

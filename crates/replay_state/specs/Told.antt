@@ -1,16 +1,16 @@
 -- What ties the run over a switch that tells its tables to the run of whole packets.
-use Rattle.std.specs.Prelude.{◌≡◌, ◌<◌, ◌≤◌, ⊤, ℕ, true, false, List, Option, Some, None, length, slice_get}
+use Rattle.std.specs.Prelude.{◌≡◌, ◌<◌, ◌≤◌, ⊤, ℕ, true, false, List, Option, Some, length, slice_get}
 use Rattle.packet_fields.specs.declared.packet.Packet.{Packet}
 use Rattle.state_store.specs.Store.{Store}
 use Rattle.state_store.specs.Kept.{IsKept}
 use Rattle.replay_state.specs.Answers.{Setup}
 use Rattle.replay_state.specs.State.{State, Pass, store_at}
 use Rattle.run_model.specs.declared.event.Event.{Event}
-use Rattle.run_model.specs.declared.event.Event.TheVariants.{Admit, Stage, Serve, Send, Apply, Ack, Hold, Down}
+use Rattle.run_model.specs.declared.event.Event.TheVariants.{Admit, Stage, Down}
 use Rattle.replay_state.specs.Step.{pass_of, state_of}
 use Rattle.run_model.specs.Meaning.{packet_at}
 use Rattle.replay_state.specs.Program.{SplitProgram, plain}
-use Rattle.replay_state.specs.Journal.{Call, UpAnswer, Finished, SentUp, GoingUp}
+use Rattle.replay_state.specs.Journal.{Call, UpAnswer, Finished, SentUp}
 use Rattle.replay_state.specs.Journal.{IsNumbered, up_answer, down_answer, told, down_frame}
 use Rattle.replay_state.specs.Carried.{Carried}
 
@@ -34,11 +34,10 @@ pub record HasFrames (s : SplitProgram) (packets : List Packet) : Type 0 where
 
 -- a packet that is fast over the store is finished with its verdict, and any other goes up in its frame
 abbrev pub IsRight : SplitProgram → Store → ℕ → Packet → Option UpAnswer → Type 0
-IsRight s store n packet None = ⊥
 IsRight s store n packet (Some (Finished verdict)) =
     (s.is_fast store packet ≡ true) × (verdict ≡ s.verdict store packet)
 IsRight s store n packet (Some (SentUp frame)) = (s.is_fast store packet ≡ false) × (frame ≡ s.up_frame n packet)
-IsRight s store n packet (Some GoingUp) = ⊥
+IsRight s store n packet answer = ⊥
 
 -- the answer that ends a pass is that of the version with which it entered, or that of the frame which came down
 pub record EndsRight (s : SplitProgram) (packets : List Packet) (calls : List Call) (st : State) (pass : Pass)
@@ -54,14 +53,10 @@ Tells setup s packets calls st Admit =
     setup.pre_stages ≡ 0 → EndsRight s packets calls st (pass_of st true (length st.progress) setup.pre_stages)
 Tells setup s packets calls st (Stage j) =
     (pass : Pass) → pass.left ≤ 1 → slice_get st.passes j ≡ Some pass → EndsRight s packets calls st pass
-Tells setup s packets calls st (Serve j) = ⊤
-Tells setup s packets calls st Send = ⊤
-Tells setup s packets calls st Apply = ⊤
-Tells setup s packets calls st Ack = ⊤
-Tells setup s packets calls st (Hold j) = ⊤
 Tells setup s packets calls st (Down j) =
     (n : ℕ) → setup.post_stages ≡ 0 → slice_get st.down j ≡ Some n
     → EndsRight s packets calls st (pass_of st false n setup.post_stages)
+Tells setup s packets calls st event = ⊤
 
 -- ## The tie
 

@@ -1,5 +1,5 @@
-//! Middleboxes that are split, and packets for them: an address translator and packets of its flows, a program that leaves
-//! every packet to the server, and one whose packets change a table of the switch too.
+//! Middleboxes that are split, and packets for them: packets of flows of an address translator, a program that leaves every
+//! packet to the server, and one whose packets change a table of the switch too.
 ghost use Rattle.std.specs.Prelude.{◌≡◌, ◌≤◌, ◌<◌, length, IfOk};
 ghost use Rattle.flat_ir.specs.Program.{program_of};
 ghost use Rattle.run_model.specs.Sizes.{most_packets};
@@ -7,7 +7,6 @@ ghost use Rattle.state_store.specs.Kept.{IsKept};
 ghost use Rattle.state_store.specs.Store.{start_store};
 ghost use Rattle.replayer_tests.specs.Ready.{IsReady};
 
-use element_interp::stores_are_kept;
 use element_text::read;
 use flat_ir::Flat;
 use flatten::flatten;
@@ -15,11 +14,11 @@ use gal_io::Bytes;
 use packet_fields::{Packet, Packets};
 use partition::partition;
 use replay_contracts::Job;
-use resource_limits::Limits;
 use run_model::Events;
 use split_model::is_bounded;
 use std::alloc::Global;
 use std::test::Fail;
+use traffic_generator::translator_limits;
 
 /// A packet leaves by the port of its first byte.
 pub(crate) const FORWARDS: &str = "process { send byte(0:16); }";
@@ -27,53 +26,6 @@ pub(crate) const FORWARDS: &str = "process { send byte(0:16); }";
 /// So it does, and the switch hears of it.
 pub(crate) const TELLS: &str =
     "map seen (8) -> (8) capacity 256; process { look f, n = seen[0:8]; put a = seen[byte(0:16)] -> 1:8; send byte(0:16); }";
-
-/// An address translator. Port 0 is the inside, port 1 the outside, 192.0.2.1 the public address.
-pub(crate) const TRANSLATOR: &str = "map out (32, 16) -> (16) capacity 60000;
-map back (16) -> (32, 16) capacity 60000;
-int next : 16 = 1024;
-process {
-  if has.tcp == 0:1 { drop; }
-  if meta.port == 0:8 {
-    look f, p = out[ip.src, tcp.sport];
-    let q = p;
-    if f == 0:1 {
-      repeat i 1 {
-        look g, n = next[];
-        put a = out[ip.src, tcp.sport] -> n;
-        if a == 0:1 { drop; }
-        put b = back[n] -> ip.src, tcp.sport;
-        put c = next[] -> n + 1:16;
-        q = n;
-      }
-    }
-    ip.sum = adjust(adjust(ip.sum, cast(16, ip.src >> 16), 0xc000:16),
-                    cast(16, ip.src), 0x0201:16);
-    tcp.sum = adjust(adjust(adjust(tcp.sum, cast(16, ip.src >> 16), 0xc000:16),
-                    cast(16, ip.src), 0x0201:16), tcp.sport, q);
-    ip.src = 0xc0000201:32;
-    tcp.sport = q;
-    send 1:8;
-  }
-  if ip.dst != 0xc0000201:32 { drop; }
-  look h, da, dp = back[tcp.dport];
-  if h == 0:1 { drop; }
-  ip.sum = adjust(adjust(ip.sum, cast(16, ip.dst >> 16), cast(16, da >> 16)),
-                  cast(16, ip.dst), cast(16, da));
-  tcp.sum = adjust(adjust(adjust(tcp.sum, cast(16, ip.dst >> 16), cast(16, da >> 16)),
-                  cast(16, ip.dst), cast(16, da)), tcp.dport, dp);
-  ip.dst = da;
-  tcp.dport = dp;
-  send 0:8;
-}
-";
-
-const LIMITS: Limits = Limits {
-    table_bits: 100_000_000,
-    stages: 32,
-    writeback: 16,
-    transfer_bytes: 64,
-};
 
 // From 10.0.0.1 port 5000 to 198.51.100.7 port 80.
 const OUTGOING: [u8; 54] = [
@@ -162,7 +114,7 @@ fn job_of(alloc: Global, flat: Flat, packets: Packets) -> Result<Job, Fail>
     if !is_bounded(&flat) {
         return Err(Fail::from("not bounded"));
     }
-    let split = partition(alloc, &flat, &LIMITS, false)?;
+    let split = partition(alloc, &flat, &translator_limits(), false)?;
     Ok(Job {
         flat,
         split,
@@ -181,7 +133,6 @@ pub(crate) fn job(alloc: Global, source: &str, packets: Packets) -> Result<Job, 
     if packets.len() > 64 {
         return Err(Fail::from("too many packets"));
     }
-    stores_are_kept();
     let middlebox = read(alloc, source.as_bytes())?;
     let flat = flatten(alloc, &middlebox)?;
     job_of(alloc, flat, packets)

@@ -3,7 +3,7 @@ ghost use Rattle.std.specs.Prelude.{◌≡◌, ◌≤◌, ◌<◌, ◌+◌, leng
 ghost use Rattle.run_model.specs.Sizes.{most_events};
 ghost use Rattle.replayer_tests.specs.Ready.{IsReady};
 
-use crate::samples::{TRANSLATOR, eight_flows, job, one_flow};
+use crate::samples::{eight_flows, job, one_flow};
 use gal_io::{NoMemory, Text};
 use packet_fields::Packets;
 use run_model::Event;
@@ -14,6 +14,7 @@ use std::alloc::Global;
 use std::test::Fail;
 use switch_ir::SwitchPort;
 use switch_machine::{CallKind, ModelSwitch};
+use traffic_generator::translator_source;
 
 fn begun<S: SwitchPort + Drop>(alloc: Global, job: &Job, port: S) -> Result<Replayer<S>, Fail>
     requires { IsReady job.now }
@@ -122,7 +123,7 @@ fn performed(
 ) -> Result<Told, Fail>
     requires { length events.now ≤ 64 }
 {
-    let job = job(alloc, TRANSLATOR, packets)?;
+    let job = job(alloc, translator_source(), packets)?;
     let port = switch(alloc, failing)?;
     performed_over(alloc, &job, port, events, drains)
 }

@@ -1,10 +1,10 @@
 -- The lines of a report in the form are read, to its run.
-use Rattle.std.proofs.Common.{◌≡◌, ℕ, zero, suc, ◌+◌, ◌≤◌, ◌<◌, Bool, true, false, ◌&&◌, ◌||◌, cond, eqb, leb, ltb, List, [], ◌∷◌, ◌++◌, length, drop, map, Option, Some, None, refl, sym, ap, ◌∙◌, subst, arith, append_assoc, length-append}
+use Rattle.std.proofs.Common.{◌≡◌, ℕ, zero, suc, ◌+◌, ◌≤◌, ◌<◌, Bool, true, false, ◌||◌, cond, eqb, leb, ltb, List, [], ◌∷◌, ◌++◌, length, drop, map, Option, Some, None, refl, sym, ap, ◌∙◌, subst, arith, append_assoc, length-append}
 use Rattle.std.specs.Prelude.{IsTrue, codes, slice_get}
 use Rattle.std.specs.Str.{bytes_eq}
 use Rattle.std.specs.List.{AllByRecursion}
 use Rattle.std.specs.Ordering.{is_lt}
-use Rattle.std.proofs.lemmas.Bool.{le-leb}
+use Rattle.std.proofs.lemmas.Bool.{le-leb, and_from}
 use Rattle.std.proofs.lemmas.List.{append-nil}
 use Rattle.std.proofs.lemmas.Bool.Decides.{nat_tests}
 use Rattle.state_store.specs.declared.object.ObjectDecl.{ObjectDecl}
@@ -31,6 +31,7 @@ use Rattle.report_text.proofs.Told.{counts_in, events_in, fates_told, head_told,
 use Rattle.report_text.proofs.Declared.{AreKnown, IsKnown, next_gone, next_is, next_kept, shown_back}
 use Rattle.report_text.proofs.Keys.{fewer_above, first_most}
 use Rattle.report_text.proofs.Sound.{keys_suc, last_more, numbers_of}
+use Rattle.lemmas.proofs.Tests.{or_true}
 
 pub truth : (b : Bool) → IsTrue b → b ≡ true
 truth b h = h
@@ -92,9 +93,6 @@ rows_fit object row (next ∷ rows) wide fit rising =
     let fewer = fewer_above object.keys row.keys next.keys 0 wide (truth _ fit.0.0) (truth _ fit.1.0.0) rising.0 in
     omega (arith, more, fewer)
 
-pub both_true : (a b : Bool) → a ≡ true → b ≡ true → (a && b) ≡ true
-both_true a b h k = rw (h, k) refl
-
 row_step : (declared : List ObjectDecl) (s : State) (side : Side) (m behind : ℕ) (object : ObjectDecl) (row : Row) → s.stage ≡ Table side m behind → slice_get declared m ≡ Some object → IsKnown object
     → IsRowOf object row → is_after s.rows row.keys ≡ true → behind ≤ keys_above 0 object.keys row.keys
     → step declared s (row_told row) ≡ Some (with_left side m behind (record s { rows = s.rows ++ row ∷ [] }))
@@ -103,7 +101,7 @@ row_step declared s side m behind object row st is k fit follows room =
     ∙ ap (row_read side m behind s (row_told row)) is
     ∙ ap (row_put side m behind s object) (row_back object.keys object.values row k.keys k.values (truth _ fit.0) (truth _ fit.1))
     ∙ ap (λ b. cond b (Some (with_left side m behind (record s { rows = s.rows ++ row ∷ [] }))) None)
-    (both_true (is_after s.rows row.keys) (leb behind (keys_above 0 object.keys row.keys)) follows (le-leb behind (keys_above 0 object.keys row.keys) room))
+    (and_from (is_after s.rows row.keys) (leb behind (keys_above 0 object.keys row.keys)) follows (le-leb behind (keys_above 0 object.keys row.keys) room))
 
 -- the part of an object whose rows are these
 abbrev part_with : ℕ → List Row → ObjectRows
@@ -239,10 +237,6 @@ switch_parts declared k c e v d fs o server before (p ∷ ps) n h order =
 
 counts_small : (declared : List ObjectDecl) (run : Run) → InForm declared run → AreCounts (counts_in run)
 counts_small declared run h = record { total = omega (arith, h.total); admitted = omega (arith, h.admitted); decided = omega (arith, h.decided); released = omega (arith, h.released) }
-
-or_true : (b : Bool) → (b || true) ≡ true
-or_true true = refl
-or_true false = refl
 
 can_order : (order : List ℕ) (admitted decided : ℕ) → length order ≡ decided → AreBelow admitted order → (eqb decided 0 || ltb 0 admitted) ≡ true
 can_order [] admitted decided many h = let e : decided ≡ 0 = omega (arith, many) in rw e refl

@@ -19,14 +19,15 @@ use Rattle.run_text.specs.Trace.{largest}
 use Rattle.report_text.specs.declared.fate.Stamps.{Stamps}
 use Rattle.report_text.specs.Form.{IsFate, IsVerdict}
 use Rattle.report_text.specs.Parse.{◌>>=◌, admitted_at, after, as_printed, body_at, fast_at, fate_of, labelled, or_else, pass_at, path_at, released_at, send_at, slow_at, stamps_at, up_at, verdict_at, slow_by}
-use Rattle.report_text.proofs.Pieces.{after_back, after_is, after_other, are_same, bound, is_cut, labelled_back, labelled_is, same_bytes, whole_is}
+use Rattle.report_text.proofs.Pieces.{after_back, after_is, after_other, bound, is_cut, labelled_back, labelled_is, whole_is}
+use Rattle.lemmas.proofs.Lists.{bytes_eq_same, bytes_eq_true}
 
 -- ---- bytes
 
 digits_again : (x y : ℕ) (more bytes : List ℕ) → decode_of (x ∷ (y ∷ more)) ≡ Ok bytes → encode_lower bytes ≡ x ∷ (y ∷ more) → body_at (x ∷ (y ∷ more)) ≡ Some bytes
 digits_again x y more bytes h e =
     let dash : bytes_eq (x ∷ (y ∷ more)) (codes "-") ≡ false = elim (eqb x 45) as (λ t. (t && false) ≡ false) [ true ↦ refl | false ↦ refl ] in
-    rw (dash, h) (rw (e, same_bytes (x ∷ (y ∷ more))) refl)
+    rw (dash, h) (rw (e, bytes_eq_same (x ∷ (y ∷ more))) refl)
 
 pub body_back : (bytes : List ℕ) → IsBytes bytes → body_at (body_text bytes) ≡ Some bytes
 unfolding encode_with
@@ -49,7 +50,7 @@ encoded_is (Ok found) b bs bytes d h =
     elim (bytes_eq (encode_lower found) (b ∷ bs)) as (λ t. bytes_eq (encode_lower found) (b ∷ bs) ≡ t → cond t (Some found) None ≡ Some bytes → HasBytes (b ∷ bs) bytes) [
       | true ↦ λ t e. subst (HasBytes (b ∷ bs)) (same_Some found bytes e) (record {
         are = (decode_of-ok (b ∷ bs) found d).3;
-        is = body_of_some found b bs (are_same (encode_lower found) (b ∷ bs) t);
+        is = body_of_some found b bs (bytes_eq_true (encode_lower found) (b ∷ bs) t);
       })
       | false ↦ λ t e. cc e
     ] refl h
@@ -61,7 +62,7 @@ pub body_is : (body bytes : List ℕ) → body_at body ≡ Some bytes → HasByt
 body_is [] bytes h = cc
 body_is (b ∷ bs) bytes h =
     elim (bytes_eq (b ∷ bs) (codes "-")) as (λ t. bytes_eq (b ∷ bs) (codes "-") ≡ t → as_printed (cond t (Some (body_with [] true)) (spelled_by (b ∷ bs) (decode_of (b ∷ bs)))) ≡ Some bytes → HasBytes (b ∷ bs) bytes) [
-      | true ↦ λ t e. subst (HasBytes (b ∷ bs)) (same_Some [] bytes e) (record { are = no_bytes; is = are_same (b ∷ bs) (codes "-") t })
+      | true ↦ λ t e. subst (HasBytes (b ∷ bs)) (same_Some [] bytes e) (record { are = no_bytes; is = bytes_eq_true (b ∷ bs) (codes "-") t })
       | false ↦ λ t e. encoded_is (decode_of (b ∷ bs)) b bs bytes refl e
     ] refl h
 
@@ -98,7 +99,7 @@ send_is line v h =
     }))))
 
 verdict_by : (t : Bool) (line : List ℕ) (v : Verdict) → bytes_eq line (codes " drop") ≡ t → cond t (Some Drop) (send_at line) ≡ Some v → HasVerdict line v
-verdict_by true line v t h = subst (HasVerdict line) (same_Some Drop v h) (record { are = tt; is = are_same line (codes " drop") t })
+verdict_by true line v t h = subst (HasVerdict line) (same_Some Drop v h) (record { are = tt; is = bytes_eq_true line (codes " drop") t })
 verdict_by false line v t h = send_is line v h
 
 pub verdict_is : (line : List ℕ) (v : Verdict) → verdict_at line ≡ Some v → HasVerdict line v
@@ -236,10 +237,7 @@ path_back (Fast a d v r y) h =
 
 path_cut : (f : Fate) → is_cut (path_with f) ≡ true
 path_cut (Pass a) = refl
-path_cut (Up a) = refl
-path_cut (Held a d v) = refl
-path_cut (Slow a d v r y) = refl
-path_cut (Fast a d v r y) = refl
+path_cut _ = refl
 
 same_number : (n : ℕ) → eqb n n ≡ true
 same_number n = grind (arith, nat_tests)
@@ -282,7 +280,7 @@ held_by : (t : Bool) (line rest : List ℕ) (s : Stamps) (f : Fate) → AreStamp
 held_by true line rest s f h e t k =
     subst (HasPath line) (same_Some _ f k) (record {
       are = (omega (arith, h.admitted), omega (arith, h.decided), omega (arith, h.version));
-      is = rw (e, are_same rest (codes " held") t) refl;
+      is = rw (e, bytes_eq_true rest (codes " held") t) refl;
     })
 held_by false line rest s f h e t k =
     bound (released_at rest) _ f k (λ o eo ho.

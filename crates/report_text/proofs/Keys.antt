@@ -1,9 +1,8 @@
 -- How many keys are greater than one, and the order of keys.
-use Rattle.std.proofs.Common.{◌≡◌, ℕ, ◌+◌, ◌*◌, ◌-◌, ◌/◌, ◌%◌, ◌^◌, ◌≤◌, ◌<◌, ◌⊎◌, inl, inr, true, false, eqb, ltb, List, [], ◌∷◌, drop, refl, ◌∙◌, arith}
+use Rattle.std.proofs.Common.{◌≡◌, ℕ, ◌+◌, ◌*◌, ◌-◌, ◌/◌, ◌%◌, ◌^◌, ◌≤◌, ◌<◌, inl, inr, true, ltb, List, [], ◌∷◌, drop, refl, ◌∙◌, arith}
 use Rattle.std.specs.Prelude.{slice_index}
-use Rattle.std.specs.Ordering.{nat_cmp}
-use Rattle.std.specs.declared.cmp.Ordering.TheVariants.{Less, Equal, Greater}
-use Rattle.std.proofs.lemmas.Bool.{and_parts, cases_lt, cases_eq}
+use Rattle.std.specs.declared.cmp.Ordering.TheVariants.{Less, Greater}
+use Rattle.std.proofs.lemmas.Bool.{and_parts}
 use Rattle.std.proofs.lemmas.Nat.{pow_pos}
 use Rattle.std.proofs.Math.Nat.{mul-le-mul_left, mul_comm, mul_assoc, mod-lt, div-add-mod, div-lt_iff_lt-mul}
 use Rattle.std.proofs.lemmas.Bool.Decides.{nat_tests}
@@ -13,6 +12,7 @@ use Rattle.report_text.specs.Form.{are_widths}
 use Rattle.report_text.specs.Parse.{most_of}
 use Rattle.report_text.specs.Machine.{keys_above}
 use Rattle.report_text.proofs.RowLines.{is_width, most_is, width_small}
+use Rattle.lemmas.proofs.Numbers.{below_same_above, cmp_equal, cmp_greater, cmp_less}
 
 -- ---- more by the numbers in front is more
 
@@ -48,28 +48,6 @@ first_most (w ∷ ws) key g h less =
 
 -- ---- a greater key has fewer above it
 
-nat_less : (x y : ℕ) → x < y → nat_cmp x y ≡ Less
-nat_less x y h = let t : ltb x y ≡ true = grind (arith, nat_tests) in rw t refl
-
-nat_same : (x : ℕ) → nat_cmp x x ≡ Equal
-nat_same x =
-    let t : ltb x x ≡ false = grind (arith, nat_tests) in
-    let s : eqb x x ≡ true = grind (arith, nat_tests) in
-    rw (t, s) refl
-
-nat_more : (x y : ℕ) → y < x → nat_cmp x y ≡ Greater
-nat_more x y h =
-    let t : ltb x y ≡ false = grind (arith, nat_tests) in
-    let s : eqb x y ≡ false = grind (arith, nat_tests) in
-    rw (t, s) refl
-
--- x is less, equal or greater
-three : (x y : ℕ) → (x < y) ⊎ ((x ≡ y) ⊎ (y < x))
-three x y = elim (cases_lt x y) [
-  | inl h ↦ inl h
-  | inr h ↦ elim (cases_eq x y) [ inl e ↦ inr (inl e) | inr n ↦ inr (inr (omega (arith, h, n))) ]
-]
-
 pub fewer_above : (ws a b : List ℕ) (g : ℕ) → are_widths ws ≡ true → have_widths ws a ≡ true → have_widths ws b ≡ true → key_cmp a b ≡ Less → keys_above g ws b < keys_above g ws a
 fewer_above [] [] [] g wide ha hb h = cc h
 fewer_above [] [] (y ∷ b) g wide ha hb h = cc hb
@@ -82,12 +60,12 @@ fewer_above (w ∷ ws) (x ∷ a) (y ∷ b) g wide ha hb h =
     let hbp = and_parts (ltb y (2 ^ w)) (have_widths ws b) hb in
     let most = most_is w (width_small w wp.0) in
     let inside : y < 2 ^ w = grind (arith, nat_tests, hbp.0) in
-    elim (three x y) [
+    elim (below_same_above x y) [
       | inl less ↦ in_front_less ws b a (g * 2 ^ w + (most_of w - y)) (g * 2 ^ w + (most_of w - x)) wp.1 (omega (arith, less, inside, most))
       | inr (inl e) ↦
-          let same : key_cmp a b ≡ Less = rw (e, nat_same y) at h in
+          let same : key_cmp a b ≡ Less = rw (e, cmp_equal y) at h in
           rw e (fewer_above ws a b (g * 2 ^ w + (most_of w - y)) wp.1 hap.1 hbp.1 same)
-      | inr (inr more) ↦ let wrong : Greater ≡ Less = rw (nat_more x y more) at h in cc wrong
+      | inr (inr more) ↦ let wrong : Greater ≡ Less = rw (cmp_greater x y more) at h in cc wrong
     ]
 
 -- and a key with fewer above it is greater
@@ -101,9 +79,9 @@ less_of (w ∷ ws) (x ∷ a) (y ∷ b) g wide ha hb h =
     let hbp = and_parts (ltb y (2 ^ w)) (have_widths ws b) hb in
     let most = most_is w (width_small w wp.0) in
     let inside : x < 2 ^ w = grind (arith, nat_tests, hap.0) in
-    elim (three x y) [
-      | inl less ↦ rw (nat_less x y less) refl
-      | inr (inl e) ↦ rw (e, nat_same y) (less_of ws a b (g * 2 ^ w + (most_of w - y)) wp.1 hap.1 hbp.1 (rw e at h))
+    elim (below_same_above x y) [
+      | inl less ↦ rw (cmp_less x y less) refl
+      | inr (inl e) ↦ rw (e, cmp_equal y) (less_of ws a b (g * 2 ^ w + (most_of w - y)) wp.1 hap.1 hbp.1 (rw e at h))
       | inr (inr more) ↦
           absurd (omega (arith, h, in_front_less ws a b (g * 2 ^ w + (most_of w - x)) (g * 2 ^ w + (most_of w - y)) wp.1 (omega (arith, more, inside, most))))
     ]

@@ -15,3 +15,4 @@ pub mod Steps
 pub mod Complete
 pub mod Live
 pub mod Reports
+pub mod Laws

@@ -3,7 +3,7 @@ use Rattle.std.proofs.Common.{◌≡◌, ℕ, zero, suc, ◌+◌, ◌-◌, ◌�
 use Rattle.std.specs.Prelude.{codes, slice_get}
 use Rattle.std.specs.List.{AllByRecursion}
 use Rattle.std.specs.Ordering.{is_lt}
-use Rattle.std.proofs.lemmas.Bool.{cases_lt, le-leb}
+use Rattle.std.proofs.lemmas.Bool.{cases_lt, le-leb, and_from}
 use Rattle.std.proofs.lemmas.Bool.Decides.{nat_tests}
 use Rattle.state_store.specs.declared.object.ObjectDecl.{ObjectDecl}
 use Rattle.state_store.specs.declared.object.Row.{Row}
@@ -27,7 +27,7 @@ use Rattle.report_text.proofs.RowLines.{row_back, row_told}
 use Rattle.report_text.proofs.Declared.{AreKnown, IsKnown, next_is}
 use Rattle.report_text.proofs.Keys.{above_inside, key_above, key_fits, key_with, less_of, size}
 use Rattle.report_text.proofs.Sound.{CanOrder, HasRoom, Stands, last_more, last_of}
-use Rattle.report_text.proofs.Complete.{both_true, truth}
+use Rattle.report_text.proofs.Complete.{truth}
 
 -- there are lines that end it
 pub record IsLive (declared : List ObjectDecl) (s : State) : Type 0 where
@@ -109,7 +109,7 @@ row_on declared s side m behind o k is room fit =
     ap (row_read side m behind s (row_told row)) is
     ∙ ap (row_put side m behind s o) (row_back o.keys o.values row k.keys k.values (key_fits o.keys behind k.keys) (key_fits o.values 0 k.values))
     ∙ ap (λ b. cond b (Some (with_left side m behind (record s { rows = s.rows ++ row ∷ [] }))) None)
-    (both_true (is_after s.rows row.keys) (leb behind (keys_above 0 o.keys row.keys)) (comes_after o k behind (last_of s.rows) room fit) (le-leb behind (keys_above 0 o.keys row.keys) (omega (arith, at))))
+    (and_from (is_after s.rows row.keys) (leb behind (keys_above 0 o.keys row.keys)) (comes_after o k behind (last_of s.rows) room fit) (le-leb behind (keys_above 0 o.keys row.keys) (omega (arith, at))))
 
 live_table : (declared : List ObjectDecl) (k : AreKnown declared) (side : Side) (behind : ℕ) (s : State) (m : ℕ) (o : ObjectDecl) → slice_get declared m ≡ Some o → s.stage ≡ Table side m behind → HasRoom o behind (last_of s.rows) → Fits o (last_of s.rows) → IsLive declared s
 live_table declared k side zero s m o is e room fit =

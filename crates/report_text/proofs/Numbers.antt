@@ -1,15 +1,12 @@
 -- Numbers as they are read.
-use Rattle.std.proofs.Common.{◌≡◌, ℕ, ◌<◌, ◌≤◌, ◌^◌, Bool, true, false, cond, leb, List, [], ◌∷◌, length, get_or, Some, None, option_and_then, sym, ap, ◌∙◌, arith}
+use Rattle.std.proofs.Common.{◌≡◌, ℕ, ◌<◌, ◌≤◌, ◌^◌, true, List, [], ◌∷◌, length, get_or, Some, sym, ap, ◌∙◌, arith}
 use Rattle.std.specs.Fmt.{decimal}
 use Rattle.std.specs.Str.{all_ascii_digits}
 use Rattle.std.specs.Str.Parse.{digits_value}
-use Rattle.std.proofs.lemmas.Str.Parse.{IsNumeralModel, numerals_by_value, tells_all_ascii_digits}
 use Rattle.std.proofs.lemmas.Fmt.{decimal-digits_value}
 use Rattle.std.proofs.lemmas.Bool.Decides.{nat_tests}
 use Rattle.gal_io.specs.Number.{is_number, number_up_to}
-
-by_digits : IsNumeralModel (λ digits. all_ascii_digits digits ≡ true) (digits_value 10)
-by_digits = numerals_by_value _ tells_all_ascii_digits
+use Rattle.lemmas.proofs.Numbers.{bounded_twice, decimal_digits as by_digits}
 
 -- what makes digits a number
 record IsNumeral (text : List ℕ) : Type 0 where
@@ -21,16 +18,11 @@ numeral_of : (text : List ℕ) → is_number text ≡ true → IsNumeral text
 numeral_of [] h = cc
 numeral_of (first ∷ rest) h = record { some = omega arith; digits = grind (arith, nat_tests); unpadded = grind (arith, nat_tests) }
 
--- what the test of a number gives
-tested : (is : Bool) (value most n : ℕ) → option_and_then (λ x. cond (leb x most) (Some x) None) (cond is (Some value) None) ≡ Some n → (is ≡ true) × (value ≡ n) × (n ≤ most)
-tested true value most n h = (grind (arith, nat_tests), grind (arith, nat_tests), grind (arith, nat_tests))
-tested false value most n h = cc
-
 pub number_small : (most n : ℕ) (text : List ℕ) → number_up_to most text ≡ Some n → n ≤ most
-number_small most n text h = (tested (is_number text) (digits_value 10 text) most n h).2
+number_small most n text h = (bounded_twice (is_number text) (digits_value 10 text) most n h).2
 
 pub number_printed : (most n : ℕ) (text : List ℕ) → number_up_to most text ≡ Some n → most < 2 ^ 64 → text ≡ decimal n
 number_printed most n text h fits =
-    let found = tested (is_number text) (digits_value 10 text) most n h in
+    let found = bounded_twice (is_number text) (digits_value 10 text) most n h in
     let numeral = numeral_of text found.0 in
     sym (ap decimal (sym found.1) ∙ decimal-digits_value by_digits text numeral.digits numeral.some numeral.unpadded (omega (arith, found.1, found.2)))

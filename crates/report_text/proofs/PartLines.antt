@@ -11,11 +11,9 @@ use Rattle.gal_io.specs.Number.{spaced_numbers}
 use Rattle.run_text.specs.Report.{order_text}
 use Rattle.run_text.specs.Trace.{largest}
 use Rattle.report_text.specs.Parse.{after, all_numbers, below, count_of, labelled, number_below, numbers_at, order_at, order_of, whole}
-use Rattle.report_text.proofs.Pieces.{after_back, after_is, are_same, bound, is_cut, labelled_back, labelled_is, whole_is}
-
-spaced_cut : (ns : List ℕ) → is_cut (spaced_numbers ns) ≡ true
-spaced_cut [] = refl
-spaced_cut (n ∷ ns) = refl
+use Rattle.report_text.proofs.Pieces.{after_back, after_is, bound, labelled_back, labelled_is, whole_is}
+use Rattle.lemmas.proofs.Lists.{bytes_eq_true}
+use Rattle.report_text.proofs.RowLines.{spaced_cut}
 
 -- ---- the order
 
@@ -106,7 +104,7 @@ order_by false count limit line rest order t e h =
       | true ↦ λ b k. subst (HasOrder count limit line) (same_Some [] order k) (record {
         many = grind (arith, nat_tests);
         below = tt;
-        is = e ∙ ap (λ r. codes "order" ++ r) (are_same rest (codes " -") b);
+        is = e ∙ ap (λ r. codes "order" ++ r) (bytes_eq_true rest (codes " -") b);
       })
       | false ↦ λ b k. cc k
     ] refl h

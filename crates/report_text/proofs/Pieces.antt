@@ -5,7 +5,6 @@ use Rattle.std.specs.Str.{bytes_eq}
 use Rattle.std.specs.List.{list_all, position_or_len}
 use Rattle.std.proofs.Math.Seq.{take-append_seam, drop-append_seam}
 use Rattle.std.proofs.lemmas.List.{take-append-drop}
-use Rattle.std.proofs.lemmas.Slice.Eq.{bytes_eq-Decides}
 use Rattle.std.proofs.lemmas.Bool.Decides.{nat_tests}
 use Rattle.std.proofs.lemmas.Option.{same_Some}
 use Rattle.gal_io.specs.Number.{number_up_to}
@@ -15,12 +14,7 @@ use Rattle.run_text.proofs.Numbers.{decimal_digits, read_again}
 use Rattle.run_text.proofs.PrintedLines.{unspaced}
 use Rattle.run_text.proofs.PrintedBack.{digits_unspaced}
 use Rattle.report_text.proofs.Numbers.{number_printed, number_small}
-
-pub same_bytes : (xs : List ℕ) → bytes_eq xs xs ≡ true
-same_bytes xs = (bytes_eq-Decides xs xs).1 refl
-
-pub are_same : (xs ys : List ℕ) → bytes_eq xs ys ≡ true → xs ≡ ys
-are_same xs ys h = (bytes_eq-Decides xs ys).0 h
+use Rattle.lemmas.proofs.Lists.{bytes_eq_same, bytes_eq_true}
 
 -- ---- options
 
@@ -28,10 +22,6 @@ are_same xs ys h = (bytes_eq-Decides xs ys).0 h
 pub bound : {A B P : Type 0} (o : Option A) (f : A → Option B) (b : B) → (o >>= f) ≡ Some b → ((a : A) → o ≡ Some a → f a ≡ Some b → P) → P
 bound (Some a) f b h k = k a refl h
 bound None f b h k = cc
-
-pub chosen : {A P : Type 0} (t : Bool) (x : A) (o : Option A) → cond t o None ≡ Some x → (t ≡ true → o ≡ Some x → P) → P
-chosen true x o h k = k refl h
-chosen false x o h k = cc
 
 pub whole_is : {A : Type 0} (a b : A) (rest : List ℕ) → whole a rest ≡ Some b → (rest ≡ []) × (a ≡ b)
 whole_is a b [] h = (refl, same_Some _ _ h)
@@ -43,7 +33,7 @@ pub after_back : (word rest : List ℕ) → after word (word ++ rest) ≡ Some r
 after_back word rest =
     let long = length-append word rest in
     let shorter : ltb (length (word ++ rest)) (length word) ≡ false = grind (arith, nat_tests, long) in
-    rw (shorter, take-append_seam word rest, same_bytes word, drop-append_seam word rest) refl
+    rw (shorter, take-append_seam word rest, bytes_eq_same word, drop-append_seam word rest) refl
 
 -- another word stands there
 pub after_other : (word line : List ℕ) → bytes_eq (take (length word) line) word ≡ false → after word line ≡ None
@@ -57,7 +47,7 @@ after_by false false rest found h = cc
 pub after_is : (word line rest : List ℕ) → after word line ≡ Some rest → line ≡ word ++ rest
 after_is word line rest h =
     let found = after_by (ltb (length line) (length word)) (bytes_eq (take (length word) line) word) (drop (length word) line) rest h in
-    sym (take-append-drop (length word) line) ∙ ap (λ l. l ++ drop (length word) line) (are_same (take (length word) line) word found.0) ∙ ap (λ l. word ++ l) found.1
+    sym (take-append-drop (length word) line) ∙ ap (λ l. l ++ drop (length word) line) (bytes_eq_true (take (length word) line) word found.0) ∙ ap (λ l. word ++ l) found.1
 
 -- ---- numbers
 

@@ -20,12 +20,13 @@ use Rattle.report_text.specs.declared.head.EventCounts.{EventCounts}
 use Rattle.report_text.specs.declared.head.Versions.{Versions}
 use Rattle.report_text.specs.Form.{IsFate, IsVerdict, is_plain}
 use Rattle.run_text.proofs.Numbers.{decimal_digits}
-use Rattle.run_text.proofs.PrintedLines.{all_both, line_plain, plain}
+use Rattle.run_text.proofs.PrintedLines.{line_plain, plain}
 use Rattle.run_text.proofs.PrintedBack.{body_plain, digits_plain, digits_told}
 use Rattle.report_text.proofs.HeadLines.{AreCounts, AreEvents, AreVersions, counts_text, events_text, versions_text}
 use Rattle.report_text.proofs.FateLines.{fate_told, path_with, released_with, stamps_of, stamps_with, verdict_with}
 use Rattle.report_text.proofs.PartLines.{order_told, part_told}
 use Rattle.report_text.proofs.RowLines.{row_told}
+use Rattle.lemmas.proofs.Lists.{list_all_append}
 
 -- a line that a text can hold, and that is told
 pub record IsTold (line : List ℕ) : Type 0 where
@@ -49,7 +50,7 @@ told_both (x ∷ xs) ys h k = (h.0, told_both xs ys h.1 k)
 -- ---- bytes of lines
 
 number_plain : (n : ℕ) (rest : List ℕ) → n < 2 ^ 64 → list_all plain rest ≡ true → list_all plain (decimal n ++ rest) ≡ true
-number_plain n rest h k = all_both plain (decimal n) rest (digits_plain (decimal n) (decimal_digits n h)) k
+number_plain n rest h k = list_all_append plain (decimal n) rest (digits_plain (decimal n) (decimal_digits n h)) k
 
 -- ---- the first lines
 
@@ -110,13 +111,13 @@ name_plain (b ∷ bs) h = let hp = and_parts (ltb 32 b) (is_plain bs) h in let r
 
 pub object_plain : (name : List ℕ) (count : ℕ) → is_plain name ≡ true → count < 2 ^ 32 → IsTold (part_told (codes "object ") name count)
 object_plain name count h small = record {
-  whole = all_both plain name _ (name_plain name h) (number_plain count [] (omega arith) refl);
+  whole = list_all_append plain name _ (name_plain name h) (number_plain count [] (omega arith) refl);
   told = refl;
 }
 
 pub switch_plain : (name : List ℕ) (count : ℕ) → is_plain name ≡ true → count < 2 ^ 32 → IsTold (part_told (codes "switch ") name count)
 switch_plain name count h small = record {
-  whole = all_both plain name _ (name_plain name h) (number_plain count [] (omega arith) refl);
+  whole = list_all_append plain name _ (name_plain name h) (number_plain count [] (omega arith) refl);
   told = refl;
 }
 

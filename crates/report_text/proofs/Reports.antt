@@ -1,5 +1,5 @@
 -- Which texts are reports, and where another goes wrong.
-use Rattle.std.proofs.Common.{◌≡◌, ℕ, zero, suc, ◌+◌, ◌^◌, ◌≤◌, ◌<◌, inl, inr, Bool, true, false, cond, ltb, List, [], ◌∷◌, ◌++◌, length, take, drop, map, Option, Some, None, refl, sym, ap, ◌∙◌, subst, arith, append_assoc}
+use Rattle.std.proofs.Common.{◌≡◌, ℕ, suc, ◌+◌, ◌^◌, ◌≤◌, ◌<◌, inl, inr, Bool, true, false, cond, ltb, List, [], ◌∷◌, ◌++◌, length, take, drop, map, Option, Some, None, refl, sym, ap, ◌∙◌, subst, arith, append_assoc}
 use Rattle.std.specs.Prelude.{codes}
 use Rattle.std.specs.List.{AllByRecursion}
 use Rattle.std.proofs.lemmas.Bool.{and_parts, cases_lt}
@@ -17,7 +17,7 @@ use Rattle.run_model.specs.declared.run.Run.{Run}
 use Rattle.run_text.specs.Report.{name_in, report_of}
 use Rattle.report_text.specs.declared.head.PacketCounts.{PacketCounts}
 use Rattle.report_text.specs.declared.stage.Stage.{Stage}
-use Rattle.report_text.specs.declared.stage.Stage.TheVariants.{Title, Packets, Events, Version, Drained, Fates, Server, Switch, Table, Ended}
+use Rattle.report_text.specs.declared.stage.Stage.TheVariants.{Ended}
 use Rattle.report_text.specs.Form.{InForm, IsFate, IsPart, IsRowOf, are_widths}
 use Rattle.report_text.specs.Lines.{AreLinesOf, Begins, IsFirstWrong, IsRefused, IsReport}
 use Rattle.report_text.specs.declared.error.RunTextError.TheVariants.{Line}
@@ -34,6 +34,7 @@ use Rattle.report_text.proofs.Sound.{Goes, Stands, told}
 use Rattle.report_text.proofs.Steps.{step_goes}
 use Rattle.report_text.proofs.Complete.{all_read, truth}
 use Rattle.report_text.proofs.Live.{all_live}
+use Rattle.lemmas.proofs.Lists.{line_within, lines_passed, take_fewer, take_line, take_lines}
 
 -- ---- the lines of a report in the form are those of its text
 
@@ -126,16 +127,8 @@ walked_goes declared k (l ∷ ls) before s t g h =
     subst (λ m. Goes declared m t) (append_assoc before (l ∷ []) ls) (walked_goes declared k ls (before ++ l ∷ []) u t one f))
 
 ended_is : (s : State) (st : Stage) (run : Run) → ended_by s st ≡ Some run → (st ≡ Ended) × (run_of s ≡ run)
-ended_is s Title run h = cc h
-ended_is s Packets run h = cc h
-ended_is s Events run h = cc h
-ended_is s Version run h = cc h
-ended_is s Drained run h = cc h
-ended_is s Fates run h = cc h
-ended_is s (Server n) run h = cc h
-ended_is s (Switch n) run h = cc h
-ended_is s (Table side m behind) run h = cc h
 ended_is s Ended run h = (refl, same_Some (run_of s) run h)
+ended_is s _ run h = cc h
 
 pub record Tells (declared : List ObjectDecl) (ls : List (List ℕ)) (run : Run) : Type 0 where
   pub form : InForm declared run
@@ -198,24 +191,6 @@ all_behind : (xs ys : List (List ℕ)) → AllByRecursion IsTold (xs ++ ys) → 
 all_behind [] ys h = h
 all_behind (x ∷ xs) ys h = all_behind xs ys h.1
 
-take_next : (n : ℕ) (l : List ℕ) (ls rest : List (List ℕ)) → drop n ls ≡ l ∷ rest → take (suc n) ls ≡ take n ls ++ l ∷ []
-take_next zero l [] rest e = cc e
-take_next (suc n) l [] rest e = cc e
-take_next zero l (x ∷ ls) rest e = ap (λ m. take 1 m) e
-take_next (suc n) l (x ∷ ls) rest e = ap (λ m. x ∷ m) (take_next n l ls rest e)
-
-pub drop_on : (n : ℕ) (l : List ℕ) (ls rest : List (List ℕ)) → drop n ls ≡ l ∷ rest → drop (suc n) ls ≡ rest
-drop_on zero l [] rest e = cc e
-drop_on (suc n) l [] rest e = cc e
-drop_on zero l (x ∷ ls) rest e = ap (drop 1) e
-drop_on (suc n) l (x ∷ ls) rest e = drop_on n l ls rest e
-
-pub drop_inside : (n : ℕ) (l : List ℕ) (ls rest : List (List ℕ)) → drop n ls ≡ l ∷ rest → n < length ls
-drop_inside zero l [] rest e = cc e
-drop_inside (suc n) l [] rest e = cc e
-drop_inside zero l (x ∷ ls) rest e = omega arith
-drop_inside (suc n) l (x ∷ ls) rest e = omega (arith, drop_inside n l ls rest e)
-
 -- ---- reports
 
 pub read_is : (declared : List ObjectDecl) (k : AreKnown declared) (text : List ℕ) (s : State) (run : Run) → walked declared at_start (told_of (lines text)) ≡ Some s → ended s ≡ Some run → IsReport declared text run
@@ -252,7 +227,7 @@ refused_line declared k n ls rest l s e told w stops b =
     let more = b.0 in
     let one : told_of (l ∷ more) ≡ l ∷ told_of more = rw told refl in
     let split : told_of (take (suc n) ls ++ more) ≡ told_of (take n ls) ++ (l ∷ told_of more) =
-    ap (λ m. told_of (m ++ more)) (take_next n l ls rest e) ∙ ap told_of (append_assoc (take n ls) (l ∷ []) more) ∙ told_append (take n ls) (l ∷ more) ∙ ap (λ m. told_of (take n ls) ++ m) one in
+    ap (λ m. told_of (m ++ more)) (take_line n l ls rest e) ∙ ap told_of (append_assoc (take n ls) (l ∷ []) more) ∙ told_append (take n ls) (l ∷ more) ∙ ap (λ m. told_of (take n ls) ++ m) one in
     let nothing : resume declared at_start (told_of (take (suc n) ls ++ more)) ≡ None =
     ap (resume declared at_start) split ∙ resumed_both declared at_start (told_of (take n ls)) (l ∷ told_of more) ∙ ap (λ o. o >>= (λ t. resume declared t (l ∷ told_of more))) w
     ∙ ap (λ o. o >>= (λ t. resume declared t (told_of more))) stops in
@@ -263,7 +238,7 @@ pub wrong_line : (declared : List ObjectDecl) (k : AreKnown declared) (n : ℕ) 
     → IsFirstWrong declared ls n
 wrong_line declared k n ls rest l s e told w stops =
     let bad = refused_line declared k n ls rest l s e told w stops in
-    let inside = drop_inside n l ls rest e in
+    let inside = line_within n l ls rest e in
     record {
       within = omega (arith, inside);
       begins = can_begin declared k (take n ls) s w;
@@ -271,14 +246,10 @@ wrong_line declared k n ls rest l s e told w stops =
       none = λ run h. bad (drop (suc n) ls, run, subst (λ m. AreLinesOf declared m run) (sym (take-append-drop (suc n) ls)) h);
     }
 
-take_whole : (ls : List (List ℕ)) → take (length ls) ls ≡ ls
-take_whole [] = refl
-take_whole (l ∷ ls) = ap (λ m. l ∷ m) (take_whole ls)
-
 pub ends_early : (declared : List ObjectDecl) (k : AreKnown declared) (ls : List (List ℕ)) (s : State) → walked declared at_start (told_of ls) ≡ Some s → ended s ≡ None → IsFirstWrong declared ls (length ls)
 ends_early declared k ls s w stops = record {
   within = omega arith;
-  begins = subst (Begins declared) (sym (take_whole ls)) (can_begin declared k ls s w);
+  begins = subst (Begins declared) (sym (take_lines ls)) (can_begin declared k ls s w);
   wrong = λ less b. absurd (omega (arith, less));
   none = λ run h.
       let wrong : Some run ≡ None = sym (lines_read declared k ls run h) ∙ resumed_end declared at_start (told_of ls) ∙ ap (λ o. o >>= ended) w ∙ stops in
@@ -290,13 +261,13 @@ ends_early declared k ls s w stops = record {
 pub turn_skipped : (declared : List ObjectDecl) (n : ℕ) (ls rest : List (List ℕ)) (l : List ℕ) (o : Option State) → drop n ls ≡ l ∷ rest → is_skipped l ≡ true → walked declared at_start (told_of (take n ls)) ≡ o → walked declared at_start (told_of (take (suc n) ls)) ≡ o
 turn_skipped declared n ls rest l o e told w =
     let none : told_of (l ∷ []) ≡ [] = rw told refl in
-    ap (λ m. walked declared at_start (told_of m)) (take_next n l ls rest e) ∙ ap (walked declared at_start) (told_append (take n ls) (l ∷ []) ∙ ap (λ m. told_of (take n ls) ++ m) none ∙ append-nil (told_of (take n ls))) ∙ w
+    ap (λ m. walked declared at_start (told_of m)) (take_line n l ls rest e) ∙ ap (walked declared at_start) (told_append (take n ls) (l ∷ []) ∙ ap (λ m. told_of (take n ls) ++ m) none ∙ append-nil (told_of (take n ls))) ∙ w
 
 pub turn_taken : (declared : List ObjectDecl) (n : ℕ) (ls rest : List (List ℕ)) (l : List ℕ) (s t : State) → drop n ls ≡ l ∷ rest → is_skipped l ≡ false → walked declared at_start (told_of (take n ls)) ≡ Some s → step declared s l ≡ Some t
     → walked declared at_start (told_of (take (suc n) ls)) ≡ Some t
 turn_taken declared n ls rest l s t e told w h =
     let one : told_of (l ∷ []) ≡ l ∷ [] = rw told refl in
-    ap (λ m. walked declared at_start (told_of m)) (take_next n l ls rest e)
+    ap (λ m. walked declared at_start (told_of m)) (take_line n l ls rest e)
     ∙ ap (walked declared at_start) (told_append (take n ls) (l ∷ []) ∙ ap (λ m. told_of (take n ls) ++ m) one)
     ∙ walked_both declared at_start (told_of (take n ls)) (l ∷ []) ∙ ap (λ o. o >>= (λ u. walked declared u (l ∷ []))) w ∙ ap (λ o. o >>= (λ u. Some u)) h
 
@@ -322,22 +293,15 @@ line_stop declared k n text rest l s e w h =
     let up : n + 1 ≡ suc n = omega arith in
     (n, ap Line up, stop_by declared k (is_skipped l) n (lines text) rest l s refl e w h)
 
--- nothing is left
-all_passed : (n : ℕ) (ls : List (List ℕ)) → n ≤ length ls → drop n ls ≡ [] → n ≡ length ls
-all_passed zero [] h e = refl
-all_passed (suc n) [] h e = absurd (omega (arith, h))
-all_passed zero (l ∷ ls) h e = cc e
-all_passed (suc n) (l ∷ ls) h e = ap suc (all_passed n ls (omega (arith, h)) e)
-
 pub whole_walked : (declared : List ObjectDecl) (n : ℕ) (ls : List (List ℕ)) (o : Option State) → n ≤ length ls → drop n ls ≡ [] → walked declared at_start (told_of (take n ls)) ≡ o → walked declared at_start (told_of ls) ≡ o
 whole_walked declared n ls o h e w =
-    let all = all_passed n ls h e in
-    ap (λ m. walked declared at_start (told_of m)) (sym (ap (λ m. take m ls) all ∙ take_whole ls)) ∙ w
+    let all = lines_passed n ls h e in
+    ap (λ m. walked declared at_start (told_of m)) (sym (ap (λ m. take m ls) all ∙ take_lines ls)) ∙ w
 
 pub text_stop : (declared : List ObjectDecl) (k : AreKnown declared) (n : ℕ) (text : List ℕ) (s : State) → n ≤ length (lines text) → drop n (lines text) ≡ [] → walked declared at_start (told_of (take n (lines text))) ≡ Some s → ended s ≡ None
     → IsRefused declared text (Line (n + 1))
 text_stop declared k n text s h e w stops =
-    let all = all_passed n (lines text) h e in
+    let all = lines_passed n (lines text) h e in
     let up : n + 1 ≡ suc (length (lines text)) = omega (arith, all) in
     (length (lines text), ap Line up, ends_early declared k (lines text) s (whole_walked declared n (lines text) (Some s) h e w) stops)
 
@@ -351,16 +315,10 @@ taken_no false now o h e = h
 
 -- ---- one line is the first wrong one
 
-fewer : (j k : ℕ) (ls : List (List ℕ)) → j ≤ k → take k ls ≡ take j ls ++ drop j (take k ls)
-fewer zero k ls h = refl
-fewer (suc j) zero ls h = absurd (omega (arith, h))
-fewer (suc j) (suc k) [] h = refl
-fewer (suc j) (suc k) (l ∷ ls) h = ap (λ m. l ∷ m) (fewer j k ls (omega (arith, h)))
-
 begins_sooner : (declared : List ObjectDecl) (j k : ℕ) (ls : List (List ℕ)) → j ≤ k → Begins declared (take k ls) → Begins declared (take j ls)
 begins_sooner declared j k ls h b =
     let between = drop j (take k ls) in
-    (between ++ b.0, b.1, subst (λ m. AreLinesOf declared m b.1) (ap (λ m. m ++ b.0) (fewer j k ls h) ∙ append_assoc (take j ls) between b.0) b.2)
+    (between ++ b.0, b.1, subst (λ m. AreLinesOf declared m b.1) (ap (λ m. m ++ b.0) (take_fewer j k ls h) ∙ append_assoc (take j ls) between b.0) b.2)
 
 not_later : (declared : List ObjectDecl) (ls : List (List ℕ)) (j k : ℕ) → IsFirstWrong declared ls j → IsFirstWrong declared ls k → j < k → ⊥
 not_later declared ls j k f g less = f.wrong (omega (arith, less, g.within)) (begins_sooner declared (suc j) k ls (omega (arith, less)) g.begins)

@@ -37,7 +37,7 @@ most_fits w h = let top : 2 ^ w ≤ 2 ^ 64 = pow_mono h in omega (arith, most_is
 
 -- ---- keys
 
-spaced_cut : (ns : List ℕ) → is_cut (spaced_numbers ns) ≡ true
+pub spaced_cut : (ns : List ℕ) → is_cut (spaced_numbers ns) ≡ true
 spaced_cut [] = refl
 spaced_cut (n ∷ ns) = refl
 

@@ -4,7 +4,7 @@ use Rattle.std.specs.Prelude.{codes, slice_get}
 use Rattle.std.specs.List.{AllByRecursion}
 use Rattle.std.specs.Ordering.{is_lt}
 use Rattle.std.specs.declared.cmp.Ordering.{Ordering}
-use Rattle.std.specs.declared.cmp.Ordering.TheVariants.{Less, Equal, Greater}
+use Rattle.std.specs.declared.cmp.Ordering.TheVariants.{Less}
 use Rattle.std.proofs.lemmas.List.{append-nil}
 use Rattle.std.proofs.lemmas.Bool.Decides.{nat_tests}
 use Rattle.state_store.specs.declared.object.ObjectDecl.{ObjectDecl}
@@ -25,12 +25,9 @@ use Rattle.report_text.proofs.FateLines.{fate_told}
 use Rattle.report_text.proofs.PartLines.{AreBelow, order_told, part_told}
 use Rattle.report_text.proofs.RowLines.{row_told}
 use Rattle.report_text.proofs.Told.{fates_told, head_told, name_of, parts_told}
+use Rattle.lemmas.proofs.Lists.{each_pushed}
 
 -- ---- one more at the end
-
-pub all_more : {X : Type 0} (P : X → Type 0) (xs : List X) (x : X) → AllByRecursion P xs → P x → AllByRecursion P (xs ++ x ∷ [])
-all_more P [] x h p = (p, tt)
-all_more P (y ∷ ys) x h p = (h.0, all_more P ys x h.1 p)
 
 pub fates_more : (n : ℕ) (fs : List Fate) (f : Fate) → fates_told n (fs ++ f ∷ []) ≡ fates_told n fs ++ fate_told (n + length fs) f ∷ []
 fates_more n [] f = let e : n ≡ n + 0 = omega arith in ap (λ m. fate_told m f ∷ []) e
@@ -58,8 +55,7 @@ numbers_more (q ∷ ps) p = ap (λ l. q.object ∷ l) (numbers_more ps p)
 -- the last of these has a lower key
 is_behind_by : (o : Ordering) → is_lt o ≡ true → o ≡ Less
 is_behind_by Less h = refl
-is_behind_by Equal h = cc h
-is_behind_by Greater h = cc h
+is_behind_by _ h = cc h
 
 after_tail : (row x : Row) (xs : List Row) (key : List ℕ) → is_after (row ∷ (x ∷ xs)) key ≡ is_after (x ∷ xs) key
 after_tail row x xs key =
@@ -168,8 +164,6 @@ pub record IsHead (declared : List ObjectDecl) (s : State) : Type 0 where
   pub can : CanOrder s.counts
 
 abbrev pub Stands : List ObjectDecl → State → Stage → Type 0
-Stands declared s Title = IsFresh s
-Stands declared s Packets = IsFresh s
 Stands declared s Events = IsHead declared s
 Stands declared s Version = IsHead declared s × AreEvents s.events
 Stands declared s Drained = IsHead declared s × AreEvents s.events × AreVersions s.versions
@@ -184,6 +178,7 @@ Stands declared s (Table side m behind) =
     IsOrdered declared s × Before declared s m side × ((p : IsPartly declared s.rows m behind) × HasRoom p.object behind (last_of s.rows))
 Stands declared s Ended =
     IsOrdered declared s × (numbers_of s.server ≡ kept_from 0 declared) × AreInOrder 0 s.switch
+Stands declared s _ = IsFresh s
 
 -- ---- the lines that were read
 
@@ -256,7 +251,7 @@ closed_server declared s m o r b =
           decided = r.ordered.decided;
           order = r.ordered.order;
           switch = r.ordered.switch;
-          server = all_more (IsPart declared) s.server (part_of s m) r.ordered.server (part_made declared s m o r);
+          server = each_pushed (IsPart declared) s.server (part_of s m) r.ordered.server (part_made declared s m o r);
         },
         refl,
         b.0,
@@ -285,7 +280,7 @@ closed_switch declared s m o r b =
           decided = r.ordered.decided;
           order = r.ordered.order;
           server = r.ordered.server;
-          switch = all_more (IsPart declared) s.switch (part_of s m) r.ordered.switch (part_made declared s m o r);
+          switch = each_pushed (IsPart declared) s.switch (part_of s m) r.ordered.switch (part_made declared s m o r);
         },
         refl,
         b.0,

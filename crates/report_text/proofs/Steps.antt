@@ -22,14 +22,15 @@ use Rattle.report_text.specs.declared.stage.Stage.TheVariants.{Title, Packets, E
 use Rattle.report_text.specs.Form.{AreRising, IsFate, IsPart, IsRowOf, kept_from}
 use Rattle.report_text.specs.Parse.{counts_of, events_of, versions_of, fate_of, order_of, row_of, count_of}
 use Rattle.report_text.specs.Machine.{State, counts_read, events_read, fate_read, has_keys, is_after, keys_above, next_from, order_read, part_opened, row_put, row_read, server_by, server_opened, shown_from, shown_opened, step_at, switch_read, then_put, title_read, versions_read, with_left}
-use Rattle.report_text.proofs.Pieces.{are_same, chosen}
 use Rattle.report_text.proofs.HeadLines.{AreEvents, counts_is, counts_text, events_is, events_text, versions_is, versions_text}
 use Rattle.report_text.proofs.FateLines.{fate_is, fate_told}
 use Rattle.report_text.proofs.PartLines.{count_is, order_is, part_told}
 use Rattle.report_text.proofs.RowLines.{row_is, row_told}
 use Rattle.report_text.proofs.Told.{drained_text, fates_told, head_told, name_of, parts_told}
 use Rattle.report_text.proofs.Declared.{AreKnown, IsNext, next_is, next_none, shown_is}
-use Rattle.report_text.proofs.Sound.{AreWithin, Before, CanOrder, Goes, HasRoom, IsFresh, IsHead, IsLeft, IsOrdered, IsPartly, IsRead, Stands, all_more, base, fates_more, front, front_on, in_order, keys_suc, last_more, last_of, left_read, numbers_of, rising_more, rows_more, told, with_part, within_later, word_of}
+use Rattle.report_text.proofs.Sound.{AreWithin, Before, CanOrder, Goes, HasRoom, IsFresh, IsHead, IsLeft, IsOrdered, IsPartly, IsRead, Stands, base, fates_more, front, front_on, in_order, keys_suc, last_more, last_of, left_read, numbers_of, rising_more, rows_more, told, with_part, within_later, word_of}
+use Rattle.lemmas.proofs.Lists.{bytes_eq_true, each_pushed}
+use Rattle.lemmas.proofs.Tests.{some_of_cond as chosen}
 
 fresh : (s : State) (c : PacketCounts) (e : EventCounts) (v : Versions) (d : Bool) (st : Stage) → IsFresh s → IsFresh (record s { counts = c; events = e; versions = v; drained = d; stage = st })
 fresh s c e v d st f = record { fates = f.fates; server = f.server; switch = f.switch; rows = f.rows }
@@ -49,7 +50,7 @@ title_goes declared s t l f h =
     chosen (bytes_eq l (codes "report 1")) t (Some (record s { stage = Packets })) h (λ same e.
     subst (Goes declared (l ∷ [])) (same_Some (record s { stage = Packets }) t e) (record {
       stands = fresh s s.counts s.events s.versions s.drained Packets f;
-      told = ap (λ x. x ∷ []) (sym (are_same l (codes "report 1") same));
+      told = ap (λ x. x ∷ []) (sym (bytes_eq_true l (codes "report 1") same));
     }))
 
 can_order : (c : PacketCounts) → (eqb c.decided 0 || ltb 0 c.admitted) ≡ true → CanOrder c
@@ -101,9 +102,9 @@ drained_by : (declared : List ObjectDecl) (a b : Bool) (s t : State) (l : List �
     → cond a (Some (record s { drained = true; stage = Fates })) (cond b (Some (record s { drained = false; stage = Fates })) None) ≡ Some t
     → Goes declared (codes "report 1" ∷ (counts_text s.counts ∷ (events_text s.events ∷ (versions_text s.versions ∷ (l ∷ []))))) t
 drained_by declared true b s t l f ea eb h =
-    subst (Goes declared (codes "report 1" ∷ (counts_text s.counts ∷ (events_text s.events ∷ (versions_text s.versions ∷ (l ∷ [])))))) (same_Some _ t h) (drained_to declared s true l f (are_same l (codes "drained yes") ea))
+    subst (Goes declared (codes "report 1" ∷ (counts_text s.counts ∷ (events_text s.events ∷ (versions_text s.versions ∷ (l ∷ [])))))) (same_Some _ t h) (drained_to declared s true l f (bytes_eq_true l (codes "drained yes") ea))
 drained_by declared false true s t l f ea eb h =
-    subst (Goes declared (codes "report 1" ∷ (counts_text s.counts ∷ (events_text s.events ∷ (versions_text s.versions ∷ (l ∷ [])))))) (same_Some _ t h) (drained_to declared s false l f (are_same l (codes "drained no") eb))
+    subst (Goes declared (codes "report 1" ∷ (counts_text s.counts ∷ (events_text s.events ∷ (versions_text s.versions ∷ (l ∷ [])))))) (same_Some _ t h) (drained_to declared s false l f (bytes_eq_true l (codes "drained no") eb))
 drained_by declared false false s t l f ea eb h = cc h
 
 -- ---- packets and the order
@@ -118,7 +119,7 @@ fate_goes declared s t l st f less h =
     let start : 0 + length s.fates ≡ length s.fates = omega arith in
     let long : length (s.fates ++ x ∷ []) ≤ s.counts.admitted = omega (arith, less, length-append s.fates (x ∷ [])) in
     let stands : Stands declared u Fates =
-    (record { server = f.0.server; switch = f.0.switch; rows = f.0.rows }, f.1, f.2, f.3, f.4, all_more IsFate s.fates x f.5 r.are, long) in
+    (record { server = f.0.server; switch = f.0.switch; rows = f.0.rows }, f.1, f.2, f.3, f.4, each_pushed IsFate s.fates x f.5 r.are, long) in
     let is : told declared u Fates ≡ told declared s Fates ++ l ∷ [] =
     ap (λ m. head ++ m) (fates_more 0 s.fates x) ∙ ap (λ n. head ++ (fates_told 0 s.fates ++ fate_told n x ∷ [])) start ∙ ap (λ y. head ++ (fates_told 0 s.fates ++ y ∷ [])) (sym r.is) ∙ sym (append_assoc head (fates_told 0 s.fates) (l ∷ [])) in
     subst (Goes declared (told declared s Fates ++ l ∷ [])) k (record {
@@ -227,7 +228,7 @@ shown_goes declared (Some x) s t l n f e h =
 
 switch_by : (declared : List ObjectDecl) (b : Bool) (s t : State) (l : List ℕ) (n : ℕ) → Stands declared s (Switch n) → bytes_eq l (codes "end") ≡ b
     → cond b (Some (record s { stage = Ended })) (shown_opened declared s (shown_from n (drop n declared) l)) ≡ Some t → Goes declared (front s (base declared s OnSwitch) ++ l ∷ []) t
-switch_by declared true s t l n f e h = end_goes declared s t l n f (are_same l (codes "end") e) h
+switch_by declared true s t l n f e h = end_goes declared s t l n f (bytes_eq_true l (codes "end") e) h
 switch_by declared false s t l n f e h = shown_goes declared (shown_from n (drop n declared) l) s t l n f refl h
 
 switch_goes : (declared : List ObjectDecl) (s t : State) (l : List ℕ) (n : ℕ) → Stands declared s (Switch n) → switch_read declared s n l ≡ Some t → Goes declared (front s (base declared s OnSwitch) ++ l ∷ []) t
@@ -299,7 +300,7 @@ row_goes declared k side s t l m behind p row f b e h =
       is = p.is;
       kind = p.kind;
       few = omega (arith, long, p.few);
-      fit = all_more (IsRowOf o) s.rows row p.fit (fits _ r.keys, fits _ r.values);
+      fit = each_pushed (IsRowOf o) s.rows row p.fit (fits _ r.keys, fits _ r.values);
       rising = rising_more s.rows row both.0 p.rising;
     } in
     let g = left_read declared side u m behind o read (before declared side s u m refl refl b) (goes_on o u behind row (last_more s.rows row) (leb-true behind (keys_above 0 o.keys row.keys) both.1)) in

@@ -3,3 +3,4 @@ pub mod Kept
 pub mod Tallies
 pub mod Objects
 pub mod Shown
+pub mod Laws

@@ -19,10 +19,8 @@ name_of Writeback = codes "writeback"
 name_of TransferBytes = codes "transfer_bytes"
 
 abbrev pub lowest : Key → ℕ
-lowest TableBits = 0
-lowest Stages = 0
-lowest Writeback = 0
 lowest TransferBytes = 2
+lowest _ = 0
 
 abbrev pub highest : Key → ℕ
 highest TableBits = 1000000000000

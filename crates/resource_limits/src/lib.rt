@@ -3,7 +3,6 @@
 
 mod counting;
 mod exceeding;
-mod laws;
 mod limits;
 mod reader;
 mod tally;
@@ -11,7 +10,6 @@ mod uses;
 
 pub use counting::{Counts, count, count_by_guards};
 pub use exceeding::{LimitName, Over, first_exceeded};
-pub use laws::kept_limits_are_not_exceeded;
 pub use limits::{Key, Limits, LimitsError};
 pub use reader::read_limits;
 pub use tally::Tally;

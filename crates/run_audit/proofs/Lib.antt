@@ -7,3 +7,4 @@ mod True
 mod Refusals
 mod Answers
 mod Within
+pub mod Laws

@@ -5,7 +5,7 @@ use Rattle.std.proofs.lemmas.Bool.{cases_lt}
 use Rattle.std.proofs.lemmas.Option.{same_Some, slice_get_within, slice_get-get_or, slice_get_read, get_or_from_slice_get}
 use Rattle.packet_fields.specs.declared.packet.Packet.{Packet}
 use Rattle.packet_fields.specs.declared.verdict.Verdict.{Verdict}
-use Rattle.state_store.specs.Store.{Store, start_store}
+use Rattle.state_store.specs.Store.{Store}
 use Rattle.element_lang.specs.Tree.{Tree}
 use Rattle.element_lang.specs.Meaning.{source_store, source_verdict}
 use Rattle.run_model.specs.Meaning.{Meaning, packet_at, serial_store, serial_verdicts}
@@ -14,13 +14,9 @@ use Rattle.run_model.specs.declared.run.Run.{Run}
 use Rattle.run_model.specs.Serialises.{released_at, run_store, run_verdicts}
 use Rattle.run_audit.specs.Source.{source_of}
 use Rattle.run_audit.specs.Told.{HasVerdicts, IsFalse, IsFirst}
+use Rattle.lemmas.proofs.Lists.{drop_got}
 
 -- ---- a list from a place on
-
-drop_here : {X : Type 0} (xs : List X) (n : ℕ) (x : X) → slice_get xs n ≡ Some x → drop n xs ≡ x ∷ drop (suc n) xs
-drop_here [] n x h = cc
-drop_here (y ∷ ys) zero x h = ap (λ z. z ∷ ys) (same_Some y x h)
-drop_here (y ∷ ys) (suc n) x h = drop_here ys n x h
 
 first_here : {X : Type 0} (xs : List X) (n : ℕ) (x : X) (rest : List X) → drop n xs ≡ x ∷ rest
     → (slice_get xs n ≡ Some x) × (drop (suc n) xs ≡ rest)
@@ -38,20 +34,13 @@ pub record HasRun (m : Meaning) (run : Run) (n : ℕ) (store : Store) : Type 0 w
   pub right : (i p r : ℕ) (y : Verdict) → i < n → slice_get run.order i ≡ Some p
       → released_at (slice_get run.fates p) ≡ Some (r, y) → slice_get (run_verdicts m run) i ≡ Some y
 
-pub none_run : (m : Meaning) (run : Run) (store : Store) → store ≡ start_store m.objects → HasRun m run 0 store
-none_run m run store start = record {
-  rest = ap (λ s. serial_store m s run.order) start;
-  verdicts = ap (λ s. serial_verdicts m s run.order) (sym start);
-  right = λ i p r y low. absurd (omega arith);
-}
-
 -- the verdict of the next packet stands at its place
 next_verdict : (m : Meaning) (run : Run) (n p : ℕ) (store : Store) → HasRun m run n store → slice_get run.order n ≡ Some p
     → (slice_get (run_verdicts m run) n ≡ Some (m.verdict store p))
     × (drop (suc n) (run_verdicts m run) ≡ serial_verdicts m (m.after store p) (drop (suc n) run.order))
 next_verdict m run n p store has here =
     first_here (run_verdicts m run) n (m.verdict store p) (serial_verdicts m (m.after store p) (drop (suc n) run.order))
-    (has.verdicts ∙ ap (serial_verdicts m store) (drop_here run.order n p here))
+    (has.verdicts ∙ ap (serial_verdicts m store) (drop_got run.order n p here))
 
 pub one_more_run : (m : Meaning) (run : Run) (n p : ℕ) (store next : Store) → HasRun m run n store
     → slice_get run.order n ≡ Some p → next ≡ m.after store p
@@ -62,7 +51,7 @@ one_more_run m run n p store next has here after told =
     let made : HasRun m run (suc n) next = record {
       rest =
           ap (λ s. serial_store m s (drop (suc n) run.order)) after
-          ∙ ap (serial_store m store) (sym (drop_here run.order n p here)) ∙ has.rest;
+          ∙ ap (serial_store m store) (sym (drop_got run.order n p here)) ∙ has.rest;
       verdicts = now.1 ∙ ap (λ s. serial_verdicts m s (drop (suc n) run.order)) (sym after);
       right = λ i q r y low at out. elim (cases_lt i n) [
         | inl before ↦ has.right i q r y before at out

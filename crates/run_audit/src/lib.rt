@@ -3,7 +3,6 @@
 
 mod counts;
 mod error;
-mod laws;
 mod objects;
 mod order;
 mod times;
@@ -11,5 +10,4 @@ mod verdicts;
 mod whole;
 
 pub use error::AuditError;
-pub use laws::{reports_are_refused_for_one_cause, true_reports_serialise};
 pub use whole::audit;

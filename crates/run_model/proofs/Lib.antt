@@ -4,3 +4,4 @@ pub mod Members
 pub mod Rising
 pub mod SerialSort
 mod PartLaws
+pub mod Laws

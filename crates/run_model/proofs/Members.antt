@@ -1,5 +1,5 @@
 -- Members of a list, and their places.
-use Rattle.std.proofs.Common.{◌≡◌, ℕ, zero, suc, List, [], ◌∷◌, map, Some, inl, inr, refl, ap}
+use Rattle.std.proofs.Common.{◌≡◌, ℕ, zero, suc, List, [], ◌∷◌, Some, inl, inr, ap}
 use Rattle.std.specs.Prelude.{slice_get}
 use Rattle.std.proofs.lemmas.Option.{same_Some}
 use Rattle.run_model.specs.Members.{Member}
@@ -13,9 +13,3 @@ pub member_get : {X : Type 0} (x : X) (xs : List X) → Member x xs → (i : ℕ
 member_get x [] m = absurd m
 member_get x (y ∷ ys) (inl e) = (0, ap Some e)
 member_get x (y ∷ ys) (inr m) = let r = member_get x ys m in (suc (r.0), r.1)
-
-pub get_mapped : {X Y : Type 0} (f : X → Y) (xs : List X) (i : ℕ) (y : Y) → slice_get (map f xs) i ≡ Some y
-    → (x : X) × (slice_get xs i ≡ Some x) × (f x ≡ y)
-get_mapped f [] i y h = cc
-get_mapped f (x ∷ xs) zero y h = (x, refl, same_Some _ _ h)
-get_mapped f (x ∷ xs) (suc i) y h = get_mapped f xs i y h

@@ -5,7 +5,7 @@ use Rattle.std.proofs.lemmas.Bool.{cases_Bool}
 use Rattle.std.proofs.lemmas.Bool.Decides.{nat_tests}
 use Rattle.std.proofs.lemmas.Option.{same_Some}
 use Rattle.run_model.specs.declared.fate.Fate.{Fate}
-use Rattle.run_model.specs.declared.fate.Fate.TheVariants.{Pass, Up, Held, Slow, Fast}
+use Rattle.run_model.specs.declared.fate.Fate.TheVariants.{Pass, Up}
 use Rattle.run_model.specs.declared.serial.Decided.{Decided}
 use Rattle.run_model.specs.Members.{Member}
 use Rattle.run_model.specs.Order.{stands_before, put_in, sorted, with_decided, decided_of, decided_from}
@@ -99,9 +99,7 @@ entry_of n (Some f) = decided_of n f
 pub decided_number : (n : ℕ) (f : Fate) (e : Decided) → decided_of n f ≡ Some e → e.number ≡ n
 decided_number n (Pass a) e h = cc
 decided_number n (Up a) e h = cc
-decided_number n (Held a d v) e h = sym (ap (λ x. x.number) (same_Some _ _ h))
-decided_number n (Slow a d v r y) e h = sym (ap (λ x. x.number) (same_Some _ _ h))
-decided_number n (Fast a d v r y) e h = sym (ap (λ x. x.number) (same_Some _ _ h))
+decided_number n _ e h = sym (ap (λ x. x.number) (same_Some _ _ h))
 
 member_with : (x : Decided) (o : Option Decided) (es : List Decided) → Member x (with_decided o es) → (o ≡ Some x) ⊎ Member x es
 member_with x None es h = inr h

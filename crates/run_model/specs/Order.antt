@@ -2,7 +2,7 @@
 use Rattle.std.specs.Prelude.{ℕ, Bool, true, false, List, [], ◌∷◌, Option, Some, None, map, nat_lt, if◌then◌else◌, suc}
 use Rattle.run_model.specs.declared.serial.Decided.{Decided}
 use Rattle.run_model.specs.declared.fate.Fate.{Fate}
-use Rattle.run_model.specs.declared.fate.Fate.TheVariants.{Pass, Up, Held, Slow, Fast}
+use Rattle.run_model.specs.declared.fate.Fate.TheVariants.{Held, Slow, Fast}
 
 -- x stands before y: by version, then by deciding event, then by number
 abbrev pub stands_before : Decided → Decided → Bool
@@ -24,11 +24,10 @@ sorted (d ∷ ds) = put_in d (sorted ds)
 
 -- where a packet of this number and fate stands, if it is decided
 abbrev pub decided_of : ℕ → Fate → Option Decided
-decided_of n (Pass a) = None
-decided_of n (Up a) = None
 decided_of n (Held a d v) = Some (record { version = v; event = d; number = n })
 decided_of n (Slow a d v r y) = Some (record { version = v; event = d; number = n })
 decided_of n (Fast a d v r y) = Some (record { version = v; event = d; number = n })
+decided_of n _ = None
 
 abbrev pub with_decided : Option Decided → List Decided → List Decided
 with_decided None ds = ds

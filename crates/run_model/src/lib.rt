@@ -3,14 +3,12 @@
 
 mod event;
 mod fate;
-mod laws;
 mod link_event;
 mod run;
 mod serial;
 
 pub use event::{Event, Events};
 pub use fate::{Fate, Fates};
-pub use laws::meanings_that_agree;
 pub use link_event::{Link, LinkEvent, LinkEvents};
 pub use run::{ObjectRows, Order, Run, StoreRows};
 pub use serial::{Decided, order};

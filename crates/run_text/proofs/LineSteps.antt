@@ -119,10 +119,8 @@ values_after ends value ended n ls (Wrong kind) = Err (Line n kind)
 
 -- and whether the values have ended behind it
 abbrev pub ended_after : {X : Type 0} → Bool → Said X → Bool
-ended_after ended (Value x) = ended
-ended_after ended Nothing = ended
 ended_after ended End = true
-ended_after ended (Wrong kind) = ended
+ended_after ended _ = ended
 
 given_first : {X : Type 0} (ends : List ℕ → Bool) (value : List ℕ → Result X LineKind) (ended : Bool) (n : ℕ) (ls : List (List ℕ)) (given : Result X LineKind)
     → with_line n given (ahead_values ends value ended (n + 1) ls) ≡ values_after ends value ended n ls (given_said given)

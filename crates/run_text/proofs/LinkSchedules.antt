@@ -107,20 +107,15 @@ on_ok (Err e) goes h = tt
 -- an event of the world is told as in a schedule
 pub world_back : (event : Event) → IsLineOf event_line (event_text event) event → takes_stage (World event) ≡ false
     → IsLineOf link_event_line (event_text event) (World event)
-world_back world.Admit h whole = record { whole = h.whole; told = h.told; says = refl }
 world_back (world.Stage j) h whole = absurd (true≢false whole)
 world_back (world.Serve j) h whole = record { whole = h.whole; told = h.told; says = ap in_world h.says }
-world_back world.Send h whole = record { whole = h.whole; told = h.told; says = refl }
-world_back world.Apply h whole = record { whole = h.whole; told = h.told; says = refl }
-world_back world.Ack h whole = record { whole = h.whole; told = h.told; says = refl }
 world_back (world.Hold j) h whole = record { whole = h.whole; told = h.told; says = ap in_world h.says }
 world_back (world.Down j) h whole = record { whole = h.whole; told = h.told; says = ap in_world h.says }
+world_back _ h whole = record { whole = h.whole; told = h.told; says = refl }
 
 place_plain : (link : Link) (j : ℕ) → j ≤ largest → list_all plain (place_text link j) ≡ true
 place_plain Up j fits = digits_plain (decimal j) (decimal_digits j (omega arith))
-place_plain Down j fits = digits_plain (decimal j) (decimal_digits j (omega arith))
-place_plain Ctl j fits = digits_plain (decimal j) (decimal_digits j (omega arith))
-place_plain Ack j fits = digits_plain (decimal j) (decimal_digits j (omega arith))
+place_plain _ j fits = digits_plain (decimal j) (decimal_digits j (omega arith))
 
 place_back : (link : Link) (j : ℕ) → j ≤ largest → place_line (place_text link j) ≡ Ok (link, j)
 place_back Up j fits = ap (place_with (Some Up)) (read_again largest j fits (omega arith))

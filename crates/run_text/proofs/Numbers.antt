@@ -1,17 +1,14 @@
 -- Numbers as they are printed, and read again.
-use Rattle.std.proofs.Common.{◌≡◌, ℕ, zero, suc, ◌<◌, ◌≤◌, ◌^◌, true, inl, inr, List, [], ◌∷◌, length, get_or, Some, ap, lit<, arith}
+use Rattle.std.proofs.Common.{◌≡◌, ℕ, ◌<◌, ◌≤◌, ◌^◌, true, inl, inr, List, [], ◌∷◌, length, get_or, Some, arith}
 use Rattle.std.specs.Prelude.{IfSome, Option, None, nat_le, if◌then◌else◌, option_and_then}
 use Rattle.std.specs.Fmt.{decimal}
 use Rattle.std.specs.Str.{all_ascii_digits}
 use Rattle.std.specs.Str.Parse.{digits_value}
-use Rattle.std.proofs.lemmas.Str.Parse.{IsNumeralModel, numerals_by_value, tells_all_ascii_digits}
-use Rattle.std.proofs.lemmas.Fmt.{digits_decimal, digits_value-decimal, decimal_nonempty, first_decimal, decimal_digit}
+use Rattle.std.proofs.lemmas.Fmt.{digits_decimal, digits_value-decimal, decimal_nonempty}
 use Rattle.std.proofs.lemmas.Bool.Decides.{nat_tests}
 use Rattle.std.proofs.lemmas.Bool.{cases_Bool}
 use Rattle.gal_io.specs.Number.{is_number, number_of, number_up_to}
-
-own : IsNumeralModel (λ digits. all_ascii_digits digits ≡ true) (digits_value 10)
-own = numerals_by_value _ tells_all_ascii_digits
+use Rattle.lemmas.proofs.Numbers.{decimal_digits as own, no_zero_first as unpadded}
 
 pub decimal_digits : (number : ℕ) → number < 2 ^ 64 → all_ascii_digits (decimal number) ≡ true
 decimal_digits number fits = digits_decimal own number fits
@@ -20,10 +17,6 @@ decimal_digits number fits = digits_decimal own number fits
 numeral_is : (text : List ℕ) → 0 < length text → all_ascii_digits text ≡ true → (get_or text 0 0 ≡ 48 → length text ≡ 1) → is_number text ≡ true
 numeral_is [] some digits unpadded = absurd (omega (arith, some))
 numeral_is (first ∷ rest) some digits unpadded = grind (arith, nat_tests, digits, unpadded)
-
-unpadded : (number : ℕ) → number < 2 ^ 64 → get_or (decimal number) 0 0 ≡ 48 → length (decimal number) ≡ 1
-unpadded zero fits h = ap (λ l. length l) (decimal_digit 0 (lit< tt))
-unpadded (suc before) fits h = absurd (omega (arith, first_decimal (suc before) (omega arith) fits, h))
 
 pub read_again : (most number : ℕ) → number ≤ most → most < 2 ^ 64 → number_up_to most (decimal number) ≡ Some number
 read_again most number small fits =

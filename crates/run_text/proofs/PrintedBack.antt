@@ -24,7 +24,8 @@ use Rattle.run_text.specs.Trace.{at_most, behind_fine, body_of, event_line, is_d
 use Rattle.run_text.proofs.LineSteps.{ahead_values, all_lines}
 use Rattle.run_text.proofs.Arriving.{trace_values}
 use Rattle.run_text.proofs.Numbers.{decimal_digits, read_again}
-use Rattle.run_text.proofs.PrintedLines.{AreLines, after_space, all_both, before_space, lines_lined, none_lined, plain, space_there, unspaced, values_lined}
+use Rattle.run_text.proofs.PrintedLines.{AreLines, after_space, before_space, lines_lined, none_lined, plain, space_there, unspaced, values_lined}
+use Rattle.lemmas.proofs.Lists.{list_all_append}
 
 -- ---- digits
 
@@ -91,7 +92,7 @@ packet_back packet fits bytes short =
     let body = body_text packet.bytes in
     let digits = decimal_digits packet.port (omega arith) in
     record {
-      whole = all_both plain port (32 ∷ body) (digits_plain port digits) (body_plain packet.bytes bytes);
+      whole = list_all_append plain port (32 ∷ body) (digits_plain port digits) (body_plain packet.bytes bytes);
       told = digits_told port (32 ∷ body) (decimal_nonempty packet.port (omega arith)) digits;
       says = rw (
         space_there port body,
@@ -143,13 +144,7 @@ stage_back j fits = record {
 
 no_drain : (event : Event) → is_drain (event_text event) ≡ false
 no_drain Admit = refl
-no_drain (Stage j) = refl
-no_drain (Serve j) = refl
-no_drain Send = refl
-no_drain Apply = refl
-no_drain Ack = refl
-no_drain (Hold j) = refl
-no_drain (Down j) = refl
+no_drain _ = refl
 
 drain_read : (drain : Bool) → lines (lined (drain_lines drain)) ≡ drain_lines drain
 drain_read true = refl

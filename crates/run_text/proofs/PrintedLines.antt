@@ -10,6 +10,7 @@ use Rattle.run_text.specs.declared.refusal.LineKind.{LineKind}
 use Rattle.run_text.specs.Printed.{IsLineOf, lined}
 use Rattle.run_text.specs.Trace.{is_space}
 use Rattle.run_text.proofs.LineSteps.{ahead_values}
+use Rattle.lemmas.proofs.Lists.{drop_front, take_front}
 
 abbrev pub plain : ℕ → Bool
 plain byte = leb 32 byte
@@ -91,14 +92,6 @@ space_place (byte ∷ front) back h =
     let rest = space_place front back parts.1 in
     rw parts.0 (omega arith)
 
-take_front : {X : Type 0} (front back : List X) → take (length front) (front ++ back) ≡ front
-take_front [] back = refl
-take_front (x ∷ front) back = ap (λ l. x ∷ l) (take_front front back)
-
-drop_front : {X : Type 0} (front : List X) (x : X) (back : List X) → drop (suc (length front)) (front ++ (x ∷ back)) ≡ back
-drop_front [] x back = refl
-drop_front (y ∷ front) x back = drop_front front x back
-
 pub before_space : (front back : List ℕ) → list_all unspaced front ≡ true → before_first is_space (front ++ (32 ∷ back)) ≡ front
 before_space front back h = ap (λ n. take n (front ++ (32 ∷ back))) (space_place front back h) ∙ take_front front (32 ∷ back)
 
@@ -108,12 +101,6 @@ after_space front back h =
     ap (λ n. drop n (front ++ (32 ∷ back))) place ∙ drop_front front 32 back
 
 -- ---- all bytes of joined lists
-
-pub all_both : (test : ℕ → Bool) (xs ys : List ℕ) → list_all test xs ≡ true → list_all test ys ≡ true → list_all test (xs ++ ys) ≡ true
-all_both test [] ys h k = k
-all_both test (x ∷ xs) ys h k =
-    let parts = and_parts (test x) (list_all test xs) h in
-    rw parts.0 (all_both test xs ys parts.1 k)
 
 -- what holds of the first n elements, and of the next one, holds of one more
 pub one_more : {X : Type 0} (P : X → Type 0) (xs : List X) (n : ℕ) (e : X) → n < length xs → ((k : ℕ) (d : X) → k < n → P (get_or xs k d)) → P (get_or xs n e)

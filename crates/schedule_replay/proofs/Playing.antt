@@ -1,17 +1,16 @@
 -- A replayer goes on.
-use Rattle.std.proofs.Common.{◌≡◌, ◌<◌, ◌≤◌, ◌+◌, ◌-◌, ◌^◌, ◌&&◌, ℕ, Bool, true, false, List, [], ◌∷◌, ◌++◌, Option, Some, None, refl, sym, ap, subst, ◌∙◌, arith, length, map}
+use Rattle.std.proofs.Common.{◌≡◌, ◌<◌, ◌≤◌, ◌+◌, ◌-◌, ◌^◌, ℕ, true, List, [], ◌∷◌, ◌++◌, Option, Some, None, refl, sym, ap, subst, ◌∙◌, arith, length, length-append}
 use Rattle.std.specs.Prelude.{is_some}
 use Rattle.std.proofs.lemmas.Option.{none-some}
 use Rattle.run_model.specs.declared.event.Event.{Event}
 use Rattle.switch_ir.specs.Port.{PortState}
 use Rattle.switch_ir.specs.Tables.{Told}
 use Rattle.replay_state.specs.Drain.{drain_bound, is_drained, is_quiet}
-use Rattle.replay_state.specs.Journal.{Call, asked, question_of}
+use Rattle.replay_state.specs.Journal.{Call, asked}
 use Rattle.replay_state.specs.Run.{run_of}
 use Rattle.replay_state.specs.State.{State}
 use Rattle.replay_state.specs.Step.{step}
-use Rattle.replay_contracts.specs.Called.{WasCalled}
-use Rattle.replay_contracts.specs.Given.{Given, IsReady, code_for, setup_for, whole}
+use Rattle.replay_contracts.specs.Given.{Given, IsReady, setup_for, whole}
 use Rattle.replay_contracts.specs.Promise.{Promises}
 use Rattle.replay_contracts.specs.Replay.{HasDrained, HasPicked, IsReplay, answered}
 use Rattle.replay_contracts.specs.Replayer.{Fails, HasEmptied, HasFailed, HasReported, HasSettled, HasStepped, IsNew}
@@ -19,82 +18,39 @@ use Rattle.replay_contracts.specs.declared.job.Replayed.{Replayed}
 use Rattle.replay_contracts.specs.declared.job.ReplayError.{ReplayError}
 use Rattle.replay_contracts.specs.declared.job.Stepped.{Stepped}
 use Rattle.replay_course.specs.declared.course.Course.{Course}
-use Rattle.replay_course.specs.Going.{HasTurned, IsGoing, MayCall}
+use Rattle.replay_course.specs.Going.{HasTurned}
 use Rattle.replay_course.specs.Shown.{IsShown}
-use Rattle.replay_course.specs.UnderWay.{HasGone, Drains, IsOnItsWay, course_left}
+use Rattle.replay_course.specs.UnderWay.{HasGone, Drains, course_left}
 use Rattle.schedule_replay.specs.Replayer.{IsKept, IsPerforming, replayer_of}
-use Rattle.schedule_replay.proofs.Concluding.{BoundLaw, LeftLaw, OnceLaw, PromiseLaw, QuietLaw, ReportsOf, RunLaw, kept_replay}
-
--- ## The laws that are used
-
-abbrev pub OnLaw : Type 0
-OnLaw = (x : Given) (events : List Event) (event : Event) (calls one : List Call) (st : State) (old new : PortState)
-    → IsReady x → IsReplay x events calls st old
-    → map question_of one ≡ asked (setup_for x) (whole x) x.packets (calls ++ one) st event
-    → WasCalled (code_for x) one old new
-    → IsReplay x (events ++ event ∷ []) (calls ++ one) (step (setup_for x) (answered x (calls ++ one)) st event) new
-
-abbrev pub OneLaw : Type 0
-OneLaw = (x : Given) (events : List Event) (calls others : List Call) (st other : State) (port : PortState)
-    → IsReady x → IsReplay x events calls st port → IsReplay x events others other port
-    → (calls ≡ others) × (st ≡ other)
-
-abbrev pub LessLaw : Type 0
-LessLaw = (x : Given) (events : List Event) (event : Event) (stepped : Stepped) (calls : List Call) (st : State)
-    (c after : Course) (old new : PortState) → IsReplay x events calls st old → IsShown (whole x) calls st c → IsGoing x c old
-    → HasTurned x event stepped c old after new → course_left x after ≤ course_left x c
-
-abbrev pub FindsRoom : Type 0
-FindsRoom = (x : Given) (events : List Event) (calls : List Call) (st : State) (c : Course) (port : PortState)
-    → IsReplay x events calls st port → IsShown (whole x) calls st c → IsGoing x c port → MayCall x c port
-
--- ## Lists of events
-
-length_push : (events : List Event) (event : Event) → length (events ++ event ∷ []) ≡ length events + 1
-length_push [] event = refl
-length_push (e ∷ events) event = let h = length_push events event in omega arith
-
-length_join : (events more : List Event) → length (events ++ more) ≡ length events + length more
-length_join [] more = omega arith
-length_join (e ∷ events) more = let h = length_join events more in omega arith
+use Rattle.replay_contracts.proofs.Laws.{a_journal_determines_its_replay, a_quiet_switch_has_the_servers_tables, a_replay_goes_on}
+use Rattle.replay_contracts.proofs.Laws.{a_run_keeps_its_promises, a_told_replay_reports_the_run}
+use Rattle.replay_course.proofs.Laws.{few_events_are_left-bound, few_events_are_left-left, few_events_are_left-stays}
+use Rattle.replay_course.proofs.Reporting.{ReportsOf, kept_replay}
+use Rattle.replay_state.proofs.Laws.{a_run_is_answered_by_its_calls-once as end_once}
+use Rattle.std.proofs.lemmas.List.{length_push}
+use Rattle.lemmas.proofs.Numbers.{le_trans}
+use Rattle.lemmas.proofs.Tests.{and_second}
+use Rattle.replay_contracts.proofs.Asked.{none_asked}
 
 -- ## What the course shows
 
 -- of each replay of the same events over the port
-pub shown_at : OneLaw → (x : Given) (events : List Event) (c : Course) (port : PortState) (steps : ℕ) (calls : List Call) (st : State)
+pub shown_at : (x : Given) (events : List Event) (c : Course) (port : PortState) (steps : ℕ) (calls : List Call) (st : State)
     → IsPerforming x events c port steps → IsReplay x events calls st port → IsShown (whole x) calls st c
-shown_at one x events c port steps calls st now is =
+shown_at x events c port steps calls st now is =
     let u = now.under_way in
-    let same = one x events u.calls calls u.st st port u.going.prepared.ready u.replay is in
+    let same = a_journal_determines_its_replay x events u.calls calls u.st st port u.going.prepared.ready u.replay is in
     subst (λ s. IsShown (whole x) calls s c) same.1 (subst (λ cs. IsShown (whole x) cs u.st c) same.0 u.shown)
 
 few_by : (events n left steps bound : ℕ) → events ≡ n → n + left ≤ steps + bound → steps ≤ 1048576 → bound < 2 ^ 30 → events + left < 2 ^ 32 - 1
 few_by events n left steps bound is within few small = omega arith
 
-pub few_left : BoundLaw → (x : Given) (c : Course) (port : PortState) (steps : ℕ) (failed : Option ReplayError) → IsKept x c port steps failed
+pub few_left : (x : Given) (c : Course) (port : PortState) (steps : ℕ) (failed : Option ReplayError) → IsKept x c port steps failed
     → failed ≡ None → c.events + course_left x c < 2 ^ 32 - 1
-few_left bound x c port steps failed stands none =
+few_left x c port steps failed stands none =
     let now = stands.performed none in
     few_by c.events (length stands.events) (course_left x c) steps (drain_bound (setup_for x)) now.under_way.counted now.left stands.within
-    (bound x now.under_way.going.prepared stands.few_packets)
-
-pub few_events : BoundLaw → (x : Given) (c : Course) (port : PortState) (steps : ℕ) (failed : Option ReplayError) → IsKept x c port steps failed
-    → failed ≡ None → c.events < 2 ^ 32 - 1
-few_events bound x c port steps failed stands none = let few = few_left bound x c port steps failed stands none in omega arith
-
-pub room_there : FindsRoom → (x : Given) (c : Course) (port : PortState) (steps : ℕ) (failed : Option ReplayError) → IsKept x c port steps failed
-    → failed ≡ None → MayCall x c port
-room_there law x c port steps failed stands none =
-    let u = (stands.performed none).under_way in
-    law x stands.events u.calls u.st c port u.replay u.shown u.going
-
-pub way_there : (x : Given) (c : Course) (port : PortState) (steps : ℕ) (failed : Option ReplayError) → IsKept x c port steps failed
-    → failed ≡ None → IsOnItsWay x c port
-way_there x c port steps failed stands none = record { events = stands.events; under_way = (stands.performed none).under_way }
-
-pub going_there : (x : Given) (c : Course) (port : PortState) (steps : ℕ) (failed : Option ReplayError) → IsKept x c port steps failed
-    → failed ≡ None → IsGoing x c port
-going_there x c port steps failed stands none = (stands.performed none).under_way.going
+    (few_events_are_left-bound x now.under_way.going.prepared stands.few_packets)
 
 few_of : (n left steps bound : ℕ) → n + left ≤ steps + bound → n ≤ steps + bound
 few_of n left steps bound h = omega arith
@@ -116,22 +72,18 @@ stands_by x events c port steps failed packets within now = record {
 
 -- ## At the start
 
-no_calls : (calls : List Call) → map question_of calls ≡ [] → calls ≡ []
-no_calls [] e = refl
-no_calls (call ∷ calls) e = cc
-
 first_left : (left steps bound : ℕ) → left ≤ bound → 0 + left ≤ 0 + bound
 first_left left steps bound h = omega arith
 
-begun_performs : LeftLaw → (x : Given) (c : Course) (first port : PortState) → HasGone x [] c first port → IsPerforming x [] c port 0
-begun_performs left x c first port gone =
+begun_performs : (x : Given) (c : Course) (first port : PortState) → HasGone x [] c first port → IsPerforming x [] c port 0
+begun_performs x c first port gone =
     let u = gone.under_way in
-    record { under_way = u; left = first_left (course_left x c) 0 (drain_bound (setup_for x)) (left x [] u.calls u.st c port u.replay u.shown u.going) }
+    record { under_way = u; left = first_left (course_left x c) 0 (drain_bound (setup_for x)) (few_events_are_left-left x [] u.calls u.st c port u.replay u.shown u.going) }
 
 begun_is_new : (x : Given) (c : Course) (first port : PortState) → HasGone x [] c first port → IsNew x first (replayer_of x [] 0 port None)
 begun_is_new x c first port gone =
     let u = gone.under_way in
-    let calls : u.calls ≡ [] = no_calls u.calls u.replay.answered.asked in
+    let calls : u.calls ≡ [] = none_asked u.calls u.replay.answered.asked in
     record {
       given = refl;
       events = refl;
@@ -145,58 +97,58 @@ begun_is_new x c first port gone =
 pub copy_is_new : (x y : Given) (c : Course) (first port : PortState) → y ≡ x → HasGone x [] c first port → IsNew x first (replayer_of y [] 0 port None)
 copy_is_new x y c first port same gone = subst (λ z. IsNew x first (replayer_of z [] 0 port None)) (sym same) (begun_is_new x c first port gone)
 
-pub copy_performs : LeftLaw → (x y : Given) (c : Course) (first port : PortState) → y ≡ x → HasGone x [] c first port → IsPerforming y [] c port 0
-copy_performs left x y c first port same gone = subst (λ z. IsPerforming z [] c port 0) (sym same) (begun_performs left x c first port gone)
+pub copy_performs : (x y : Given) (c : Course) (first port : PortState) → y ≡ x → HasGone x [] c first port → IsPerforming y [] c port 0
+copy_performs x y c first port same gone = subst (λ z. IsPerforming z [] c port 0) (sym same) (begun_performs x c first port gone)
 
-pub copy_stands : LeftLaw → (x y : Given) (c : Course) (first port : PortState) → y ≡ x → HasGone x [] c first port → length x.packets ≤ 16384
+pub copy_stands : (x y : Given) (c : Course) (first port : PortState) → y ≡ x → HasGone x [] c first port → length x.packets ≤ 16384
     → IsKept y c port 0 None
-copy_stands left x y c first port same gone packets =
-    subst (λ z. IsKept z c port 0 None) (sym same) (stands_by x [] c port 0 None packets (omega arith) (begun_performs left x c first port gone))
+copy_stands x y c first port same gone packets =
+    subst (λ z. IsKept z c port 0 None) (sym same) (stands_by x [] c port 0 None packets (omega arith) (begun_performs x c first port gone))
 
 -- ## One event more
 
 stepped_left : (n n' left left' steps bound : ℕ) → n' ≡ n + 1 → left' ≤ left → n + left ≤ steps + bound → n' + left' ≤ steps + 1 + bound
 stepped_left n n' left left' steps bound one less h = omega arith
 
-pub step_performs : OnLaw → LessLaw → (x : Given) (events : List Event) (event : Event) (stepped : Stepped) (c after : Course) (old new : PortState) (steps : ℕ)
+pub step_performs : (x : Given) (events : List Event) (event : Event) (stepped : Stepped) (c after : Course) (old new : PortState) (steps : ℕ)
     → HasTurned x event stepped c old after new → IsPerforming x events c old steps → IsPerforming x (events ++ event ∷ []) after new (steps + 1)
-step_performs law less x events event stepped c after old new steps turned now =
+step_performs x events event stepped c after old new steps turned now =
     let u = now.under_way in
     let t = turned.turns events u.calls u.st u.replay u.shown in
     record {
       under_way = record {
         calls = u.calls ++ t.one;
         st = step (setup_for x) (answered x (u.calls ++ t.one)) u.st event;
-        replay = law x events event u.calls t.one u.st old new u.going.prepared.ready u.replay t.asks t.called;
+        replay = a_replay_goes_on x events event u.calls t.one u.st old new u.going.prepared.ready u.replay t.asks t.called;
         shown = t.shown;
         going = turned.going;
         counted = turned.counted ∙ ap (λ n. n + 1) u.counted ∙ sym (length_push events event);
       };
       left = stepped_left _ _ (course_left x c) _ steps _ (length_push events event)
-          (less x events event stepped u.calls u.st c after old new u.replay u.shown u.going turned) now.left;
+          (few_events_are_left-stays x events event stepped u.calls u.st c after old new u.replay u.shown u.going turned) now.left;
     }
 
-pub has_stepped : OneLaw → OnLaw → (x : Given) (events : List Event) (event : Event) (stepped : Stepped) (c after : Course) (old new : PortState) (steps : ℕ)
+pub has_stepped : (x : Given) (events : List Event) (event : Event) (stepped : Stepped) (c after : Course) (old new : PortState) (steps : ℕ)
     (failed : Option ReplayError) → failed ≡ None → HasTurned x event stepped c old after new → IsPerforming x events c old steps
     → HasStepped (replayer_of x events steps old failed) event stepped (replayer_of x (events ++ event ∷ []) (steps + 1) new failed)
-has_stepped one law x events event stepped c after old new steps failed none turned now = record {
+has_stepped x events event stepped c after old new steps failed none turned now = record {
   given = refl;
   events = refl;
   steps = refl;
   failed = none;
   stays = turned.stays;
-  applied = λ calls st is. (turned.turns events calls st is (shown_at one x events c old steps calls st now is)).stepped_so;
+  applied = λ calls st is. (turned.turns events calls st is (shown_at x events c old steps calls st now is)).stepped_so;
   next = λ calls st is.
-      let t = turned.turns events calls st is (shown_at one x events c old steps calls st now is) in
-      (t.one, law x events event calls t.one st old new now.under_way.going.prepared.ready is t.asks t.called);
+      let t = turned.turns events calls st is (shown_at x events c old steps calls st now is) in
+      (t.one, a_replay_goes_on x events event calls t.one st old new now.under_way.going.prepared.ready is t.asks t.called);
 }
 
-pub step_stands : OnLaw → LessLaw → (x : Given) (event : Event) (stepped : Stepped) (c after : Course) (old new : PortState) (steps : ℕ)
+pub step_stands : (x : Given) (event : Event) (stepped : Stepped) (c after : Course) (old new : PortState) (steps : ℕ)
     (failed : Option ReplayError) → failed ≡ None → steps < 1048576 → HasTurned x event stepped c old after new → IsKept x c old steps failed
     → IsKept x after new (steps + 1) failed
-step_stands law less x event stepped c after old new steps failed none few turned stands =
+step_stands x event stepped c after old new steps failed none few turned stands =
     stands_by x (stands.events ++ event ∷ []) after new (steps + 1) failed stands.few_packets (omega arith)
-    (step_performs law less x stands.events event stepped c after old new steps turned (stands.performed none))
+    (step_performs x stands.events event stepped c after old new steps turned (stands.performed none))
 
 -- ## Drain
 
@@ -226,32 +178,28 @@ drain_performs x events count c after old new steps done less now =
         replay = on.picked.replay;
         shown = on.shown;
         going = done.going;
-        counted = counted_on _ _ _ _ count done.events u.counted on.counted ∙ sym (length_join events on.more);
+        counted = counted_on _ _ _ _ count done.events u.counted on.counted ∙ sym (length-append events on.more);
       };
-      left = drained_left _ _ _ count (course_left x c) (course_left x after) steps _ (length_join events on.more) on.counted less now.left;
+      left = drained_left _ _ _ count (course_left x c) (course_left x after) steps _ (length-append events on.more) on.counted less now.left;
     }
 
-right_of : (a b : Bool) → (a && b) ≡ true → b ≡ true
-right_of true b h = h
-right_of false b h = cc
-
-pub settled : OnceLaw → PromiseLaw → QuietLaw → (x : Given) (events : List Event) (calls : List Call) (last : State) (port : PortState) → IsReady x
+pub settled : (x : Given) (events : List Event) (calls : List Call) (last : State) (port : PortState) → IsReady x
     → IsReplay x events calls last port → is_drained (setup_for x) last ≡ true → HasSettled x events calls last port
-settled once promise_law quiet_law x events calls last port ready replay drained =
+settled x events calls last port ready replay drained =
     let promises : (tables : Told) → port.told ≡ Some tables → Promises x events (run_of (setup_for x) last) =
-    λ tables is. subst (λ (st : State). Promises x events (run_of (setup_for x) st)) (sym (replay.told tables is).tied.same) (promise_law x events ready) in
+    λ tables is. subst (λ (st : State). Promises x events (run_of (setup_for x) st)) (sym (replay.told tables is).tied.same) (a_run_keeps_its_promises x events ready) in
     record {
-      once = once (setup_for x) (whole x) x.packets events calls last replay.answered;
+      once = end_once (setup_for x) (whole x) x.packets events calls last replay.answered;
       promises = promises;
       drained = λ tables is. (promises tables is).drained drained;
-      tables = λ tables is. quiet_law x events calls last port tables ready replay is (right_of _ (is_quiet last) drained);
+      tables = λ tables is. a_quiet_switch_has_the_servers_tables x events calls last port tables ready replay is (and_second _ (is_quiet last) drained);
     }
 
-pub has_emptied : OneLaw → OnceLaw → PromiseLaw → QuietLaw → (x : Given) (events : List Event) (count : ℕ) (c after : Course) (old new : PortState) (steps : ℕ) (failed : Option ReplayError)
+pub has_emptied : (x : Given) (events : List Event) (count : ℕ) (c after : Course) (old new : PortState) (steps : ℕ) (failed : Option ReplayError)
     → failed ≡ None → (done : Drains x count c old after new) (now : IsPerforming x events c old steps)
     → HasEmptied (replayer_of x events steps old failed) count
     (replayer_of x (events ++ drained_more x events count c after old new steps done now) steps new failed)
-has_emptied one once promise_law quiet_law x events count c after old new steps failed none done now =
+has_emptied x events count c after old new steps failed none done now =
     let u = now.under_way in
     let all = done.turns events u.calls u.st u.replay u.shown in
     let on = all.on in
@@ -265,13 +213,13 @@ has_emptied one once promise_law quiet_law x events count c after old new steps 
       stays = done.stays;
       next = λ calls st is.
           let ready = u.going.prepared.ready in
-          let same = (one x events u.calls calls u.st st old ready u.replay is).0 in (
+          let same = (a_journal_determines_its_replay x events u.calls calls u.st st old ready u.replay is).0 in (
             on.others,
             on.last,
             subst (λ cs. HasPicked x events on.more (cs ++ on.others) on.last new) same on.picked,
             subst (λ cs. HasDrained x events on.more (cs ++ on.others) on.last new) same all.drained,
             subst (λ cs. HasSettled x (events ++ on.more) (cs ++ on.others) on.last new) same
-                (settled once promise_law quiet_law x (events ++ on.more) (u.calls ++ on.others) on.last new ready on.picked.replay all.drained.drained),
+                (settled x (events ++ on.more) (u.calls ++ on.others) on.last new ready on.picked.replay all.drained.drained),
           );
     }
 
@@ -285,16 +233,13 @@ drain_stands x count c after old new steps failed none done less stands =
 short_by : (a b c d : ℕ) → a + b ≤ c → c ≤ d → a ≤ d
 short_by a b c d h k = omega arith
 
-pub drain_short : LeftLaw → (x : Given) (count : ℕ) (c after : Course) (old : PortState) (steps : ℕ) (failed : Option ReplayError) → failed ≡ None
+pub drain_short : (x : Given) (count : ℕ) (c after : Course) (old : PortState) (steps : ℕ) (failed : Option ReplayError) → failed ≡ None
     → count + course_left x after ≤ course_left x c → IsKept x c old steps failed → count ≤ drain_bound (setup_for x)
-drain_short left x count c after old steps failed none less stands =
+drain_short x count c after old steps failed none less stands =
     let u = (stands.performed none).under_way in
-    short_by count (course_left x after) _ _ less (left x stands.events u.calls u.st c old u.replay u.shown u.going)
+    short_by count (course_left x after) _ _ less (few_events_are_left-left x stands.events u.calls u.st c old u.replay u.shown u.going)
 
 -- ## Report
-
-spare_kept : (a b c : ℕ) → a ≤ b → b ≤ c → a ≤ c
-spare_kept a b c h k = omega arith
 
 pub report_performs : (x : Given) (events : List Event) (replayed : Replayed) (c : Course) (old new : PortState) (steps : ℕ)
     → ReportsOf x c old new replayed → IsPerforming x events c old steps → IsPerforming x events c new steps
@@ -311,17 +256,17 @@ report_performs x events replayed c old new steps says now =
           prepared = u.going.prepared;
           sound = u.going.sound;
           loaded = kept.code ∙ u.going.loaded;
-          spare = spare_kept _ _ _ u.going.spare kept.spare;
+          spare = le_trans _ _ _ u.going.spare kept.spare;
         };
         counted = u.counted;
       };
       left = now.left;
     }
 
-pub has_reported : OneLaw → RunLaw → PromiseLaw → (x : Given) (events : List Event) (replayed : Replayed) (c : Course) (old new : PortState) (steps : ℕ)
+pub has_reported : (x : Given) (events : List Event) (replayed : Replayed) (c : Course) (old new : PortState) (steps : ℕ)
     (failed : Option ReplayError) → failed ≡ None → ReportsOf x c old new replayed → IsPerforming x events c old steps
     → HasReported (replayer_of x events steps old failed) replayed (replayer_of x events steps new failed)
-has_reported one run_law promise_law x events replayed c old new steps failed none says now =
+has_reported x events replayed c old new steps failed none says now =
     let u = now.under_way in
     let ready = u.going.prepared.ready in
     let here = says u.calls u.st u.shown in
@@ -332,12 +277,12 @@ has_reported one run_law promise_law x events replayed c old new steps failed no
       failed = none;
       stays = record { told = ap is_some here.kept.told; faults = here.kept.faults };
       told = λ calls st is. (
-        says calls st (shown_at one x events c old steps calls st now is),
+        says calls st (shown_at x events c old steps calls st now is),
         kept_replay x events calls st old new is here.kept,
       );
       promises = λ tables told_is.
           subst (λ r. Promises x events r)
-          (sym (run_law x events u.calls u.st old new replayed.run replayed.commands tables ready u.replay here told_is)) (promise_law x events ready);
+          (sym (a_told_replay_reports_the_run x events u.calls u.st old new replayed.run replayed.commands tables ready u.replay here told_is)) (a_run_keeps_its_promises x events ready);
     }
 
 pub report_stands : (x : Given) (replayed : Replayed) (c : Course) (old new : PortState) (steps : ℕ) (failed : Option ReplayError) → failed ≡ None

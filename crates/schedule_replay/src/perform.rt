@@ -8,12 +8,8 @@ ghost use Rattle.replay_contracts.specs.Replayer.{CountsFault, Fails, HasBroken,
 ghost use Rattle.replay_course.specs.UnderWay.{IsUnderWay};
 ghost use Rattle.schedule_replay.specs.Ended.{HasEnded};
 
-use replay_contracts::{
-    Job, ReplayError, Replayed, a_quiet_switch_has_the_servers_tables, a_run_keeps_its_promises,
-    a_told_replay_reports_the_run,
-};
-use replay_course::{Course, few_events_are_left};
-use replay_state::a_run_is_answered_by_its_calls;
+use replay_contracts::{Job, ReplayError, Replayed};
+use replay_course::Course;
 use std::alloc::Global;
 use switch_ir::SwitchPort;
 
@@ -31,7 +27,6 @@ fn conclude<S: SwitchPort>(
         (HasEnded (given_of job.now) job.now.events job.now.drain course.new (S.seen port.old) (S.seen port.new)) }
     ensures fails { IfErr result (λ e. Fails e (S.seen port.old) (S.seen port.new)) }
 {
-    few_events_are_left();
     if job.drain {
         course.drain(alloc, job, port)?;
     }
@@ -61,11 +56,6 @@ pub fn replay<S: SwitchPort>(
     ensures fault { IfErr result (λ e. CountsFault e (S.seen port.old) (S.seen port.new)) }
     ensures fails { IfErr result (λ e. HasBroken (given_of job.now) e (S.seen port.old) (S.seen port.new)) }
 {
-    a_quiet_switch_has_the_servers_tables();
-    a_run_is_answered_by_its_calls();
-    a_run_keeps_its_promises();
-    a_told_replay_reports_the_run();
-    few_events_are_left();
     let mut course = Course::start(alloc, job, port)?;
     course.perform(alloc, job, port)?;
     conclude(alloc, job, port, &mut course)?;

@@ -11,17 +11,12 @@ ghost use Rattle.replay_state.specs.Journal.{Call, down_frame, frame_in, up_answ
 ghost use Rattle.replay_state.specs.State.{State};
 ghost use Rattle.replay_contracts.specs.Given.{setup_for, whole};
 ghost use Rattle.replay_contracts.specs.declared.job.ReplayError.{ReplayError};
-ghost use Rattle.replay_contracts.specs.Replayer.{CountsFault, given_of};
+ghost use Rattle.replay_contracts.specs.Replayer.{CountsFault, HasBroken, given_of};
 ghost use Rattle.replay_course.specs.UnderWay.{HasGone};
 
 use gal_io::{Bytes, NoMemory};
-use replay_contracts::{
-    Job, ReplayError, Replayed, Stepped, a_journal_determines_its_replay,
-    a_quiet_switch_has_the_servers_tables, a_replay_goes_on, a_run_keeps_its_promises,
-    a_told_replay_reports_the_run,
-};
-use replay_course::{Course, few_events_are_left, the_next_calls_may_be_made};
-use replay_state::a_run_is_answered_by_its_calls;
+use replay_contracts::{Job, ReplayError, Replayed, Stepped};
+use replay_course::Course;
 use run_model::{Event, Events};
 use std::alloc::Global;
 use std::marker::Model;
@@ -100,8 +95,8 @@ fn begin<S: SwitchPort>(alloc: Global, job: &Job, port: &mut S) -> Result<Begun,
         HasGone (given_of job.now) [] begun.course (S.seen port.old) (S.seen port.new)) }
     ensures stays { is_some (S.seen port.new).told ≡ is_some (S.seen port.old).told }
     ensures fault { IfErr result (λ e. CountsFault e (S.seen port.old) (S.seen port.new)) }
+    ensures fails { IfErr result (λ e. HasBroken (given_of job.now) e (S.seen port.old) (S.seen port.new)) }
 {
-    few_events_are_left();
     let copy = copy_job(alloc, job)?;
     let course = Course::start(alloc, job, port)?;
     Ok(Begun { job: copy, course })
@@ -114,8 +109,8 @@ impl<S: SwitchPort> Replayer<S> {
     ghost use Rattle.schedule_replay.specs.Frames.{IsFrameAt};
     ghost use Rattle.schedule_replay.specs.Replayer.{HasPerformed, IsStanding, seen_as};
 
-    /// Loads the switch with the code of a job. After an error the switch is handed back; it tells its tables where it
-    /// told them before.
+    /// Loads the switch with the code of a job. After an error the switch is handed back: as it was, or with that code. It
+    /// tells its tables where it told them before.
     pub fn new(alloc: Global, job: &Job, port: S) -> Result<Replayer<S>, Refused<S>>
         requires split { IsSplit (program_of job.now.flat) job.now.split job.now.writeback }
         requires stages { HasFewStages job.now.split }
@@ -126,8 +121,9 @@ impl<S: SwitchPort> Replayer<S> {
         ensures stays { IfErr result (λ refused.
             is_some (S.seen refused.port).told ≡ is_some (S.seen port).told) }
         ensures fault { IfErr result (λ refused. CountsFault refused.error (S.seen port) (S.seen refused.port)) }
+        ensures fails { IfErr result (λ refused.
+            HasBroken (given_of job.now) refused.error (S.seen port) (S.seen refused.port)) }
     {
-        few_events_are_left();
         let mut port = port;
         match begin(alloc, job, &mut port) {
             Ok(begun) => Ok(Replayer {
@@ -164,10 +160,6 @@ impl<S: SwitchPort> Replayer<S> {
             × ((events : List Event) → Repeats (seen_as S.seen events self.old) e (seen_as S.seen events self.new)) }
         ensures same { (e : ReplayError) → self.old.failed ≡ Some e → self.new ≡ self.old }
     {
-        a_journal_determines_its_replay();
-        a_replay_goes_on();
-        few_events_are_left();
-        the_next_calls_may_be_made();
         if let Some(error) = self.failed {
             return Err(error);
         }
@@ -203,11 +195,6 @@ impl<S: SwitchPort> Replayer<S> {
             × ((events : List Event) → Repeats (seen_as S.seen events self.old) e (seen_as S.seen events self.new)) }
         ensures same { (e : ReplayError) → self.old.failed ≡ Some e → self.new ≡ self.old }
     {
-        a_journal_determines_its_replay();
-        a_quiet_switch_has_the_servers_tables();
-        a_run_is_answered_by_its_calls();
-        a_run_keeps_its_promises();
-        few_events_are_left();
         if let Some(error) = self.failed {
             return Err(error);
         }
@@ -233,9 +220,6 @@ impl<S: SwitchPort> Replayer<S> {
             × ((events : List Event) → Repeats (seen_as S.seen events self.old) e (seen_as S.seen events self.new)) }
         ensures same { (e : ReplayError) → self.old.failed ≡ Some e → self.new ≡ self.old }
     {
-        a_journal_determines_its_replay();
-        a_run_keeps_its_promises();
-        a_told_replay_reports_the_run();
         if let Some(error) = self.failed {
             return Err(error);
         }
@@ -254,7 +238,6 @@ impl<S: SwitchPort> Replayer<S> {
             → IsAt (seen_as S.seen events self.now) calls st → MatchOption result (length st.up ≤ j)
             (λ frame. IsFrameAt (λ n. frame_in (up_answer calls n)) st.up j frame.now) }
     {
-        a_journal_determines_its_replay();
         let (_, frame) = self.course.up.get(j)?;
         Some(frame)
     }
@@ -265,7 +248,6 @@ impl<S: SwitchPort> Replayer<S> {
             → IsAt (seen_as S.seen events self.now) calls st → MatchOption result (length st.down ≤ j)
             (λ frame. IsFrameAt (down_frame (whole self.now.given) calls st) st.down j frame.now) }
     {
-        a_journal_determines_its_replay();
         let (_, frame) = self.course.down.get(j)?;
         Some(frame)
     }
@@ -277,7 +259,6 @@ impl<S: SwitchPort> Replayer<S> {
         ensures none { (events : List Event) (calls : List Call) (st : State) → HasPerformed S.seen events self.now
             → IsAt (seen_as S.seen events self.now) calls st → is_some result ≡ nat_lt 0 st.sent }
     {
-        a_journal_determines_its_replay();
         self.course.commit.sent_command()
     }
 

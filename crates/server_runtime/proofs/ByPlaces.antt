@@ -10,7 +10,7 @@ use Rattle.flat_ir.specs.declared.program.ValueId.{ValueId}
 use Rattle.flat_ir.specs.Blocks.{is_live, Reading}
 use Rattle.flat_ir.specs.Kinds.{is_look, is_write}
 use Rattle.flat_ir.specs.Program.{is_named, result_count, step_at, Program, Work}
-use Rattle.flat_ir.specs.Program.Work.{const, field, apply, shift, select, byte, look, put, del}
+use Rattle.flat_ir.specs.Program.Work.{put, del}
 use Rattle.flat_ir.specs.Renamed.{renamed_results}
 use Rattle.flat_ir.specs.Renaming.{renamed}
 use Rattle.flat_ir.specs.Run.{change_of, made, results, with_changes, Change}
@@ -30,6 +30,9 @@ use Rattle.server_runtime.proofs.Numbers.{is_named_by}
 use Rattle.server_runtime.proofs.Rows.{row_more, row_part}
 use Rattle.server_runtime.proofs.Seats.{at_named, named_place, place_placed, put_there, still_seats}
 use Rattle.server_runtime.proofs.Walked.{at_or, listed_more, next_at, IsNext}
+use Rattle.lemmas.proofs.Lists.{each_or, each_pushed}
+use Rattle.split_model.proofs.Sights.{live_counts, no_change}
+use Rattle.transfer_header.proofs.PlacedNumbers.{placed_behind}
 
 -- ## Registers in which values have the places that they had
 
@@ -63,10 +66,6 @@ pub planned_resolved : (f : Program) (seats : List ℕ) (turns : List Turn) (bef
 planned_resolved f seats turns before after plan count = still_resolved f before after (λ value p. place_by (plan p) (count p) value) seats turns
 
 -- ## Results at their places
-
-placed_behind : (registers : Registers) (ps qs : List (ℕ × ℕ)) → all_placed registers (ps ++ qs) ≡ all_placed (all_placed registers ps) qs
-placed_behind registers [] qs = refl
-placed_behind registers (p ∷ ps) qs = placed_behind (placed registers p.0 p.1) ps qs
 
 placed_places : (registers : Registers) (pairs : List (ℕ × ℕ)) (value : ℕ) → place_of (all_placed registers pairs) value ≡ place_of registers value
 placed_places registers [] value = refl
@@ -125,44 +124,9 @@ reads_by_place : (f : Program) (registers : Registers) → length registers.numb
     → (λ (v : ValueId). reads_at registers.numbers (place_name f registers v)) ≡ register_reads f registers
 reads_by_place f registers few = λ k v. at_named registers.numbers (is_named f v) (place_of registers (number_of f v)) few k
 
--- only a put and a del ask whether their block is live
-live_or_not : (reads : Reading) (live : Bool) (st : Store) (packet : Packet) (work : Work) → is_write work ≡ false
-    → results reads false st packet work ≡ results reads live st packet work
-live_or_not reads live st packet (put object keys values) e = absurd (true≢false e)
-live_or_not reads live st packet (del object keys) e = absurd (true≢false e)
-live_or_not reads live st packet (const width number) e = refl
-live_or_not reads live st packet (field name) e = refl
-live_or_not reads live st packet (apply op width args) e = refl
-live_or_not reads live st packet (shift op width arg by) e = refl
-live_or_not reads live st packet (select width cond first second) e = refl
-live_or_not reads live st packet (byte index) e = refl
-live_or_not reads live st packet (look object keys) e = refl
-
-none_made : (live : Bool) → made live None ≡ []
-none_made true = refl
-none_made false = refl
-
-changes_nothing : (reads : Reading) (live : Bool) (st : Store) (work : Work) → is_write work ≡ false → made live (change_of reads st work) ≡ []
-changes_nothing reads live st (put object keys values) e = absurd (true≢false e)
-changes_nothing reads live st (del object keys) e = absurd (true≢false e)
-changes_nothing reads live st (const width number) e = none_made live
-changes_nothing reads live st (field name) e = none_made live
-changes_nothing reads live st (apply op width args) e = none_made live
-changes_nothing reads live st (shift op width arg by) e = none_made live
-changes_nothing reads live st (select width cond first second) e = none_made live
-changes_nothing reads live st (byte index) e = none_made live
-changes_nothing reads live st (look object keys) e = none_made live
-
 renamed_write : (names : ValueId → ValueId) (work : Work) → is_write (renamed names work) ≡ is_write work
 renamed_write names (put object keys values) = refl
-renamed_write names (del object keys) = refl
-renamed_write names (const width number) = refl
-renamed_write names (field name) = refl
-renamed_write names (apply op width args) = refl
-renamed_write names (shift op width arg by) = refl
-renamed_write names (select width cond first second) = refl
-renamed_write names (byte index) = refl
-renamed_write names (look object keys) = refl
+renamed_write names _ = refl
 
 -- whether a turn writes is told by its instruction
 writes_alike : (f : Program) (registers : Registers) (t : Turn) → IsResolved f registers t
@@ -172,13 +136,7 @@ writes_alike f registers t h = sym (renamed_write (place_name f registers) (step
 no_look : (work : Work) → is_write work ≡ true → is_look work ≡ false
 no_look (put object keys values) e = refl
 no_look (del object keys) e = refl
-no_look (const width number) e = absurd (true≢false (sym e))
-no_look (field name) e = absurd (true≢false (sym e))
-no_look (apply op width args) e = absurd (true≢false (sym e))
-no_look (shift op width arg by) e = absurd (true≢false (sym e))
-no_look (select width cond first second) e = absurd (true≢false (sym e))
-no_look (byte index) e = absurd (true≢false (sym e))
-no_look (look object keys) e = absurd (true≢false (sym e))
+no_look _ e = absurd (true≢false (sym e))
 
 -- a turn that writes looks nothing up
 pub write_is_no_look : (f : Program) (registers : Registers) (t : Turn) → IsResolved f registers t → is_write (ready_work t.step.kind) ≡ true
@@ -202,8 +160,8 @@ computed_turn f split packet registers st t after told within has h writes few i
     ap (λ (w : Work). results (reads_at registers.numbers) false st packet w) h.work
     ∙ renamed_results names (reads_at registers.numbers) false st packet work
     ∙ ap (λ (r : Reading). results r false st packet work) (reads_by_place f registers few)
-    ∙ live_or_not reads live st packet work quiet in
-    let nothing : made live (change_of reads st work) ≡ [] = changes_nothing reads live st work quiet in
+    ∙ live_counts reads false live st packet work (λ e. absurd (true≢false (sym e ∙ quiet))) in
+    let nothing : made live (change_of reads st work) ≡ [] = no_change reads live st work quiet in
     record {
       registers = is ∙ ap (λ (row : List ℕ). all_placed registers (placed_gives (places_of t.step.places) row)) gives
           ∙ row_placed f i registers within has (places_of t.step.places) (row_of f packet i reads st) h.places;
@@ -213,21 +171,12 @@ computed_turn f split packet registers st t after told within has h writes few i
 
 -- ## Lists of turns
 
-each_at : {X : Type 0} (P : X → Type 0) (xs : List X) (k : ℕ) (d : X) → Each P xs → k < length xs → P (get_or xs k d)
-each_at P [] k d h lt = absurd (omega (arith, lt))
-each_at P (x ∷ xs) zero d h lt = h.0
-each_at P (x ∷ xs) (suc k) d h lt = each_at P xs k d h.1 (omega (arith, lt))
-
-each_push : {X : Type 0} (P : X → Type 0) (xs : List X) (x : X) → Each P xs → P x → Each P (xs ++ x ∷ [])
-each_push P [] x h last = (last, tt)
-each_push P (y ∷ ys) x h last = (h.0, each_push P ys x h.1 last)
-
 -- one turn of a list
 pub turn_of_list : (f : Program) (registers : Registers) (items turns : List Turn) (k : ℕ) (t : Turn) → items ≡ turns → Each (IsResolved f registers) turns
     → k < length items → t ≡ get_or items k t → IsResolved f registers t
 turn_of_list f registers items turns k t same each lt is =
     let low : k < length turns = omega (arith, lt, ap (λ (l : List Turn). length l) same) in
-    subst (IsResolved f registers) (sym (is ∙ ap (λ (l : List Turn). get_or l k t) same)) (each_at (IsResolved f registers) turns k t each low)
+    subst (IsResolved f registers) (sym (is ∙ ap (λ (l : List Turn). get_or l k t) same)) (each_or (IsResolved f registers) turns k t each low)
 
 -- and the one behind it
 pub next_turn : (test : ℕ → Bool) (end : ℕ) (items turns : List Turn) (k : ℕ) (t : Turn) → items ≡ turns → AreListed test 0 end (turns_at turns)
@@ -254,5 +203,5 @@ more_turns test f registers i turns after t more at due resolved so =
     let list : turns_at turns ++ i ∷ [] ≡ turns_at after =
     ap (λ (n : ℕ). turns_at turns ++ n ∷ []) (sym at) ∙ sym (map-append place turns (t ∷ [])) ∙ ap (λ (l : List Turn). turns_at l) (sym more) in (
       subst (λ (ts : List ℕ). AreListed test 0 (suc i) ts) list (listed_more test 0 i (turns_at turns) so.0 (omega arith) due),
-      subst (Each (IsResolved f registers)) (sym more) (each_push (IsResolved f registers) turns t so.1 resolved),
+      subst (Each (IsResolved f registers)) (sym more) (each_pushed (IsResolved f registers) turns t so.1 resolved),
     )

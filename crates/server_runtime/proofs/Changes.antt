@@ -5,7 +5,7 @@ use Rattle.state_store.specs.Store.{object_at, put_answer, Store, is_stored}
 use Rattle.state_store.specs.Store as store
 use Rattle.flat_ir.specs.Blocks.{Reading}
 use Rattle.flat_ir.specs.Program.{Work}
-use Rattle.flat_ir.specs.Program.Work.{const, field, apply, shift, select, byte, look, put, del}
+use Rattle.flat_ir.specs.Program.Work.{look, put, del}
 use Rattle.flat_ir.specs.Run.{change_of, made, results, Change}
 use Rattle.server_runtime.specs.Turns.{changed_by}
 
@@ -27,10 +27,4 @@ work_changed reads live st packet (put object keys values) number e =
     wanted_made number live (is_stored (put_answer (object_at st object) (map reads keys))) (record { object = object; key = map reads keys; values = Some (map reads values) }) (sym (ap (λ l. get_or l 0 0) e))
 work_changed reads live st packet (del object keys) number e =
     wanted_made number live (is_some (store.look (object_at st object) (map reads keys))) (record { object = object; key = map reads keys; values = None }) (sym (ap (λ l. get_or l 0 0) e))
-work_changed reads live st packet (const width n) number e = none_made (number == 1) live
-work_changed reads live st packet (field name) number e = none_made (number == 1) live
-work_changed reads live st packet (apply op width args) number e = none_made (number == 1) live
-work_changed reads live st packet (shift op width arg by) number e = none_made (number == 1) live
-work_changed reads live st packet (select width cond first second) number e = none_made (number == 1) live
-work_changed reads live st packet (byte index) number e = none_made (number == 1) live
-work_changed reads live st packet (look object keys) number e = none_made (number == 1) live
+work_changed reads live st packet _ number e = none_made (number == 1) live

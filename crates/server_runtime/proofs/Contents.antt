@@ -1,19 +1,19 @@
 -- The numbers of values, by their own numbers.
-use Rattle.std.proofs.Common.{◌≡◌, ◌+◌, ◌-◌, ◌<◌, ◌≤◌, ◌==◌, ◌&&◌, ◌||◌, ℕ, zero, suc, Bool, true, false, cond, List, [], ◌∷◌, length, get_or, nat_lt, slice_get, slice_index, Option, Some, None, IsTrue, refl, sym, ap, ◌∙◌, subst, arith, inl, inr}
+use Rattle.std.proofs.Common.{◌≡◌, ◌+◌, ◌-◌, ◌<◌, ◌≤◌, ◌==◌, ◌&&◌, ◌||◌, ℕ, zero, suc, Bool, true, false, cond, List, [], ◌∷◌, length, get_or, nat_lt, slice_get, slice_index, Option, Some, None, refl, sym, ap, ◌∙◌, subst, arith, inl, inr}
 use Rattle.std.specs.List.{filter, AllByRecursion as Each}
 use Rattle.std.proofs.lemmas.Bool.{and_from, and_parts, cases_Bool, cases_eq, cases_lt, cond-true, cond-false, eq-eqb, lt-ltb, ltb-true, ne_eqb, or_left, or_right}
-use Rattle.std.proofs.lemmas.List.{get_or_append_left, get_or-append_right, get_or_push, map-append}
+use Rattle.std.proofs.lemmas.List.{get_or_append_left, get_or-append_right, map-append}
 use Rattle.std.proofs.lemmas.List.Folds.{list_any-append}
 use Rattle.std.proofs.lemmas.Option.{slice_get-get_or, slice_get_within, none-some, same_Some}
 use Rattle.packet_fields.specs.declared.packet.Packet.{Packet}
 use Rattle.state_store.specs.Store.{Store}
 use Rattle.flat_ir.specs.declared.program.ValueId.{ValueId}
-use Rattle.flat_ir.specs.Blocks.{is_live, line, Reading}
+use Rattle.flat_ir.specs.Blocks.{is_live, Reading}
 use Rattle.flat_ir.specs.Kinds.{is_input}
-use Rattle.flat_ir.specs.Laws.{Same, SameFor}
-use Rattle.flat_ir.specs.Program.{is_named, operands, step_at, Program, Work}
-use Rattle.flat_ir.specs.Run.{change_of, do_step, results, Machine}
-use Rattle.flat_ir.specs.WellFormed.{EachCondition, IsWellFormed}
+use Rattle.flat_ir.specs.Laws.{Same}
+use Rattle.flat_ir.specs.Program.{is_named, step_at, Program}
+use Rattle.flat_ir.specs.Run.{do_step, Machine}
+use Rattle.flat_ir.specs.WellFormed.{IsWellFormed}
 use Rattle.split_model.specs.declared.split.Part.{Part}
 use Rattle.split_model.specs.Layouts.{first_results, number_of, values_below, values_of}
 use Rattle.split_model.specs.Passes.{served}
@@ -23,22 +23,13 @@ use Rattle.server_runtime.specs.Registers.{contents_of, number_by, reading_of}
 use Rattle.server_runtime.specs.Running.{contents_at, row_of, server_steps}
 use Rattle.server_runtime.specs.Spans.{is_taken, numbers_of, reads_at, values_at, values_kept, values_read}
 use Rattle.server_runtime.proofs.Alike.{turned_alike, IsTurnedAlike}
-use Rattle.server_runtime.proofs.Numbers.{below_suc, count_at, count_results, is_named_by, named_parts}
-use Rattle.server_runtime.proofs.Spanned.{each_append, each_more, found, read_earlier, IsFound}
+use Rattle.server_runtime.proofs.Numbers.{below_suc, count_at, is_named_by, named_parts}
+use Rattle.server_runtime.proofs.Spanned.{found, read_earlier, IsFound}
+use Rattle.lemmas.proofs.Lists.{each_append, each_weaker}
+use Rattle.transfer_header.proofs.Numbers.{get_or-first_results}
+use Rattle.transfer_header.proofs.Laws.{values_have_their_numbers}
 
 -- ## Which value has a number
-
-result_there : (i c k : ℕ) (d : ValueId) → k < c → get_or (first_results i c) k d ≡ record { instruction = i; result = k }
-result_there i zero k d lt = absurd (omega (arith, lt))
-result_there i (suc c) k d lt =
-    let last : ValueId = record { instruction = i; result = c } in
-    elim (cases_eq k c) [
-      | inl e ↦ rw e (get_or_push (first_results i c) last d c (count_results i c))
-      | inr ne ↦ (
-          let low : k < c = omega (arith, lt, ne) in
-          get_or_append_left (first_results i c) (last ∷ []) d k (omega (arith, low, count_results i c)) ∙ result_there i c k d low
-          )
-    ]
 
 -- a value by its number
 pub record IsThere (f : Program) (n : ℕ) (v : ValueId) : Type 0 where
@@ -56,7 +47,7 @@ below_there f (suc k) n d le lt =
           )
       | inr high ↦ (
           let place : n - before < count_at f k = omega (arith, high, lt, below_suc f k) in
-          let e = get_or-append_right (values_below f k) (values_at f k) before n d refl high ∙ result_there k (count_at f k) (n - before) d place in
+          let e = get_or-append_right (values_below f k) (values_at f k) before n d refl high ∙ get_or-first_results k (count_at f k) (n - before) d place in
           subst (IsThere f n) (sym e) (record {
             named = is_named_by f (record { instruction = k; result = n - before }) (omega (arith, le)) place;
             number = omega (arith, high);
@@ -104,7 +95,7 @@ pub each_among : (f : Program) (vs : List ValueId) → Each (λ v. is_among (num
 each_among f [] = tt
 each_among f (v ∷ vs) = (
   or_left (number_of f v == number_of f v) (is_among (number_of f v) (numbers_of f vs)) (eq-eqb (number_of f v) (number_of f v) refl),
-  each_more (λ w. is_among (number_of f w) (numbers_of f vs) ≡ true) (λ w. is_among (number_of f w) (numbers_of f (v ∷ vs)) ≡ true)
+  each_weaker (λ w. is_among (number_of f w) (numbers_of f vs) ≡ true) (λ w. is_among (number_of f w) (numbers_of f (v ∷ vs)) ≡ true)
       (λ w e. or_right (number_of f v == number_of f w) (is_among (number_of f w) (numbers_of f vs)) e) vs (each_among f vs),
 )
 
@@ -112,19 +103,15 @@ pub each_and : (P Q R : ValueId → Type 0) → ((v : ValueId) → P v → Q v �
 each_and P Q R go [] h k = tt
 each_and P Q R go (v ∷ vs) h k = (go v h.0 k.0, each_and P Q R go vs h.1 k.1)
 
-module _ (f : Program) (numbers : (v : ValueId) → IsTrue (is_named f v) → slice_get (values_of f) (number_of f v) ≡ Some v) where
+module _ (f : Program) where
   -- a reading by numbers is that reading
   pub reads_back : (reads : Reading) (v : ValueId) → is_named f v ≡ true → contents_of f reads (number_of f v) ≡ reads v
-  reads_back reads v named = ap (number_by reads) (numbers v named)
+  reads_back reads v named = ap (number_by reads) (values_have_their_numbers f v named)
 
   pub reading_is : (contents : Contents) (v : ValueId) → is_named f v ≡ true → reading_of f contents v ≡ contents (number_of f v)
   reading_is contents v named = cond-true (is_named f v) (contents (number_of f v)) 0 named
 
-  module _ (well : IsWellFormed f) (split : List Part) (up : Reading) (st : Store) (packet : Packet)
-      (same_operands : (r r' : Reading) (work : Work) → Each (Same r r') (operands work) → SameFor r r' work)
-      (same_results : (r r' : Reading) (live : Bool) (st : Store) (packet : Packet) (work : Work) → SameFor r r' work → results r live st packet work ≡ results r' live st packet work)
-      (same_changes : (r r' : Reading) (st : Store) (work : Work) → SameFor r r' work → change_of r st work ≡ change_of r' st work)
-      (same_live : (f : Program) (r r' : Reading) (k : ℕ) → Each (EachCondition f (Same r r')) (line f.blocks k) → is_live f.blocks r k ≡ is_live f.blocks r' k) where
+  module _ (well : IsWellFormed f) (split : List Part) (up : Reading) (st : Store) (packet : Packet) where
     abbrev first : ℕ → ℕ
     first i = length (values_below f i)
 
@@ -141,7 +128,7 @@ module _ (f : Program) (numbers : (v : ValueId) → IsTrue (is_named f v) → sl
     agree_read i a b lt taken same =
         each_and (λ v. (is_named f v ≡ true) × (v.instruction < i)) (λ v. is_among (number_of f v) (numbers_of f (values_read f i)) ≡ true) (Same (reading_of f a) (reading_of f b))
         (λ v named among. reading_is a v named.0 ∙ same (number_of f v) (read_among i (number_of f v) taken among) ∙ sym (reading_is b v named.0))
-        (values_read f i) (read_earlier f split well numbers i lt) (each_among f (values_read f i))
+        (values_read f i) (read_earlier f split well i lt) (each_among f (values_read f i))
 
     taken_within : (i : ℕ) → is_taken f split i ≡ true → i < length f.code
     taken_within i taken = ltb-true i (length f.code) (and_parts (nat_lt i (length f.code)) (is_input (step_at f i).work || is_server split i) taken).0
@@ -155,7 +142,7 @@ module _ (f : Program) (numbers : (v : ValueId) → IsTrue (is_named f v) → sl
             ≡ cond t (slice_index (row_of f packet i (reading_of f b) (served f split up st packet i).store) (n - first i)) 0
         by_test true taken =
             ap (λ row. slice_index row (n - first i))
-            (turned_alike same_operands same_results same_changes same_live f packet (served f split up st packet i).store (reading_of f a) (reading_of f b) i
+            (turned_alike f packet (served f split up st packet i).store (reading_of f a) (reading_of f b) i
             (agree_read i a b (taken_within i taken) taken same)).row
         by_test false taken = refl
 
@@ -180,10 +167,10 @@ module _ (f : Program) (numbers : (v : ValueId) → IsTrue (is_named f v) → sl
       -- from the run's numbers by number the turn is that of the run
       by_numbers : IsTurnedAlike f packet i m.store (reading_of f (contents_at f split up st packet i)) m.reads
       by_numbers =
-          turned_alike same_operands same_results same_changes same_live f packet m.store (reading_of f (contents_at f split up st packet i)) m.reads i
-          (each_more (λ v. (is_named f v ≡ true) × (v.instruction < i)) (Same (reading_of f (contents_at f split up st packet i)) m.reads)
+          turned_alike f packet m.store (reading_of f (contents_at f split up st packet i)) m.reads i
+          (each_weaker (λ v. (is_named f v ≡ true) × (v.instruction < i)) (Same (reading_of f (contents_at f split up st packet i)) m.reads)
           (λ v named. reading_is (contents_at f split up st packet i) v named.0 ∙ reads_back m.reads v named.0)
-          (values_read f i) (read_earlier f split well numbers i lt))
+          (values_read f i) (read_earlier f split well i lt))
 
       row_is : row_of f packet i (reading_of f (contents_at f split up st packet i)) m.store ≡ row
       row_is = by_numbers.row
@@ -194,7 +181,7 @@ module _ (f : Program) (numbers : (v : ValueId) → IsTrue (is_named f v) → sl
           → IsTurnedAlike f packet i m.store (reading_of f contents) m.reads
       turn_alike contents taken same =
           let there =
-          turned_alike same_operands same_results same_changes same_live f packet m.store (reading_of f contents) (reading_of f (contents_at f split up st packet i)) i
+          turned_alike f packet m.store (reading_of f contents) (reading_of f (contents_at f split up st packet i)) i
           (agree_read i contents (contents_at f split up st packet i) lt taken same)
           in
           record {
@@ -219,7 +206,8 @@ module _ (f : Program) (numbers : (v : ValueId) → IsTrue (is_named f v) → sl
       own_among : (n : ℕ) (v : ValueId) → slice_get (values_of f) n ≡ Some v → is_among n (numbers_of f (values_at f i)) ≡ true → v.instruction ≡ i
       own_among n v e among =
           let h = found f (λ w. (is_named f w ≡ true) × (w.instruction ≡ i)) n (values_at f i) (of_results (count_at f i) (omega arith)) among in
-          ap (λ (w : ValueId). w.instruction) (same_Some v h.value (sym e ∙ ap (slice_get (values_of f)) (sym h.number) ∙ numbers h.value h.holds.0)) ∙ h.holds.1
+          ap (λ (w : ValueId). w.instruction)
+          (same_Some v h.value (sym e ∙ ap (slice_get (values_of f)) (sym h.number) ∙ values_have_their_numbers f h.value h.holds.0)) ∙ h.holds.1
         where
           of_results : (c : ℕ) → c ≤ count_at f i → Each (λ w. (is_named f w ≡ true) × (w.instruction ≡ i)) (first_results i c)
           of_results zero le = tt
@@ -229,7 +217,10 @@ module _ (f : Program) (numbers : (v : ValueId) → IsTrue (is_named f v) → sl
 
       none_among : (n : ℕ) → slice_get (values_of f) n ≡ None → is_among n (numbers_of f (values_at f i)) ≡ false
       none_among n e = elim (cases_Bool (is_among n (numbers_of f (values_at f i)))) [
-        | inl among ↦ absurd (none-some _ (sym e ∙ ap (slice_get (values_of f)) (sym (in_it among).number) ∙ numbers (in_it among).value (in_it among).holds))
+        | inl among ↦ (
+            let h = in_it among in
+            absurd (none-some _ (sym e ∙ ap (slice_get (values_of f)) (sym h.number) ∙ values_have_their_numbers f h.value h.holds))
+            )
         | inr apart ↦ apart
       ]
         where

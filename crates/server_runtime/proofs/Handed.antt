@@ -1,8 +1,8 @@
 -- Registers into which a frame was read hold what stands in it.
-use Rattle.std.proofs.Common.{◌≡◌, ◌+◌, ◌<◌, ◌==◌, ◌^◌, ℕ, suc, Bool, true, false, cond, IsTrue, List, [], ◌∷◌, map, get_or, drop, slice_get, Option, Some, None, Result, Ok, Err, refl, sym, ap, ◌∙◌, subst, arith, inl, inr}
+use Rattle.std.proofs.Common.{◌≡◌, ◌+◌, ◌<◌, ◌^◌, ℕ, suc, Bool, true, false, cond, List, [], ◌∷◌, map, get_or, drop, slice_get, Option, Some, None, Result, Ok, Err, refl, sym, ap, ◌∙◌, subst, arith, inl, inr}
 use Rattle.std.specs.List.{filter}
 use Rattle.std.specs.Result.{IfOk, OnErr}
-use Rattle.std.proofs.lemmas.Bool.{and_parts, cases_Bool, cond-false, cond-true, eqb-true}
+use Rattle.std.proofs.lemmas.Bool.{cases_Bool, cond-false, cond-true}
 use Rattle.std.proofs.lemmas.List.{get_or-drop}
 use Rattle.std.proofs.lemmas.List.Elements.{All-contains}
 use Rattle.std.proofs.lemmas.Nat.{pow_pos}
@@ -10,7 +10,7 @@ use Rattle.flat_ir.specs.declared.program.ValueId.{ValueId}
 use Rattle.flat_ir.specs.Arrivals.{IsArrival}
 use Rattle.flat_ir.specs.Blocks.{Reading}
 use Rattle.flat_ir.specs.Laws.{AllFit}
-use Rattle.flat_ir.specs.Program.{is_named, width_of_value, Program}
+use Rattle.flat_ir.specs.Program.{width_of_value, Program}
 use Rattle.flat_ir.specs.Spans.{spans_of}
 use Rattle.flat_ir.specs.WellFormed.{IsWellFormed}
 use Rattle.split_model.specs.declared.split.Part.{Part}
@@ -27,22 +27,14 @@ use Rattle.server_runtime.specs.Turns.{IsRead}
 use Rattle.server_runtime.proofs.Contents.{reads_back, there}
 use Rattle.server_runtime.proofs.Needed.{up_among}
 use Rattle.server_runtime.proofs.Spanned.{are_spans, writer}
-
-same_value : (a b : ValueId) → is_value a b ≡ true → a ≡ b
-same_value a b e =
-    let parts = and_parts (a.instruction == b.instruction) (a.result == b.result) e in
-    let i : a.instruction ≡ b.instruction = eqb-true a.instruction b.instruction parts.0 in
-    let r : a.result ≡ b.result = eqb-true a.result b.result parts.1 in
-    λ p. record { instruction = i p; result = r p }
-
-true_false : true ≡ false → ⊥
-true_false e = cc
+use Rattle.flat_ir.proofs.Exact.{value_same}
+use Rattle.lemmas.proofs.Tests.{true_not_false}
 
 -- ## What doesn't cross
 
 -- a value that doesn't cross has the number 0
 others_apart : (crosses : ValueId → Bool) (v x : ValueId) → crosses v ≡ false → crosses x ≡ true → (b : Bool) → is_value x v ≡ b → b ≡ false
-others_apart crosses v x none e true same = absurd (true_false (sym e ∙ ap crosses (same_value x v same) ∙ none))
+others_apart crosses v x none e true same = absurd (true_not_false (sym e ∙ ap crosses (value_same x v same) ∙ none))
 others_apart crosses v x none e false same = refl
 
 not_among_more : (f : Program) (crosses : ValueId → Bool) (v : ValueId) → crosses v ≡ false → (x : ValueId) (xs : List ValueId) (bits : List ℕ)
@@ -57,7 +49,7 @@ not_among : (f : Program) (crosses : ValueId → Bool) (v : ValueId) → crosses
 not_among f crosses v none [] bits = refl
 not_among f crosses v none (x ∷ xs) bits = not_among_more f crosses v none x xs bits (not_among f crosses v none xs) (crosses x) refl
 
-module _ (f : Program) (split : List Part) (well : IsWellFormed f) (numbers : (v : ValueId) → IsTrue (is_named f v) → slice_get (values_of f) (number_of f v) ≡ Some v)
+module _ (f : Program) (split : List Part) (well : IsWellFormed f)
     (frame : List ℕ) (after : Registers) (serving : AreServing f split after)
     (told : AreToldByPlace f (crosses_up f split) (up_layout f split) (value_in after) frame) where
   abbrev up : Reading
@@ -83,11 +75,11 @@ module _ (f : Program) (split : List Part) (well : IsWellFormed f) (numbers : (v
   -- what is written at step 0 is handed up
   stands : (n : ℕ) → is_among n (writes_at f split 0) ≡ true → content_of after n ≡ contents_of f up n
   stands n among =
-      let w = writer f split well numbers 0 n among in
+      let w = writer f split well 0 n among in
       let v = w.value in
       elim (cases_Bool (crosses_up f split v)) [
         | inl e ↦ subst (λ k. content_of after k ≡ contents_of f up k) w.number
-            (sym (reads_back f numbers up v w.holds.0 ∙ cond-true (crosses_up f split v) (content_of after (number_of f v)) 0 e))
+            (sym (reads_back f up v w.holds.0 ∙ cond-true (crosses_up f split v) (content_of after (number_of f v)) 0 e))
         | inr e ↦ absurd (omega (arith, w.holds.1, cond-false (crosses_up f split v) 0 (suc v.instruction) e))
       ]
 
@@ -99,7 +91,7 @@ module _ (f : Program) (split : List Part) (well : IsWellFormed f) (numbers : (v
       by_value (Some v) e = elim (cases_Bool (crosses_up f split v)) [
         | inl crosses ↦ (
             let at = (there f n v e).number in
-            let one = (are_spans f split well numbers (λ step contents. contents)).written 0 (number_of f v) (up_among f split well numbers v crosses) in
+            let one = (are_spans f split well (λ step contents. contents)).written 0 (number_of f v) (up_among f split well v crosses) in
             absurd (omega (arith, none, one, ap (spans_of (server_spans f split)) at))
             )
         | inr apart ↦ cond-false (crosses_up f split v) (content_of after (number_of f v)) 0 apart
@@ -107,7 +99,7 @@ module _ (f : Program) (split : List Part) (well : IsWellFormed f) (numbers : (v
 
   ready : IsReady (server_spans f split) after (contents_of f up) 1
   ready =
-      let spans = are_spans f split well numbers (λ step contents. contents) in
+      let spans = are_spans f split well (λ step contents. contents) in
       record {
         apart = serving.apart;
         placed = serving.placed;

@@ -21,3 +21,4 @@ pub mod Told
 pub mod Turned
 pub mod Walked
 pub mod Wholes
+pub mod Laws

@@ -1,5 +1,5 @@
 -- The numbers of listed values.
-use Rattle.std.proofs.Common.{◌≡◌, ◌<◌, ◌==◌, ◌&&◌, ◌||◌, ℕ, suc, Bool, true, false, cond, List, [], ◌∷◌, ◌++◌, map, length, refl, sym, ap, ◌∙◌, arith}
+use Rattle.std.proofs.Common.{◌≡◌, ◌<◌, ◌==◌, ◌&&◌, ◌||◌, ℕ, suc, Bool, true, false, List, [], ◌∷◌, ◌++◌, map, length, refl, sym, ap, ◌∙◌, arith}
 use Rattle.std.specs.List.{filter, All, AllByRecursion as Each}
 use Rattle.std.proofs.lemmas.Bool.{eq-eqb, le-ltb, lt-ltb, ne_eqb}
 use Rattle.std.proofs.lemmas.List.{map-append}
@@ -16,7 +16,7 @@ use Rattle.split_model.specs.Passes.{server_fields}
 use Rattle.transfer_header.specs.Steps.{is_among}
 use Rattle.server_runtime.specs.Spans.{is_taken, is_turn, numbers_of, reads_at, values_kept, values_read}
 use Rattle.server_runtime.proofs.Numbers.{below_all, named_parts}
-use Rattle.server_runtime.proofs.Spanned.{each_more}
+use Rattle.lemmas.proofs.Lists.{each_filter, each_weaker}
 
 -- of a layout
 pub crossing_numbers : (f : Program) (vs : List ValueId) → map (λ (c : Crossing). c.number) (map (crossing f) vs) ≡ numbers_of f vs
@@ -24,14 +24,10 @@ crossing_numbers f [] = refl
 crossing_numbers f (v ∷ vs) = ap (λ ns. number_of f v ∷ ns) (crossing_numbers f vs)
 
 -- of the fields that the server sets
-written_more : (f : Program) (w : FieldValue) (rest : List FieldValue) → is_named f w.value ≡ true → Each (λ (w : FieldValue). is_named f w.value ≡ true) rest → (b : Bool)
-    → Each (λ (w : FieldValue). is_named f w.value ≡ true) (cond b (w ∷ rest) rest)
-written_more f w rest named h true = (named, h)
-written_more f w rest named h false = h
-
 pub written_named : (f : Program) (split : List Part) (ws : List FieldValue) → Each (IsWritten f) ws → Each (λ (w : FieldValue). is_named f w.value ≡ true) (filter (is_server_write split) ws)
-written_named f split [] h = tt
-written_named f split (w ∷ ws) h = written_more f w (filter (is_server_write split) ws) h.0.output.named (written_named f split ws h.1) (is_server_write split w)
+written_named f split ws h =
+    each_filter (λ (w : FieldValue). is_named f w.value ≡ true) (is_server_write split) ws
+    (each_weaker (IsWritten f) (λ (w : FieldValue). is_server_write split w ≡ true → is_named f w.value ≡ true) (λ w is e. is.output.named) ws h)
 
 -- of what is read once all instructions are done
 pub kept_numbers : (f : Program) (split : List Part) (layout : List Crossing) → layout ≡ down_layout f split
@@ -45,7 +41,7 @@ pub numbers_within : (f : Program) (vs : List ValueId) → Each (λ (v : ValueId
 numbers_within f vs h =
     All-map (λ (n : ℕ). n < length (values_of f)) (number_of f) vs
     (All-from_recursion (λ (v : ValueId). number_of f v < length (values_of f)) vs
-    (each_more (λ (v : ValueId). is_named f v ≡ true) (λ (v : ValueId). number_of f v < length (values_of f))
+    (each_weaker (λ (v : ValueId). is_named f v ≡ true) (λ (v : ValueId). number_of f v < length (values_of f))
     (λ v named. let parts = named_parts f v named in omega (arith, parts.1, below_all f v.instruction parts.0)) vs h))
 
 -- ## What a step reads

@@ -1,5 +1,5 @@
 -- Which values need registers at the same time.
-use Rattle.std.proofs.Common.{◌≡◌, ◌<◌, ◌≤◌, ◌==◌, ◌&&◌, ℕ, suc, Bool, true, false, cond, max, List, [], ◌∷◌, get_or, map, length, replicate, slice_get, Some, Option, IsTrue, IsSome, is_some, not, refl, sym, ap, ◌∙◌, subst, arith, inl, inr, true≢false}
+use Rattle.std.proofs.Common.{◌≡◌, ◌<◌, ◌≤◌, ◌==◌, ◌&&◌, ℕ, suc, Bool, true, false, cond, max, List, [], ◌∷◌, get_or, map, length, replicate, Option, IsSome, is_some, not, refl, sym, ap, ◌∙◌, subst, arith, inl, inr, true≢false}
 use Rattle.std.specs.Prelude.{nat_le, All}
 use Rattle.std.specs.List.{filter, AllByRecursion as Each}
 use Rattle.std.proofs.lemmas.Bool.{and_from, and_parts, cases_Bool, eq-eqb, le-leb, lt-ltb, not_from_false, or_left, or_parts, or_right}
@@ -21,18 +21,17 @@ use Rattle.split_model.specs.Crossing.{crosses_down, crosses_up}
 use Rattle.split_model.specs.Layouts.{crossing, down_layout, down_values, number_of, up_layout, values_of}
 use Rattle.split_model.specs.Passes.{server_fields}
 use Rattle.split_model.specs.Split.{is_carried, is_carried_up, is_post, is_served, is_server, part_at, stage_after}
-use Rattle.transfer_header.specs.Registers.{place_by, place_of, Registers}
+use Rattle.transfer_header.specs.Registers.{Registers}
 use Rattle.transfer_header.specs.Steps.{is_among, AreSpansOf, IsNeeded, IsSpanOf, Steps}
 use Rattle.server_runtime.specs.Registers.{AreServing}
 use Rattle.server_runtime.specs.Spans.{is_taken, is_turn, last_read, numbers_of, reads_at, server_spans, span_from, values_at, values_kept, values_read, writes_at}
 use Rattle.server_runtime.proofs.Contents.{among_filtered, among_results}
 use Rattle.server_runtime.proofs.Numbers.{below_all, count_at, named_parts}
 use Rattle.server_runtime.proofs.Spanned.{all_among, are_spans, has_span, writer, writes_within, HasSpan}
+use Rattle.transfer_header.proofs.LayoutValues.{same_places}
+use Rattle.transfer_header.proofs.Laws.{values_have_their_numbers}
 
 -- ## Registers in the same places
-
-same_places : (before after : Registers) → after.plan ≡ before.plan → length after.numbers ≡ length before.numbers → (value : ℕ) → place_of after value ≡ place_of before value
-same_places before after plan count value = λ p. place_by (plan p) (count p) value
 
 pub still_serving : (f : Program) (split : List Part) (before after : Registers) → after.plan ≡ before.plan → length after.numbers ≡ length before.numbers
     → AreServing f split before → AreServing f split after
@@ -61,14 +60,13 @@ carried_else Carried served post = refl
 carried_else Server served post = absurd (true≢false served)
 carried_else (Post stage) served post = absurd (true≢false post)
 
-module _ (f : Program) (split : List Part) (well : IsWellFormed f)
-    (numbers : (v : ValueId) → IsTrue (is_named f v) → slice_get (values_of f) (number_of f v) ≡ Some v) where
+module _ (f : Program) (split : List Part) (well : IsWellFormed f) where
   -- any numbers serve
   abbrev steps : Steps
   steps = record { reads = reads_at f split; writes = writes_at f split; number = λ step contents. contents }
 
   spans : AreSpansOf steps (server_spans f split)
-  spans = are_spans f split well numbers (λ step contents. contents)
+  spans = are_spans f split well (λ step contents. contents)
 
   up_named : (v : ValueId) → crosses_up f split v ≡ true → is_named f v ≡ true
   up_named v e = (and_parts (is_named f v) _ (and_parts _ _ e).0).0
@@ -77,7 +75,7 @@ module _ (f : Program) (split : List Part) (well : IsWellFormed f)
   down_named v e = (and_parts (is_named f v) _ (and_parts _ _ e).0).0
 
   pub up_among : (v : ValueId) → crosses_up f split v ≡ true → is_among (number_of f v) (writes_at f split 0) ≡ true
-  up_among v e = among_filtered f (crosses_up f split) (values_of f) (number_of f v) v (numbers v (up_named v e)) e
+  up_among v e = among_filtered f (crosses_up f split) (values_of f) (number_of f v) v (values_have_their_numbers f v (up_named v e)) e
 
   pub kept_read : (n : ℕ) → is_among n (numbers_of f (values_kept f split)) ≡ true → reads_at f split (suc (length f.code)) n ≡ true
   kept_read n e =
@@ -91,7 +89,7 @@ module _ (f : Program) (split : List Part) (well : IsWellFormed f)
       ap (is_among n) (map-append (number_of f) (down_values f split) more)
       ∙ list_any-append (λ (x : ℕ). x == n) (numbers_of f (down_values f split)) (numbers_of f more)
       ∙ or_left (is_among n (numbers_of f (down_values f split))) (is_among n (numbers_of f more))
-      (among_filtered f (crosses_down f split) (values_of f) n v (numbers v (down_named v e)) e)
+      (among_filtered f (crosses_down f split) (values_of f) n v (values_have_their_numbers f v (down_named v e)) e)
 
   -- ## What is needed at a step
 
@@ -156,7 +154,7 @@ module _ (f : Program) (split : List Part) (well : IsWellFormed f)
       let w = down_written v e in
       let h = span_of w.step n w.writes in
       let is = is_span n h in
-      let early = writes_within f split well numbers h.span.value h.span.from is.first in
+      let early = writes_within f split well h.span.value h.span.from is.first in
       let late = is.last (suc (length f.code)) (ap (reads_at f split (suc (length f.code))) h.same ∙ kept_read n (down_kept v e)) in
       needed (length f.code) n h (omega (arith, early)) (omega (arith, late))
 
@@ -178,7 +176,7 @@ module _ (f : Program) (split : List Part) (well : IsWellFormed f)
       let ws = writes_at f split step in
       All-weaker (λ (n : ℕ). is_among n ws ≡ true) (λ (n : ℕ). n < length (values_of f))
       (λ n e.
-      let w = writer f split well numbers step n e in
+      let w = writer f split well step n e in
       let parts = named_parts f w.value w.holds.0 in
       omega (arith, parts.1, below_all f w.value.instruction parts.0, w.number))
       ws (all_among ws)

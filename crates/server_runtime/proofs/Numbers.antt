@@ -6,10 +6,7 @@ use Rattle.std.proofs.Math.Nat.{eq-or-lt_of_le}
 use Rattle.flat_ir.specs.declared.program.ValueId.{ValueId}
 use Rattle.flat_ir.specs.Program.{is_named, result_count, step_at, Program}
 use Rattle.split_model.specs.Layouts.{first_results, number_of, values_below, values_of}
-
-pub count_results : (i n : ℕ) → length (first_results i n) ≡ n
-count_results i zero = refl
-count_results i (suc n) = omega (arith, length-append (first_results i n) (record { instruction = i; result = n } ∷ []), count_results i n)
+use Rattle.split_model.proofs.Numbering.{count_results}
 
 abbrev pub count_at : Program → ℕ → ℕ
 count_at f i = result_count f.objects (step_at f i).work

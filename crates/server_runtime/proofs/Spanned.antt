@@ -1,5 +1,5 @@
 -- The spans of a server's run are spans of what its steps write and read.
-use Rattle.std.proofs.Common.{◌≡◌, ◌+◌, ◌<◌, ◌≤◌, ◌==◌, ◌&&◌, ℕ, zero, suc, Bool, true, false, cond, List, [], ◌∷◌, ◌++◌, map, length, get_or, nat_lt, slice_get, Some, IsTrue, refl, sym, ap, ◌∙◌, arith, inl, inr, true≢false, not}
+use Rattle.std.proofs.Common.{◌≡◌, ◌+◌, ◌<◌, ◌≤◌, ◌==◌, ◌&&◌, ℕ, zero, suc, Bool, true, false, cond, List, [], ◌∷◌, ◌++◌, map, length, get_or, nat_lt, slice_get, refl, sym, ap, ◌∙◌, arith, inl, inr, true≢false, not}
 use Rattle.std.specs.Prelude.{All, Contains, count_by}
 use Rattle.std.specs.List.{filter, AllByRecursion as Each}
 use Rattle.std.proofs.lemmas.Bool.{and_parts, cases_Bool, cases_eq, cases_lt, cond-true, cond-false, eq-eqb, eqb-true, le-ltb, lt-ltb, ltb-true, ne_eqb, or_cases, or_parts}
@@ -14,12 +14,12 @@ use Rattle.flat_ir.specs.declared.spans.Span.{Span}
 use Rattle.flat_ir.specs.Blocks.{block_at, line}
 use Rattle.flat_ir.specs.Kinds.{is_input, is_write}
 use Rattle.flat_ir.specs.Program.{is_named, operands, result_count, step_at, Program, Work}
-use Rattle.flat_ir.specs.Program.Work.{const, field, apply, shift, select, byte, look, put, del}
+use Rattle.flat_ir.specs.Program.Work.{const}
 use Rattle.flat_ir.specs.Spans.{spans_of, AreWrittenFirst, ValuesDiffer}
 use Rattle.flat_ir.specs.WellFormed.{EachCondition, IsWellFormed, IsWritten}
 use Rattle.split_model.specs.declared.split.Part.{Part}
 use Rattle.split_model.specs.declared.split.Slow.{Slow}
-use Rattle.split_model.specs.declared.split.Slow.TheVariants.{Carried, Server, Post}
+use Rattle.split_model.specs.declared.split.Slow.TheVariants.{Carried}
 use Rattle.split_model.specs.Crossing.{crosses_down, crosses_up, is_server_write}
 use Rattle.split_model.specs.Layouts.{down_values, first_results, number_of, up_values, values_below, values_of}
 use Rattle.split_model.specs.Passes.{server_fields}
@@ -27,6 +27,8 @@ use Rattle.split_model.specs.Split.{is_carried, is_carried_up, is_served, is_ser
 use Rattle.transfer_header.specs.Steps.{is_among, AreSpansOf, Contents, IsSpanOf, Steps}
 use Rattle.server_runtime.specs.Spans.{conditions_of, is_taken, last_below, numbers_of, reads_at, server_spans, span_from, spans_below, values_at, values_kept, values_read, writes_at}
 use Rattle.server_runtime.proofs.Numbers.{below_suc, is_named_by, named_parts}
+use Rattle.lemmas.proofs.Lists.{each_append, each_both, each_filter, each_map, each_weaker}
+use Rattle.transfer_header.proofs.Laws.{values_have_their_numbers}
 
 -- ## How often a number stands in a list
 
@@ -115,40 +117,19 @@ found f P n (v ∷ vs) all e = elim (or_cases (number_of f v == n) (is_among n (
   | inr later ↦ found f P n vs all.1 later
 ]
 
-pub each_append : (P : ValueId → Type 0) (xs ys : List ValueId) → Each P xs → Each P ys → Each P (xs ++ ys)
-each_append P [] ys h k = k
-each_append P (x ∷ xs) ys h k = (h.0, each_append P xs ys h.1 k)
-
-each_both : (P Q : ValueId → Type 0) (xs : List ValueId) → Each P xs → Each Q xs → Each (λ x. P x × Q x) xs
-each_both P Q [] h k = tt
-each_both P Q (x ∷ xs) h k = ((h.0, k.0), each_both P Q xs h.1 k.1)
-
-pub each_more : (P Q : ValueId → Type 0) → ((x : ValueId) → P x → Q x) → (xs : List ValueId) → Each P xs → Each Q xs
-each_more P Q go [] h = tt
-each_more P Q go (x ∷ xs) h = (go x h.0, each_more P Q go xs h.1)
-
 some_results : (f : Program) (i : ℕ) → 0 < result_count f.objects (step_at f i).work
 some_results f i = of_work (step_at f i).work
   where
     of_work : (work : Work) → 0 < result_count f.objects work
     of_work (const width number) = omega arith
-    of_work (field name) = omega arith
-    of_work (apply op width args) = omega arith
-    of_work (shift op width arg by) = omega arith
-    of_work (select width cond first second) = omega arith
-    of_work (byte index) = omega arith
-    of_work (look object keys) = omega arith
-    of_work (put object keys values) = omega arith
-    of_work (del object keys) = omega arith
+    of_work _ = omega arith
 
 -- what is carried isn't the server's
 not_served : (slow : Slow) → is_carried_up slow ≡ true → is_served slow ≡ true → ⊥
 not_served Carried e h = true≢false (sym h)
-not_served Server e h = true≢false (sym e)
-not_served (Post stage) e h = true≢false (sym e)
+not_served _ e h = true≢false (sym e)
 
-module _ (f : Program) (split : List Part) (well : IsWellFormed f)
-    (numbers : (v : ValueId) → IsTrue (is_named f v) → slice_get (values_of f) (number_of f v) ≡ Some v) where
+module _ (f : Program) (split : List Part) (well : IsWellFormed f) where
   abbrev first : ℕ → ℕ
   first i = length (values_below f i)
 
@@ -156,7 +137,8 @@ module _ (f : Program) (split : List Part) (well : IsWellFormed f)
   last = length f.code + 1
 
   same_number : (v w : ValueId) → is_named f v ≡ true → is_named f w ≡ true → number_of f v ≡ number_of f w → v ≡ w
-  same_number v w named named' e = same_Some v w (sym (numbers v named) ∙ ap (slice_get (values_of f)) e ∙ numbers w named')
+  same_number v w named named' e =
+      same_Some v w (sym (values_have_their_numbers f v named) ∙ ap (slice_get (values_of f)) e ∙ values_have_their_numbers f w named')
 
   -- ## How often a step writes a value
 
@@ -210,7 +192,7 @@ module _ (f : Program) (split : List Part) (well : IsWellFormed f)
   IsWrittenAt step v = (is_named f v ≡ true) × (step ≡ step_of_value v)
 
   up_written : Each (IsWrittenAt 0) (up_values f split)
-  up_written = each_more (λ v. crosses_up f split v ≡ true) (IsWrittenAt 0) (λ v e. (
+  up_written = each_weaker (λ v. crosses_up f split v ≡ true) (IsWrittenAt 0) (λ v e. (
     (and_parts (is_named f v) _ (and_parts _ _ e).0).0,
     sym (cond-true (crosses_up f split v) 0 (suc v.instruction) e),
   )) (up_values f split) (recursion_from_All (λ v. crosses_up f split v ≡ true) (up_values f split) (filter_passes (crosses_up f split) (values_of f)))
@@ -356,19 +338,17 @@ module _ (f : Program) (split : List Part) (well : IsWellFormed f)
   named_earlier : (v : ValueId) → is_named f v ≡ true → IsEarlier (length f.code) v
   named_earlier v named = (named, (named_parts f v named).0)
 
-  written_more : (w : FieldValue) (rest : List FieldValue) → is_named f w.value ≡ true → Each (IsEarlier (length f.code)) (map (λ (w : FieldValue). w.value) rest) → (b : Bool)
-      → Each (IsEarlier (length f.code)) (map (λ (w : FieldValue). w.value) (cond b (w ∷ rest) rest))
-  written_more w rest named h true = (named_earlier w.value named, h)
-  written_more w rest named h false = h
-
   written_earlier : (ws : List FieldValue) → Each (IsWritten f) ws → Each (IsEarlier (length f.code)) (map (λ (w : FieldValue). w.value) (filter (is_server_write split) ws))
-  written_earlier [] h = tt
-  written_earlier (w ∷ ws) h = written_more w (filter (is_server_write split) ws) h.0.output.named (written_earlier ws h.1) (is_server_write split w)
+  written_earlier ws h =
+      each_map (IsEarlier (length f.code)) (λ (w : FieldValue). w.value) (filter (is_server_write split) ws)
+      (each_filter (λ (w : FieldValue). IsEarlier (length f.code) w.value) (is_server_write split) ws
+      (each_weaker (IsWritten f) (λ (w : FieldValue). is_server_write split w ≡ true → IsEarlier (length f.code) w.value)
+      (λ w is e. named_earlier w.value is.output.named) ws h))
 
   pub kept_earlier : Each (IsEarlier (length f.code)) (values_kept f split)
   kept_earlier =
       each_append (IsEarlier (length f.code)) (down_values f split) (map (λ (w : FieldValue). w.value) (server_fields f split))
-      (each_more (λ v. crosses_down f split v ≡ true) (IsEarlier (length f.code)) (λ v e. named_earlier v (and_parts (is_named f v) _ (and_parts _ _ e).0).0) (down_values f split)
+      (each_weaker (λ v. crosses_down f split v ≡ true) (IsEarlier (length f.code)) (λ v e. named_earlier v (and_parts (is_named f v) _ (and_parts _ _ e).0).0) (down_values f split)
       (recursion_from_All (λ v. crosses_down f split v ≡ true) (down_values f split) (filter_passes (crosses_down f split) (values_of f))))
       (written_earlier f.fields well.fields)
 

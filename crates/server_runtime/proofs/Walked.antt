@@ -1,5 +1,5 @@
 -- Between the turns that are due a run goes on with what it has.
-use Rattle.std.proofs.Common.{◌≡◌, ◌+◌, ◌<◌, ◌≤◌, ◌||◌, ℕ, zero, suc, Bool, true, false, cond, max, List, [], ◌∷◌, ◌++◌, map, length, get_or, nat_lt, None, refl, sym, ap, ◌∙◌, subst, arith, add-one, inl, inr, true≢false, ⊎_elim}
+use Rattle.std.proofs.Common.{◌≡◌, ◌+◌, ◌<◌, ◌≤◌, ◌||◌, ℕ, zero, suc, Bool, true, false, cond, max, List, [], ◌∷◌, ◌++◌, map, length, get_or, nat_lt, refl, sym, ap, ◌∙◌, subst, arith, add-one, inl, inr, true≢false, ⊎_elim}
 use Rattle.std.specs.Prelude.{All, Contains}
 use Rattle.std.proofs.lemmas.Bool.{and_parts, cases_Bool, cases_eq, cond-false, cond-true, ltb-false, ne_eqb}
 use Rattle.std.proofs.lemmas.List.{append-nil, get_or_default}
@@ -12,7 +12,7 @@ use Rattle.flat_ir.specs.declared.spans.Span.{Span}
 use Rattle.flat_ir.specs.Blocks.{is_live, Reading}
 use Rattle.flat_ir.specs.Kinds.{is_input}
 use Rattle.flat_ir.specs.Program.{result_count, step_at, Program, Work}
-use Rattle.flat_ir.specs.Program.Work.{const, field, apply, shift, select, byte, look, put, del}
+use Rattle.flat_ir.specs.Program.Work.{const, field}
 use Rattle.flat_ir.specs.Run.{change_of, do_step, made, with_changes, Change, Machine}
 use Rattle.split_model.specs.declared.split.Part.{Part}
 use Rattle.split_model.specs.Layouts.{first_results, values_below, values_of}
@@ -21,12 +21,16 @@ use Rattle.split_model.specs.Split.{is_server}
 use Rattle.transfer_header.specs.Registers.{Registers}
 use Rattle.transfer_header.specs.Steps.{is_among, reading_after, AreSpansOf, Contents, IsReady, IsSpanOf, Steps}
 use Rattle.writeback_table.specs.declared.command.Update.{Update}
-use Rattle.server_runtime.specs.Running.{contents_at, server_steps}
+use Rattle.server_runtime.specs.Running.{contents_at, number_at, server_steps}
 use Rattle.server_runtime.specs.Serving.{updates_of}
 use Rattle.server_runtime.specs.Spans.{is_taken, is_turn, last_read, numbers_of, server_spans, span_from, spans_below, values_at, writes_at}
 use Rattle.server_runtime.specs.Turns.{IsServing}
 use Rattle.server_runtime.specs.Walks.{is_due, AreListed}
 use Rattle.server_runtime.proofs.Numbers.{below_all}
+use Rattle.split_model.proofs.Sights.{none_made}
+use Rattle.flat_ir.specs.WellFormed.{IsWellFormed}
+use Rattle.server_runtime.proofs.Contents.{contents_after}
+use Rattle.server_runtime.proofs.Spanned.{are_spans}
 
 -- ## Lists of numbers that pass a test
 
@@ -113,32 +117,16 @@ ends_by f split (suc k) =
 input_count : (objects : List ObjectDecl) (work : Work) → is_input work ≡ true → result_count objects work ≡ 1
 input_count objects (const width number) e = refl
 input_count objects (field name) e = refl
-input_count objects (apply op width args) e = absurd (true≢false (sym e))
-input_count objects (shift op width arg by) e = absurd (true≢false (sym e))
-input_count objects (select width one first second) e = absurd (true≢false (sym e))
-input_count objects (byte index) e = absurd (true≢false (sym e))
-input_count objects (look object keys) e = absurd (true≢false (sym e))
-input_count objects (put object keys values) e = absurd (true≢false (sym e))
-input_count objects (del object keys) e = absurd (true≢false (sym e))
+input_count objects _ e = absurd (true≢false (sym e))
 
 -- a const or a field has a value, so the number of its first is one of the values'
 pub input_low : (f : Program) (i : ℕ) → i < length f.code → is_input (step_at f i).work ≡ true → length (values_below f i) < length (values_of f)
 input_low f i lt input = omega (arith, below_all f i lt, input_count f.objects (step_at f i).work input)
 
-made_none : (live : Bool) → made live None ≡ []
-made_none true = refl
-made_none false = refl
-
 input_keeps : (reads : Reading) (live : Bool) (st : Store) (work : Work) → is_input work ≡ true → made live (change_of reads st work) ≡ []
-input_keeps reads live st (const width number) e = made_none live
-input_keeps reads live st (field name) e = made_none live
-input_keeps reads live st (apply op width args) e = absurd (true≢false (sym e))
-input_keeps reads live st (shift op width arg by) e = absurd (true≢false (sym e))
-input_keeps reads live st (select width one first second) e = absurd (true≢false (sym e))
-input_keeps reads live st (byte index) e = absurd (true≢false (sym e))
-input_keeps reads live st (look object keys) e = absurd (true≢false (sym e))
-input_keeps reads live st (put object keys values) e = absurd (true≢false (sym e))
-input_keeps reads live st (del object keys) e = absurd (true≢false (sym e))
+input_keeps reads live st (const width number) e = none_made live
+input_keeps reads live st (field name) e = none_made live
+input_keeps reads live st _ e = absurd (true≢false (sym e))
 
 -- the server evaluates what is due
 pub due_turn : (f : Program) (split : List Part) (i : ℕ) → is_due f split i ≡ true → is_turn f split i ≡ true
@@ -226,13 +214,13 @@ module _ (f : Program) (split : List Part) (i : ℕ) (idle : is_due f split i �
     changes_stay true mine = ap (λ cs. m.changes ++ cs) (none mine) ∙ append-nil m.changes
     changes_stay false mine = refl
 
-    pub serving_idle : (registers : Registers) (st : Store) (updates : List Update) → AreSpansOf (server_steps f split up start packet) (server_spans f split)
-        → reading_after (server_steps f split up start packet) (contents_at f split up start packet i) (suc i) ≡ contents_at f split up start packet (suc i)
+    pub serving_idle : (registers : Registers) (st : Store) (updates : List Update) → IsWellFormed f → i < length f.code
         → IsServing f split up start packet i registers st updates → IsServing f split up start packet (suc i) registers st updates
-    serving_idle registers st updates are goes so =
+    serving_idle registers st updates well lt so =
         let steps = server_steps f split up start packet in
+        let are = are_spans f split well (number_at f split up start packet) in
         record {
-          ready = subst (λ contents. IsReady (server_spans f split) registers contents (suc i + 1)) goes
+          ready = subst (λ contents. IsReady (server_spans f split) registers contents (suc i + 1)) (contents_after f well split up start packet i lt)
               (ready_idle steps (server_spans f split) registers (contents_at f split up start packet i) (suc i) are
               (subst (IsReady (server_spans f split) registers (contents_at f split up start packet i)) (add-one i) so.ready)
               (span_idle steps refl are));
@@ -242,19 +230,16 @@ module _ (f : Program) (split : List Part) (i : ℕ) (idle : is_due f split i �
 
 -- where no turn is due from one instruction to another
 pub serving_later : (f : Program) (split : List Part) (up : Reading) (start : Store) (packet : Packet) (registers : Registers) (st : Store) (updates : List Update)
-    → AreSpansOf (server_steps f split up start packet) (server_spans f split)
-    → ((i : ℕ) → i < length f.code
-    → reading_after (server_steps f split up start packet) (contents_at f split up start packet i) (suc i) ≡ contents_at f split up start packet (suc i))
-    → (i n : ℕ) → i ≤ n → n ≤ length f.code → ((j : ℕ) → i ≤ j → j < n → is_due f split j ≡ false)
+    → IsWellFormed f → (i n : ℕ) → i ≤ n → n ≤ length f.code → ((j : ℕ) → i ≤ j → j < n → is_due f split j ≡ false)
     → IsServing f split up start packet i registers st updates → IsServing f split up start packet n registers st updates
-serving_later f split up start packet registers st updates are goes i zero le within idle so =
+serving_later f split up start packet registers st updates well i zero le within idle so =
     let e : i ≡ 0 = omega (arith, le) in
     subst (λ k. IsServing f split up start packet k registers st updates) e so
-serving_later f split up start packet registers st updates are goes i (suc n) le within idle so =
+serving_later f split up start packet registers st updates well i (suc n) le within idle so =
     ⊎_elim
     (λ e. subst (λ k. IsServing f split up start packet k registers st updates) e so)
-    (λ less. serving_idle f split n (idle n (omega (arith, less)) (omega arith)) up start packet registers st updates are (goes n (omega (arith, within)))
-    (serving_later f split up start packet registers st updates are goes i n (omega (arith, less)) (omega (arith, within)) (λ j low high. idle j low (omega (arith, high))) so))
+    (λ less. serving_idle f split n (idle n (omega (arith, less)) (omega arith)) up start packet registers st updates well (omega (arith, within))
+    (serving_later f split up start packet registers st updates well i n (omega (arith, less)) (omega (arith, within)) (λ j low high. idle j low (omega (arith, high))) so))
     (eq-or-lt_of_le {n = i} {m = suc n} le)
 
 -- the same of a list's copy, where the default is another

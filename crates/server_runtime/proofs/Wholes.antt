@@ -8,14 +8,12 @@ use Rattle.flat_ir.specs.Blocks.{Reading}
 use Rattle.flat_ir.specs.Program.{Program}
 use Rattle.split_model.specs.declared.layout.Crossing.{Crossing}
 use Rattle.split_model.specs.declared.split.Part.{Part}
-use Rattle.split_model.specs.Crossing.{crosses_down}
-use Rattle.split_model.specs.Laws.{IsSentDown, IsWhole}
 use Rattle.split_model.specs.Layouts.{down_layout, up_layout}
-use Rattle.split_model.specs.Passes.{down_verdict, pre_values, sent_down, server_fields, server_run, IsHanded}
+use Rattle.split_model.specs.Passes.{down_verdict, sent_down, server_fields, server_run}
 use Rattle.transfer_header.specs.Frames.{down_frame, up_frame, IsFrameOf}
 use Rattle.transfer_header.specs.Told.{reads_in, IsToldByPlace}
 use Rattle.transfer_header.specs.Values.{value_by, AreNarrow}
-use Rattle.server_runtime.specs.Serving.{frame_verdict, packet_frame, served_frame, updates_of, IsWholeRun}
+use Rattle.server_runtime.specs.Serving.{frame_verdict, packet_frame, served_frame}
 use Rattle.server_runtime.proofs.Lengths.{length_with_writes}
 
 -- the frame of a reading that fits
@@ -66,23 +64,8 @@ module _ (f : Program) (split : List Part) (st tables_up tables : Store) (number
   sent_is told = λ i. down_frame down_lay (told.numbered i) (told.arrived i) (server_run f split up st (told.carries i)).reads
       (sent_down f split (server_run f split up st (told.carries i)).reads (told.carries i)).bytes
 
-  verdict_is : IsToldByPlace up_lay number packet.port packet.bytes frame
+  pub verdict_is : IsToldByPlace up_lay number packet.port packet.bytes frame
       → IsToldByPlace down_lay number packet.port (sent_down f split server packet).bytes sent
       → frame_verdict f split tables (served_frame f split st frame) ≡ down_verdict f split (reads_in down_lay sent) tables (sent_down f split server packet)
   verdict_is told came =
       ap (frame_verdict f split tables) (sent_is told) ∙ ap (down_verdict f split (reads_in down_lay sent) tables) came.carries
-
-  pub is_whole_run : IsFrameOf 1 up_lay number packet.port (value_by (pre_values f split tables_up packet)) packet.bytes frame
-      → IsToldByPlace up_lay number packet.port packet.bytes frame
-      → IsToldByPlace down_lay number packet.port (sent_down f split server packet).bytes sent
-      → IsWhole f split st tables packet up (reads_in down_lay sent)
-      → IsHanded (crosses_down f split) server (reads_in down_lay sent)
-      → IsSentDown f split tables packet server (reads_in down_lay sent)
-      → IsWholeRun f split st tables number packet frame
-  is_whole_run is told came whole handed down = record {
-    is_frame = record { number = number; port = packet.port; values = value_by (pre_values f split tables_up packet); packet = packet.bytes; is = is };
-    numbered = told.numbered;
-    store = ap (λ p. (server_run f split up st p).store) told.carries ∙ whole.store;
-    updates = ap (λ p. updates_of f split (server_run f split up st p).changes) told.carries ∙ ap (updates_of f split) whole.changes;
-    verdict = verdict_is told came ∙ down.verdict ∙ whole.verdict handed;
-  }

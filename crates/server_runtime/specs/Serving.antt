@@ -8,7 +8,7 @@ use Rattle.state_store.specs.declared.object.ObjectDecl.{ObjectDecl}
 use Rattle.state_store.specs.Store.{Store}
 use Rattle.flat_ir.specs.Kinds.{is_input}
 use Rattle.flat_ir.specs.Program.{Program, Work, step_at}
-use Rattle.flat_ir.specs.Program.Work.{const, field, apply, shift, select, byte, look, put, del}
+use Rattle.flat_ir.specs.Program.Work.{put, del}
 use Rattle.flat_ir.specs.Run.{Change, Machine, flat_changes, flat_store, flat_verdict}
 use Rattle.split_model.specs.declared.split.Part.{Part}
 use Rattle.split_model.specs.Counts.{count_steps}
@@ -56,13 +56,7 @@ version_after version (update ∷ updates) = version + 1
 abbrev pub is_followed : Program → List Part → Work → Bool
 is_followed f split (put object keys values) = is_replicated f split object
 is_followed f split (del object keys) = is_replicated f split object
-is_followed f split (const width number) = false
-is_followed f split (field name) = false
-is_followed f split (apply op width args) = false
-is_followed f split (shift op width arg by) = false
-is_followed f split (select width cond first second) = false
-is_followed f split (byte index) = false
-is_followed f split (look object keys) = false
+is_followed f split _ = false
 
 -- how many instructions write to replicated objects
 abbrev pub followed_writes : Program → List Part → ℕ

@@ -11,7 +11,7 @@ use Rattle.flat_ir.specs.declared.work.Arrival.{Arrival}
 use Rattle.flat_ir.specs.Arrivals.{IsArrival}
 use Rattle.flat_ir.specs.Laws.{AllFit}
 use Rattle.flat_ir.specs.Program.{Program, Work}
-use Rattle.flat_ir.specs.Program.Work.{const, field, apply, shift, select, byte, look, put, del}
+use Rattle.flat_ir.specs.Program.Work.{put, del}
 use Rattle.flat_ir.specs.Blocks.{Reading}
 use Rattle.flat_ir.specs.Run.{made, with_writes, Change}
 use Rattle.flat_ir.specs.Turns.{turn}
@@ -52,13 +52,7 @@ abbrev pub wanted : Reading → Work → Option Change
 wanted reads (put object keys values) =
     Some (record { object = object; key = map reads keys; values = Some (map reads values) })
 wanted reads (del object keys) = Some (record { object = object; key = map reads keys; values = None })
-wanted reads (const width number) = None
-wanted reads (field name) = None
-wanted reads (apply op width args) = None
-wanted reads (shift op width arg by) = None
-wanted reads (select width cond first second) = None
-wanted reads (byte index) = None
-wanted reads (look object keys) = None
+wanted reads _ = None
 
 -- what the switch is told of a change: nothing, where the object isn't replicated
 abbrev pub told_of : Program → List Part → Update → List Update

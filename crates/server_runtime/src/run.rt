@@ -25,7 +25,6 @@ ghost use Rattle.server_runtime.specs.Walks.{AreTurns};
 use crate::plan::{PreparedProgram, ServerPlan};
 use crate::registers::Registers;
 use crate::room::Room;
-use crate::run_laws::{a_frame_is_read, a_server_run_has_an_outcome, a_server_takes_turns};
 use crate::served::ServeError;
 use crate::turn::take_turn;
 use flat_ir::{Arrival, write_fields};
@@ -74,7 +73,6 @@ fn take_turns(
     ensures resolved { AreResolved (program_of whole.now.flat) whole.now.seats.items whole.now.turns.items values.new }
     ensures kept { IsKept whole.now.flat.objects store.new }
 {
-    a_server_takes_turns();
     for turn in &whole.turns {
         take_turn(whole, arrival, turn, values, store, updates);
     }
@@ -138,7 +136,6 @@ fn run(
     ensures resolved { AreResolved (program_of whole.now.flat) whole.now.seats.items whole.now.turns.items values.new }
     ensures kept { IsKept whole.now.flat.objects store.new }
 {
-    a_server_run_has_an_outcome();
     let Room { frame, mut updates } = room;
     take_turns(whole, arrival, values, store, &mut updates);
     let frame = pack_down_in(
@@ -168,7 +165,6 @@ fn read(whole: &PreparedProgram, frame: &[u8], values: &mut Regs) -> Result<Head
     ensures serving { AreServing (program_of whole.now.flat) whole.now.split values.new }
     ensures resolved { AreResolved (program_of whole.now.flat) whole.now.seats.items whole.now.turns.items values.new }
 {
-    a_frame_is_read();
     values.clear();
     unpack_up(&whole.up, frame, values)
 }

@@ -17,14 +17,13 @@ ghost use Rattle.server_runtime.specs.Spans.{last_below, numbers_of, reads_at};
 ghost use Rattle.server_runtime.specs.Spans.{server_spans, values_at, values_kept, writes_at};
 ghost use Rattle.server_runtime.specs.Walks.{is_due, AreLastReads, AreTurns};
 
-use crate::laws::a_server_run_goes_by_steps;
 use crate::plan::{PreparedProgram, Turn};
 use crate::resolved::{seats_of, turn_at};
 use flat_ir::{Instr, InstrKind, RegPlan, Span, Spans, ValueId};
 use gal_io::NoMemory;
 use split_model::Layout;
 use std::alloc::Global;
-use transfer_header::{BlockSteps, Regs, a_plan_keeps_apart, values_have_their_numbers};
+use transfer_header::{BlockSteps, Regs};
 
 // Whether the server evaluates an instruction.
 fn is_mine(whole: &PreparedProgram, instruction: usize, kind: &InstrKind) -> bool
@@ -235,7 +234,6 @@ fn last_reads(alloc: Global, whole: &PreparedProgram) -> Result<Vec<u32>, NoMemo
     requires { IsPrepared whole.now }
     ensures { IfOk result (λ last. AreLastReads (program_of whole.now.flat) whole.now.split last.items) }
 {
-    values_have_their_numbers();
     let mut last = turn_reads(alloc, whole)?;
     let numbers = numbers_kept(alloc, whole)?;
     note(&numbers, whole.flat.code.len() as u32 + 1, &mut last);
@@ -305,7 +303,6 @@ fn spans_of(alloc: Global, whole: &PreparedProgram, last: &[u32]) -> Result<Span
     requires last { AreLastReads (program_of whole.now.flat) whole.now.split last.now }
     ensures { IfOk result (λ spans. spans ≡ server_spans (program_of whole.now.flat) whole.now.split) }
 {
-    values_have_their_numbers();
     let mut spans = Spans::new(alloc);
     let handed = numbers_handed(alloc, whole)?;
     push_spans(&mut spans, 0, &handed, last)?;
@@ -370,8 +367,6 @@ pub(crate) fn course_of(alloc: Global, whole: &PreparedProgram) -> Result<Course
     ensures turns { IfOk result (λ made.
         AreTurns (program_of whole.now.flat) whole.now.split (turns_at made.turns.items)) }
 {
-    a_plan_keeps_apart();
-    a_server_run_goes_by_steps();
     let last = last_reads(alloc, whole)?;
     let spans = spans_of(alloc, whole, &last)?;
     let plan = RegPlan::of(alloc, &spans)?;

@@ -7,7 +7,7 @@ ghost use Rattle.flat_ir.specs.Program.{program_of};
 ghost use Rattle.flat_ir.specs.WellFormed.{IsWellFormed};
 
 use crate::samples::TRANSLATOR;
-use element_interp::{run, stores_are_kept};
+use element_interp::run;
 use element_lang::Middlebox;
 use element_text::read;
 use flat_ir::{Flat, eval_flat};
@@ -148,7 +148,6 @@ fn start(alloc: Global, m: &Middlebox, f: &Flat) -> Result<Store, NoMemory>
     requires objects { (program_of f.now).objects ≡ (tree m.now).objects }
     ensures { IfOk result (λ store. IsKept f.now.objects store) }
 {
-    stores_are_kept();
     Ok(Store::new(alloc, &m.objects)?)
 }
 

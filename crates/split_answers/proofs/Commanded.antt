@@ -6,13 +6,12 @@ use Rattle.std.proofs.lemmas.Option.{unwrap_or-slice_get}
 use Rattle.state_store.specs.declared.object.ObjectDecl.{ObjectDecl}
 use Rattle.state_store.specs.Kinds.{is_table}
 use Rattle.writeback_table.specs.declared.command.Command.{Command}
-use Rattle.writeback_table.specs.declared.command.Command.TheVariants.{Stage, On, Main, Off, Clear}
+use Rattle.writeback_table.specs.declared.command.Command.TheVariants.{Stage, Main, Clear}
 use Rattle.writeback_table.specs.Commands.{names, pair_after, pair_through, bit_after, bit_through}
 use Rattle.writeback_table.specs.Pair.{Pair, applied}
 use Rattle.switch_ir.specs.Code.{Code}
 use Rattle.switch_ir.specs.Port.{IsCommandOf, IsReplicatedIn}
-use Rattle.switch_ir.specs.Tables.{IsStart, Told, declared_at, no_pair, pair_at, pairs_after, start_pair, told_after, with_command}
-use Rattle.split_answers.specs.Through.{IsThrough}
+use Rattle.switch_ir.specs.Tables.{declared_at, no_pair, pair_at, pairs_after, with_command}
 
 -- ## One command behind others
 
@@ -50,17 +49,15 @@ with_pair pairs k o command within =
 
 pub pair_goes : (pairs : List Pair) (o : ℕ) (command : Command) → o < length pairs → pair_at (pairs_after pairs command) o ≡ pair_after o (pair_at pairs o) command
 pair_goes pairs o (Stage update) within = with_pair pairs update.object o (Stage update) within
-pair_goes pairs o On within = refl
 pair_goes pairs o (Main update) within = with_pair pairs update.object o (Main update) within
-pair_goes pairs o Off within = refl
 pair_goes pairs o (Clear object key) within = with_pair pairs object o (Clear object key) within
+pair_goes pairs o command within = refl
 
 pub as_many : (pairs : List Pair) (command : Command) → length (pairs_after pairs command) ≡ length pairs
 as_many pairs (Stage update) = length-set pairs update.object (applied (pair_at pairs update.object) (Stage update))
-as_many pairs On = refl
 as_many pairs (Main update) = length-set pairs update.object (applied (pair_at pairs update.object) (Main update))
-as_many pairs Off = refl
 as_many pairs (Clear object key) = length-set pairs object (applied (pair_at pairs object) (Clear object key))
+as_many pairs command = refl
 
 -- ## Constant tables
 
@@ -76,33 +73,9 @@ not_changed code k o d e is table changes =
     (λ no. no)
     (cases_Bool (k == o))
 
-unnamed : (code : Code) (o : ℕ) (d : ObjectDecl) (command : Command) → declared_at code.tables o ≡ Some d → is_table d.kind ≡ true → IsCommandOf code command → names o command ≡ false
+pub unnamed : (code : Code) (o : ℕ) (d : ObjectDecl) (command : Command) → declared_at code.tables o ≡ Some d → is_table d.kind ≡ true
+    → IsCommandOf code command → names o command ≡ false
 unnamed code o d (Stage update) is table own = not_changed code update.object o d own.0 is table own.1
-unnamed code o d On is table own = refl
 unnamed code o d (Main update) is table own = not_changed code update.object o d own.0 is table own.1
-unnamed code o d Off is table own = refl
 unnamed code o d (Clear object key) is table own = not_changed code object o d own.0 is table own.1
-
--- ## All tables
-
-pub starts_through : (code : Code) (told : Told) → IsStart code told → IsThrough code [] told
-starts_through code told start = record {
-  there = start.there;
-  pairs = λ o d is. start.pairs o ∙ ap (start_pair code.writeback) is.declared;
-  constant = λ o d is table. start.pairs o ∙ ap (start_pair code.writeback) is;
-  bit = start.bit;
-}
-
-pub goes_through : (code : Code) (commands : List Command) (command : Command) (told : Told) → IsThrough code commands told → IsCommandOf code command → IsThrough code (commands ++ command ∷ []) (told_after command told)
-goes_through code commands command told through own = record {
-  there = λ o d is. omega (arith, as_many told.pairs command, through.there o d is);
-  pairs = λ o d is.
-      let start : Pair = start_pair code.writeback (Some d) in
-      pair_goes told.pairs o command (through.there o d is.declared) ∙ ap (λ p. pair_after o p command) (through.pairs o d is) ∙ sym (one_more o start commands command);
-  constant = λ o d is table.
-      let pair : Pair = pair_at told.pairs o in
-      pair_goes told.pairs o command (through.there o d is)
-      ∙ cond-false (names o command) (applied pair command) pair (unnamed code o d command is table own)
-      ∙ through.constant o d is table;
-  bit = ap (λ b. bit_after b command) through.bit ∙ sym (bit_more false commands command);
-}
+unnamed code o d command is table own = refl

@@ -1,12 +1,11 @@
 -- Which objects the code of a split program has tables for.
-use Rattle.std.proofs.Common.{◌≡◌, ◌<◌, ◌+◌, ◌==◌, ℕ, zero, suc, Bool, true, false, not, ◌&&◌, ◌||◌, List, [], ◌∷◌, ◌++◌, length, Option, Some, None, slice_get, refl, sym, ap, ◌∙◌, subst, arith, ⊎_elim, if◌then◌else◌}
-use Rattle.std.proofs.lemmas.Bool.{and_parts, and_from, or_left, or_cases, cond-true, cond-false, eq-eqb, eqb-true, ne_eqb, false≢true, true≢false}
+use Rattle.std.proofs.Common.{◌≡◌, ◌<◌, ◌+◌, ◌==◌, ℕ, zero, suc, Bool, true, false, not, ◌&&◌, ◌||◌, List, [], ◌∷◌, ◌++◌, length, Option, Some, None, slice_get, refl, sym, ap, ◌∙◌, subst, arith, ⊎_elim, if◌then◌else◌, inl, inr}
+use Rattle.std.proofs.lemmas.Bool.{and_parts, and_from, or_left, or_cases, cond-true, cond-false, eq-eqb, eqb-true, ne_eqb, false≢true, true≢false, cases_Bool, not-false, not-true}
 use Rattle.std.proofs.lemmas.Option.{slice_get_within}
 use Rattle.state_store.specs.declared.object.ObjectDecl.{ObjectDecl}
 use Rattle.state_store.specs.Kinds.{is_table, is_constant}
-use Rattle.state_store.specs.Store.{start_object, start_store, object_at}
 use Rattle.flat_ir.specs.Program.{Program, Work, step_at}
-use Rattle.flat_ir.specs.Program.Work.{const, field, apply, shift, select, byte, look, put, del}
+use Rattle.flat_ir.specs.Program.Work.{look}
 use Rattle.flat_ir.specs.Fits.{fits, fits_keys, widths_of}
 use Rattle.flat_ir.specs.Kinds.{fits_switch, is_field, is_mutable_look}
 use Rattle.flat_ir.specs.WellFormed.{IsWellFormed}
@@ -14,27 +13,15 @@ use Rattle.split_model.specs.declared.split.Part.{Part}
 use Rattle.split_model.specs.Counts.{is_post_shown}
 use Rattle.split_model.specs.Legal.{IsLegal}
 use Rattle.split_model.specs.Shown.{is_replicated, is_shown, looks_at}
-use Rattle.split_model.specs.Split.{any_below, is_post, is_pre}
+use Rattle.split_model.specs.Split.{is_post, is_pre}
 use Rattle.switch_ir.specs.declared.code.Table.{Table}
 use Rattle.switch_ir.specs.Emitted.{is_looked_up, tables_from}
 use Rattle.switch_ir.specs.Tables.{declared_at}
+use Rattle.flat_ir.proofs.Passing.{passes_any}
+use Rattle.lemmas.proofs.Lists.{get_within}
+use Rattle.state_store.proofs.Constants.{constant_at}
 
 -- ## Objects by their place
-
-pub constant_at : (ds : List ObjectDecl) (o : ℕ) (d : ObjectDecl) → slice_get ds o ≡ Some d → is_constant ds o ≡ is_table d.kind
-constant_at [] o d e = cc
-constant_at (x ∷ ds) zero d e = cc
-constant_at (x ∷ ds) (suc o) d e = constant_at ds o d e
-
-pub started_at : (ds : List ObjectDecl) (o : ℕ) (d : ObjectDecl) → slice_get ds o ≡ Some d → object_at (start_store ds) o ≡ start_object d
-started_at [] o d e = cc
-started_at (x ∷ ds) zero d e = let same : x ≡ d = cc in ap start_object same
-started_at (x ∷ ds) (suc o) d e = started_at ds o d e
-
-pub there_at : {X : Type 0} (xs : List X) (o : ℕ) → o < length xs → (x : X) × (slice_get xs o ≡ Some x)
-there_at [] o within = absurd (omega (arith, within))
-there_at (x ∷ xs) zero within = (x, refl)
-there_at (x ∷ xs) (suc o) within = there_at xs o (omega (arith, within))
 
 -- ## The tables that are emitted
 
@@ -44,18 +31,12 @@ module _ (f : Program) (split : List Part) where
 
   -- what stands in front of other tables
   found_first : (o n : ℕ) (d : ObjectDecl) (ts : List Table) → o ≡ n → declared_at (own o d ++ ts) n ≡ (if is_looked_up f split o then Some d else declared_at ts n)
-  found_first o n d ts same = by_test (is_looked_up f split o)
-    where
-      by_test : (b : Bool) → declared_at ((if b then record { number = o; object = d } ∷ [] else []) ++ ts) n ≡ (if b then Some d else declared_at ts n)
-      by_test true = cond-true (o == n) (Some d) (declared_at ts n) (eq-eqb o n same)
-      by_test false = refl
+  found_first o n d ts same =
+      elim (cases_Bool (is_looked_up f split o)) [ inl t ↦ rw t (cond-true (o == n) (Some d) (declared_at ts n) (eq-eqb o n same)) | inr t ↦ rw t refl ]
 
   passed_over : (o n : ℕ) (d : ObjectDecl) (ts : List Table) → (o ≡ n → ⊥) → declared_at (own o d ++ ts) n ≡ declared_at ts n
-  passed_over o n d ts apart = by_test (is_looked_up f split o)
-    where
-      by_test : (b : Bool) → declared_at ((if b then record { number = o; object = d } ∷ [] else []) ++ ts) n ≡ declared_at ts n
-      by_test true = cond-false (o == n) (Some d) (declared_at ts n) (ne_eqb o n apart)
-      by_test false = refl
+  passed_over o n d ts apart =
+      elim (cases_Bool (is_looked_up f split o)) [ inl t ↦ rw t (cond-false (o == n) (Some d) (declared_at ts n) (ne_eqb o n apart)) | inr t ↦ rw t refl ]
 
   none_before : (ds : List ObjectDecl) (o n : ℕ) → n < o → declared_at (tables_from f split o ds) n ≡ None
   none_before [] o n low = refl
@@ -98,54 +79,27 @@ keys_there objects o widths (Some d) is fit = slice_get_within objects o d is
 pub looked_there : (f : Program) (o : ℕ) (work : Work) → looks_at o work ≡ true → fits f work ≡ true → o < length f.objects
 looked_there f o (look object keys) looks fit =
     subst (λ k. k < length f.objects) (eqb-true object o looks) (keys_there f.objects object (widths_of f keys) (slice_get f.objects object) refl fit)
-looked_there f o (const width number) looks fit = absurd (false≢true looks)
-looked_there f o (field name) looks fit = absurd (false≢true looks)
-looked_there f o (apply op width args) looks fit = absurd (false≢true looks)
-looked_there f o (shift op width arg by) looks fit = absurd (false≢true looks)
-looked_there f o (select width cond first second) looks fit = absurd (false≢true looks)
-looked_there f o (byte index) looks fit = absurd (false≢true looks)
-looked_there f o (put object keys values) looks fit = absurd (false≢true looks)
-looked_there f o (del object keys) looks fit = absurd (false≢true looks)
-
--- some instruction that passes a test
-some_below : (n : ℕ) (test : ℕ → Bool) → any_below n test ≡ true → (i : ℕ) × (i < n) × (test i ≡ true)
-some_below zero test e = absurd (false≢true e)
-some_below (suc n) test e =
-    ⊎_elim
-    (λ earlier. let found = some_below n test earlier in (found.0, omega (arith, found.1), found.2))
-    (λ here. (n, omega arith, here))
-    (or_cases (any_below n test) (test n) e)
+looked_there f o work looks fit = absurd (false≢true looks)
 
 pub shown_there : (f : Program) (split : List Part) (o : ℕ) → IsWellFormed f → is_shown f split o ≡ true → o < length f.objects
 shown_there f split o well shown =
-    let found = some_below (length f.code) (λ i. is_pre split i && looks_at o (step_at f i).work) shown in
+    let found = passes_any (length f.code) (λ i. is_pre split i && looks_at o (step_at f i).work) shown in
     looked_there f o (step_at f found.0).work (and_parts (is_pre split found.0) (looks_at o (step_at f found.0).work) found.2).1 (well.fit found.0 found.1)
 
 post_there : (f : Program) (split : List Part) (o : ℕ) → IsWellFormed f → is_post_shown f split o ≡ true → o < length f.objects
 post_there f split o well shown =
-    let found = some_below (length f.code) (λ i. is_post split i && looks_at o (step_at f i).work) shown in
+    let found = passes_any (length f.code) (λ i. is_post split i && looks_at o (step_at f i).work) shown in
     looked_there f o (step_at f found.0).work (and_parts (is_post split found.0) (looks_at o (step_at f found.0).work) found.2).1 (well.fit found.0 found.1)
 
 -- an object that is looked up is declared
 pub looked_up_declared : (f : Program) (split : List Part) (o : ℕ) → IsWellFormed f → is_looked_up f split o ≡ true → (d : ObjectDecl) × (slice_get f.objects o ≡ Some d)
 looked_up_declared f split o well looked =
-    there_at f.objects o (⊎_elim (shown_there f split o well) (post_there f split o well) (or_cases (is_shown f split o) (is_post_shown f split o) looked))
+    get_within f.objects o (⊎_elim (shown_there f split o well) (post_there f split o well) (or_cases (is_shown f split o) (is_post_shown f split o) looked))
 
 -- a look of postprocessing is one of a constant table
 looks_constant : (f : Program) (o : ℕ) (work : Work) → looks_at o work ≡ true → is_mutable_look f work ≡ false → is_constant f.objects o ≡ true
-looks_constant f o (look object keys) looks fixed = ap (is_constant f.objects) (sym (eqb-true object o looks)) ∙ not_false (is_constant f.objects object) fixed
-  where
-    not_false : (b : Bool) → not b ≡ false → b ≡ true
-    not_false true e = refl
-    not_false false e = absurd (true≢false e)
-looks_constant f o (const width number) looks fixed = absurd (false≢true looks)
-looks_constant f o (field name) looks fixed = absurd (false≢true looks)
-looks_constant f o (apply op width args) looks fixed = absurd (false≢true looks)
-looks_constant f o (shift op width arg by) looks fixed = absurd (false≢true looks)
-looks_constant f o (select width cond first second) looks fixed = absurd (false≢true looks)
-looks_constant f o (byte index) looks fixed = absurd (false≢true looks)
-looks_constant f o (put object keys values) looks fixed = absurd (false≢true looks)
-looks_constant f o (del object keys) looks fixed = absurd (false≢true looks)
+looks_constant f o (look object keys) looks fixed = ap (is_constant f.objects) (sym (eqb-true object o looks)) ∙ not-false (is_constant f.objects object) fixed
+looks_constant f o work looks fixed = absurd (false≢true looks)
 
 first_false : (post bad mutable read : Bool) → (post && (bad || (mutable || read))) ≡ false → post ≡ true → mutable ≡ false
 first_false true true mutable read e is = absurd (true≢false e)
@@ -155,7 +109,7 @@ first_false false bad mutable read e is = absurd (false≢true is)
 
 pub post_constant : (f : Program) (split : List Part) (o : ℕ) → IsLegal f split → is_post_shown f split o ≡ true → is_constant f.objects o ≡ true
 post_constant f split o legal shown =
-    let found = some_below (length f.code) (λ i. is_post split i && looks_at o (step_at f i).work) shown in
+    let found = passes_any (length f.code) (λ i. is_post split i && looks_at o (step_at f i).work) shown in
     let i : ℕ = found.0 in
     let parts = and_parts (is_post split i) (looks_at o (step_at f i).work) found.2 in
     looks_constant f o (step_at f i).work parts.1
@@ -172,8 +126,4 @@ can_change f split o d legal looked is changes =
 pub replicated_parts : (f : Program) (split : List Part) (o : ℕ) → is_replicated f split o ≡ true → (is_constant f.objects o ≡ false) × (is_shown f split o ≡ true) × (is_looked_up f split o ≡ true)
 replicated_parts f split o e =
     let parts = and_parts (not (is_constant f.objects o)) (is_shown f split o) e in
-    (not_true (is_constant f.objects o) parts.0, parts.1, or_left (is_shown f split o) (is_post_shown f split o) parts.1)
-  where
-    not_true : (b : Bool) → not b ≡ true → b ≡ false
-    not_true true h = absurd (false≢true h)
-    not_true false h = refl
+    (not-true (is_constant f.objects o) parts.0, parts.1, or_left (is_shown f split o) (is_post_shown f split o) parts.1)

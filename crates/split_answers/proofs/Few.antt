@@ -1,22 +1,18 @@
 -- A whole run changes replicated objects no more often than there are writes to them.
-use Rattle.std.proofs.Common.{◌≤◌, ℕ, zero, suc, Bool, true, false, cond, List, [], ◌∷◌, length, map, Some, None, ap, arith, if◌then◌else◌, is_some}
+use Rattle.std.proofs.Common.{◌≤◌, ℕ, zero, suc, Bool, true, false, List, length, map, Some, None, ap, arith, if◌then◌else◌, is_some}
 use Rattle.std.proofs.lemmas.List.{length-append}
 use Rattle.packet_fields.specs.declared.packet.Packet.{Packet}
 use Rattle.state_store.specs.Store.{Store, object_at, put_answer, is_stored}
 use Rattle.state_store.specs.Store as store
 use Rattle.flat_ir.specs.Blocks.{Reading, is_live}
 use Rattle.flat_ir.specs.Program.{Program, Work, step_at}
-use Rattle.flat_ir.specs.Program.Work.{const, field, apply, shift, select, byte, look, put, del}
+use Rattle.flat_ir.specs.Program.Work.{put, del}
 use Rattle.flat_ir.specs.Run.{Change, after, change_of, made}
 use Rattle.split_model.specs.declared.split.Part.{Part}
 use Rattle.split_model.specs.Counts.{count_below}
 use Rattle.split_model.specs.Shown.{is_replicated}
-use Rattle.server_runtime.specs.Serving.{is_followed, update_of, updates_of}
-use Rattle.split_answers.proofs.Runs.{told_append}
-
-picked_few : (b : Bool) (c : Change) → length (map update_of (cond b (c ∷ []) [])) ≤ (if b then 1 else 0)
-picked_few true c = omega arith
-picked_few false c = omega arith
+use Rattle.server_runtime.specs.Serving.{is_followed, updates_of}
+use Rattle.server_runtime.proofs.Told.{picked_few, updates_append}
 
 module _ (f : Program) (split : List Part) where
   none_few : (live : Bool) → length (updates_of f split (made live None)) ≤ 0
@@ -35,13 +31,7 @@ module _ (f : Program) (split : List Part) where
       made_few live (is_stored (put_answer (object_at st object) (map reads keys))) (record { object = object; key = map reads keys; values = Some (map reads values) })
   work_few reads live st (del object keys) =
       made_few live (is_some (store.look (object_at st object) (map reads keys))) (record { object = object; key = map reads keys; values = None })
-  work_few reads live st (const width number) = none_few live
-  work_few reads live st (field name) = none_few live
-  work_few reads live st (apply op width args) = none_few live
-  work_few reads live st (shift op width arg by) = none_few live
-  work_few reads live st (select width cond first second) = none_few live
-  work_few reads live st (byte index) = none_few live
-  work_few reads live st (look object keys) = none_few live
+  work_few reads live st work = none_few live
 
   pub run_few : (st : Store) (packet : Packet) (n : ℕ) → length (updates_of f split (after f st packet n).changes) ≤ count_below n (λ i. is_followed f split (step_at f i).work)
   run_few st packet zero = omega arith
@@ -50,4 +40,4 @@ module _ (f : Program) (split : List Part) where
       let more = made (is_live f.blocks m.reads (step_at f n).block) (change_of m.reads m.store (step_at f n).work) in
       let old = run_few st packet n in
       let new = work_few m.reads (is_live f.blocks m.reads (step_at f n).block) m.store (step_at f n).work in
-      omega (arith, ap length (told_append f split m.changes more), length-append (updates_of f split m.changes) (updates_of f split more), old, new)
+      omega (arith, ap length (updates_append f split m.changes more), length-append (updates_of f split m.changes) (updates_of f split more), old, new)

@@ -4,6 +4,8 @@ use Rattle.std.proofs.Common.{if◌then◌else◌}
 use Rattle.state_store.specs.Store.{Object}
 use Rattle.writeback_table.specs.declared.command.Update.{Update}
 use Rattle.writeback_table.specs.Batches.{changed_at, changed_by, takes_at, count_of, TakesAll}
+use Rattle.output_commit.proofs.Fitting.{count_append}
+use Rattle.replay_state.proofs.History.{changed_append, takes_append}
 
 -- the updates turn one object into the other, each finds room there in turn, and at most so many are of this object
 pub record Follows (o : ℕ) (before after : Object) (updates : List Update) (most : ℕ) : Type 0 where
@@ -11,25 +13,11 @@ pub record Follows (o : ℕ) (before after : Object) (updates : List Update) (mo
   pub taken : TakesAll o before updates
   pub few : count_of o updates ≤ most
 
-changed_append : (o : ℕ) (x : Object) (us vs : List Update)
-    → changed_by o x (us ++ vs) ≡ changed_by o (changed_by o x us) vs
-changed_append o x [] vs = refl
-changed_append o x (u ∷ us) vs = changed_append o (changed_at o x u) us vs
-
-taken_append : (o : ℕ) (x : Object) (us vs : List Update)
-    → TakesAll o x us → TakesAll o (changed_by o x us) vs → TakesAll o x (us ++ vs)
-taken_append o x [] vs first second = second
-taken_append o x (u ∷ us) vs first second = (first.0, taken_append o (changed_at o x u) us vs first.1 second)
-
-count_append : (o : ℕ) (us vs : List Update) → count_of o (us ++ vs) ≡ count_of o us + count_of o vs
-count_append o [] vs = omega arith
-count_append o (u ∷ us) vs = omega (arith, count_append o us vs)
-
 pub follows_both : (o : ℕ) (a b c : Object) (us vs : List Update) (m n : ℕ)
     → Follows o a b us m → Follows o b c vs n → Follows o a c (us ++ vs) (m + n)
 follows_both o a b c us vs m n first second = record {
   changed = second.changed ∙ ap (λ x. changed_by o x vs) first.changed ∙ sym (changed_append o a us vs);
-  taken = taken_append o a us vs first.taken (subst (λ x. TakesAll o x vs) first.changed second.taken);
+  taken = takes_append o a us vs first.taken (subst (λ x. TakesAll o x vs) first.changed second.taken);
   few = omega (arith, count_append o us vs, first.few, second.few);
 }
 

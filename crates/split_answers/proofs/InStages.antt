@@ -3,7 +3,7 @@ use Rattle.std.proofs.Common.{◌≡◌, ◌≤◌, ◌<◌, ◌==◌, ◌%◌, 
 use Rattle.std.specs.Prelude.{unwrap_or}
 use Rattle.std.specs.List.{AllByRecursion as Each, list_any, list_all}
 use Rattle.std.specs.Int.{to_be_bytes, w32}
-use Rattle.std.proofs.lemmas.Bool.{cond-true, cond-false, cases_Bool, eq-eqb, eqb-true, lt-ltb, and_parts, and_from, or_left, or_right, or_parts, or_from, false≢true, true≢false}
+use Rattle.std.proofs.lemmas.Bool.{cond-true, cond-false, cases_Bool, eq-eqb, eqb-true, lt-ltb, and_parts, or_left, or_right, or_parts, or_from, false≢true, true≢false}
 use Rattle.packet_fields.specs.declared.packet.Packet.{Packet}
 use Rattle.packet_fields.specs.declared.verdict.Verdict.TheVariants.{Drop, Send}
 use Rattle.packet_fields.specs.Fields.{with_field}
@@ -12,10 +12,10 @@ use Rattle.flat_ir.specs.declared.program.ValueId.{ValueId}
 use Rattle.flat_ir.specs.declared.program.FieldValue.{FieldValue}
 use Rattle.flat_ir.specs.declared.program.Block.{Block}
 use Rattle.flat_ir.specs.Program.{Work, operands}
-use Rattle.flat_ir.specs.Program.Work.{const, field, apply, shift, select, byte, look, put, del}
+use Rattle.flat_ir.specs.Program.Work.{look}
 use Rattle.flat_ir.specs.Blocks.{Reading, is_on, same, block_at, line, holds, is_live}
 use Rattle.flat_ir.specs.Run.{results, with_writes}
-use Rattle.flat_ir.specs.Laws.{Same, SameFor}
+use Rattle.flat_ir.specs.Laws.{Same}
 use Rattle.split_model.specs.declared.layout.Crossing.{Crossing}
 use Rattle.split_model.specs.Crossing.{is_value, is_among}
 use Rattle.split_model.specs.Shown.{looks_at}
@@ -32,37 +32,20 @@ use Rattle.switch_ir.specs.declared.port.UpEnd.TheVariants as up
 use Rattle.switch_ir.specs.declared.port.DownEnd.{DownEnd}
 use Rattle.switch_ir.specs.declared.port.DownEnd.TheVariants as down
 use Rattle.split_answers.specs.UnderWay.{HasNoMore}
+use Rattle.flat_ir.proofs.Exact.{same_itself}
+use Rattle.flat_ir.proofs.Laws.{readings_that_agree-operands, readings_that_agree-results}
+use Rattle.lemmas.proofs.Lists.{each_both, each_weaker}
+use Rattle.split_model.proofs.Sights.{each_among}
 
 -- the numbers agree on what is read once all stages are done
 abbrev pub AgreeLast : Staging → Reading → Reading → Type 0
 AgreeLast p reads others = (v : ValueId) → is_read_last p.layout p.code v ≡ true → reads v ≡ others v
 
--- readings that agree on what an instruction reads
-pub record Agreements : Type 0 where
-  pub operands : (r r' : Reading) (work : Work) → Each (Same r r') (operands work) → SameFor r r' work
-  pub results : (r r' : Reading) (live : Bool) (st : Store) (packet : Packet) (work : Work) → SameFor r r' work → results r live st packet work ≡ results r' live st packet work
-
 -- ## Lists and tests
-
-each_weaker : {X : Type 0} (P Q : X → Type 0) → ((x : X) → P x → Q x) → (xs : List X) → Each P xs → Each Q xs
-each_weaker P Q go [] h = tt
-each_weaker P Q go (x ∷ xs) h = (go x h.0, each_weaker P Q go xs h.1)
-
-each_both : {X : Type 0} (P Q : X → Type 0) → (xs : List X) → Each P xs → Each Q xs → Each (λ x. P x × Q x) xs
-each_both P Q [] h k = tt
-each_both P Q (x ∷ xs) h k = ((h.0, k.0), each_both P Q xs h.1 k.1)
 
 chosen : (b : Bool) {x x' y y' : ℕ} → (b ≡ true → x ≡ x') → (b ≡ false → y ≡ y') → (if b then x else y) ≡ (if b then x' else y')
 chosen true first second = first refl
 chosen false first second = second refl
-
-value_self : (v : ValueId) → is_value v v ≡ true
-value_self v = and_from (v.instruction == v.instruction) (v.result == v.result) (eq-eqb v.instruction v.instruction refl) (eq-eqb v.result v.result refl)
-
-each_among : (vs : List ValueId) → Each (λ v. is_among v vs ≡ true) vs
-each_among [] = tt
-each_among (w ∷ vs) =
-    (or_left (is_value w w) (is_among w vs) (value_self w), each_weaker (λ v. is_among v vs ≡ true) (λ v. is_among v (w ∷ vs) ≡ true) (λ v h. or_right (is_value v w) (is_among v vs) h) vs (each_among vs))
 
 -- ## What instructions read and look up
 
@@ -95,15 +78,8 @@ abbrev SameObjects : Store → Store → Work → Type 0
 SameObjects view tables work = (o : ℕ) → looks_at o work ≡ true → object_at view o ≡ object_at tables o
 
 seen_same : (r : Reading) (view tables : Store) (packet : Packet) (work : Work) → SameObjects view tables work → results r false view packet work ≡ results r false tables packet work
-seen_same r view tables packet (const width number) h = refl
-seen_same r view tables packet (field name) h = refl
-seen_same r view tables packet (apply op width args) h = refl
-seen_same r view tables packet (shift op width arg by) h = refl
-seen_same r view tables packet (select width c first second) h = refl
-seen_same r view tables packet (byte index) h = refl
 seen_same r view tables packet (look object keys) h = rw (h object (eq-eqb object object refl)) refl
-seen_same r view tables packet (put object keys values) h = refl
-seen_same r view tables packet (del object keys) h = refl
+seen_same r view tables packet work h = refl
 
 -- ## One stage
 
@@ -157,40 +133,45 @@ module _ (p : Staging) (given : Reading) (tables : Store) (packet : Packet) wher
     knows : (t : ℕ) (numbers : Numbers) (v : ValueId) → Over t numbers → is_read_later p t v ≡ true → known numbers v ≡ done (suc t) v
     knows t numbers v over later = knows_by t numbers v over later (numbers v) refl
 
-    module _ (agree : Agreements) where
-      -- an instruction of the next stage gives, from what is known, what it gives in the whole pass
-      gives : (t : ℕ) (old : Numbers) (view : Store) (v : ValueId) → Over t old → Sees p view tables → (s : Step) → IsReader steps s × IsLooker steps s
-          → GivesSame (suc t) (known old) (done (suc t)) view tables packet v s
-      gives t old view v over sees s h own =
-          let stage : s.stage ≡ suc t = eqb-true s.stage (suc t) (and_parts (s.stage == suc t) (s.instruction == v.instruction) own).0 in
-          agree.results (known old) (done (suc t)) false view packet s.work
-          (agree.operands (known old) (done (suc t)) s.work (each_weaker (λ w. s.stage ≤ last_stage steps w) (Same (known old) (done (suc t))) (λ w k. knows t old w over (read_by t w (omega (arith, stage, k)))) (operands s.work) h.0))
-          ∙ seen_same (done (suc t)) view tables packet s.work (λ o k. sees o (h.1 o k))
+    -- an instruction of the next stage gives, from what is known, what it gives in the whole pass
+    gives : (t : ℕ) (old : Numbers) (view : Store) (v : ValueId) → Over t old → Sees p view tables → (s : Step) → IsReader steps s × IsLooker steps s
+        → GivesSame (suc t) (known old) (done (suc t)) view tables packet v s
+    gives t old view v over sees s h own =
+        let stage : s.stage ≡ suc t = eqb-true s.stage (suc t) (and_parts (s.stage == suc t) (s.instruction == v.instruction) own).0 in
+        readings_that_agree-results (known old) (done (suc t)) false view packet s.work
+        (readings_that_agree-operands (known old) (done (suc t)) s.work
+        (each_weaker (λ w. s.stage ≤ last_stage steps w) (Same (known old) (done (suc t))) (λ w k. knows t old w over (read_by t w (omega (arith, stage, k))))
+        (operands s.work) h.0))
+        ∙ seen_same (done (suc t)) view tables packet s.work (λ o k. sees o (h.1 o k))
 
-      all_give : (t : ℕ) (old : Numbers) (view : Store) (v : ValueId) → Over t old → Sees p view tables → Each (GivesSame (suc t) (known old) (done (suc t)) view tables packet v) steps
-      all_give t old view v over sees =
-          each_weaker (λ s. IsReader steps s × IsLooker steps s) (GivesSame (suc t) (known old) (done (suc t)) view tables packet v) (gives t old view v over sees) steps
-          (each_both (IsReader steps) (IsLooker steps) steps (readers steps) (lookers steps))
+    all_give : (t : ℕ) (old : Numbers) (view : Store) (v : ValueId) → Over t old → Sees p view tables
+        → Each (GivesSame (suc t) (known old) (done (suc t)) view tables packet v) steps
+    all_give t old view v over sees =
+        each_weaker (λ s. IsReader steps s × IsLooker steps s) (GivesSame (suc t) (known old) (done (suc t)) view tables packet v)
+        (gives t old view v over sees) steps
+        (each_both (IsReader steps) (IsLooker steps) steps (readers steps) (lookers steps))
 
-      pub staged_over : (t : ℕ) (old new : Numbers) (view : Store) → Over t old → IsStaged p (suc t) old view packet new → Sees p view tables → Over (suc t) new
-      staged_over t old new view over staged sees = record {
-        enough = staged.enough;
-        right = λ v n e. ⊎_elim
-            (λ own. staged.newest v n own e
-            ∙ stage_same steps (suc t) (known old) (done (suc t)) view tables packet v (all_give t old view v over sees) (λ none. absurd (true≢false (sym own ∙ none))))
-            (λ other. over.right v n (staged.earlier v n other e) ∙ sym (stage_none steps (suc t) (done (suc t)) tables packet v other))
-            (cases_Bool (is_of_stage steps (suc t) v));
-      }
+    pub staged_over : (t : ℕ) (old new : Numbers) (view : Store) → Over t old → IsStaged p (suc t) old view packet new → Sees p view tables → Over (suc t) new
+    staged_over t old new view over staged sees = record {
+      enough = staged.enough;
+      right = λ v n e. ⊎_elim
+          (λ own. staged.newest v n own e
+          ∙ stage_same steps (suc t) (known old) (done (suc t)) view tables packet v (all_give t old view v over sees)
+          (λ none. absurd (true≢false (sym own ∙ none))))
+          (λ other. over.right v n (staged.earlier v n other e) ∙ sym (stage_none steps (suc t) (done (suc t)) tables packet v other))
+          (cases_Bool (is_of_stage steps (suc t) v));
+    }
 
-      last_over : (t : ℕ) (old : Numbers) (view : Store) → t ≤ p.code.highest → Over t old → Sees p view tables → AgreeLast p (last_numbers p (suc t) old view packet) (done (suc (suc t)))
-      last_over t old view low over sees v last =
-          stage_same steps (suc t) (known old) (done (suc t)) view tables packet v (all_give t old view v over sees)
-          (λ none. knows t old v over (read_at_last t v low last))
+    last_over : (t : ℕ) (old : Numbers) (view : Store) → t ≤ p.code.highest → Over t old → Sees p view tables
+        → AgreeLast p (last_numbers p (suc t) old view packet) (done (suc (suc t)))
+    last_over t old view low over sees v last =
+        stage_same steps (suc t) (known old) (done (suc t)) view tables packet v (all_give t old view v over sees)
+        (λ none. knows t old v over (read_at_last t v low last))
 
-      pub ended_over : (t : ℕ) (old : Numbers) (view : Store) → p.code.highest ≡ suc t → Over t old → Sees p view tables
-          → AgreeLast p (last_numbers p (suc t) old view packet) (pass_values p.code given tables packet)
-      ended_over t old view e over sees =
-          subst (λ h. AgreeLast p (last_numbers p (suc t) old view packet) (done (suc h))) (sym e) (last_over t old view (omega (arith, e)) over sees)
+    pub ended_over : (t : ℕ) (old : Numbers) (view : Store) → p.code.highest ≡ suc t → Over t old → Sees p view tables
+        → AgreeLast p (last_numbers p (suc t) old view packet) (pass_values p.code given tables packet)
+    ended_over t old view e over sees =
+        subst (λ h. AgreeLast p (last_numbers p (suc t) old view packet) (done (suc h))) (sym e) (last_over t old view (omega (arith, e)) over sees)
 
   look_same : (t : ℕ) (r : Reading) (view : Store) (v : ValueId) → Sees p view tables → Each (GivesSame t r r view tables packet v) steps
   look_same t r view v sees =
@@ -206,7 +187,7 @@ module _ (p : Staging) (given : Reading) (tables : Store) (packet : Packet) wher
 
 holds_same : (blocks : List Block) (r r' : Reading) (k : ℕ) → ((v : ValueId) → is_condition blocks v k ≡ true → r v ≡ r' v) → holds blocks r k ≡ holds blocks r' k
 holds_same blocks r r' zero h = refl
-holds_same blocks r r' (suc k) h = let b = block_at blocks k in ap (λ n. same b.polarity (is_on n)) (h b.cond (value_self b.cond))
+holds_same blocks r r' (suc k) h = let b = block_at blocks k in ap (λ n. same b.polarity (is_on n)) (h b.cond (same_itself b.cond))
 
 all_hold : (blocks : List Block) (r r' : Reading) (ks : List ℕ) → ((v : ValueId) → list_any (is_condition blocks v) ks ≡ true → r v ≡ r' v) → list_all (holds blocks r) ks ≡ list_all (holds blocks r') ks
 all_hold blocks r r' [] h = refl
@@ -226,7 +207,7 @@ any_live blocks r r' (k ∷ ks) h =
 writes_same : (r r' : Reading) (ws : List FieldValue) (bytes : List ℕ) → ((v : ValueId) → list_any (λ (w : FieldValue). is_value v w.value) ws ≡ true → r v ≡ r' v) → with_writes ws r bytes ≡ with_writes ws r' bytes
 writes_same r r' [] bytes h = refl
 writes_same r r' (w ∷ ws) bytes h =
-    ap (λ n. with_writes ws r (with_field bytes w.field n)) (h w.value (or_left (is_value w.value w.value) (list_any (λ (x : FieldValue). is_value w.value x.value) ws) (value_self w.value)))
+    ap (λ n. with_writes ws r (with_field bytes w.field n)) (h w.value (or_left (is_value w.value w.value) (list_any (λ (x : FieldValue). is_value w.value x.value) ws) (same_itself w.value)))
     ∙ writes_same r r' ws (with_field bytes w.field (r' w.value)) (λ v e. h v (or_right (is_value v w.value) (list_any (λ (x : FieldValue). is_value v x.value) ws) e))
 
 -- the verdict is made of the value
@@ -236,8 +217,8 @@ is_output code v = is_among v (code.send ∷ code.port ∷ []) || list_any (λ (
 leaves_same : (code : PassCode) (r r' : Reading) (packet : Packet) → ((v : ValueId) → is_output code v ≡ true → r v ≡ r' v) → leaves code r packet ≡ leaves code r' packet
 leaves_same code r r' packet h =
     let others : ValueId → Bool = λ v. list_any (λ (w : FieldValue). is_value v w.value) code.fields in
-    let send = h code.send (or_left (is_among code.send (code.send ∷ code.port ∷ [])) (others code.send) (or_left (is_value code.send code.send) (is_among code.send (code.port ∷ [])) (value_self code.send))) in
-    let port = h code.port (or_left (is_among code.port (code.send ∷ code.port ∷ [])) (others code.port) (or_right (is_value code.port code.send) (is_among code.port (code.port ∷ [])) (or_left (is_value code.port code.port) false (value_self code.port)))) in
+    let send = h code.send (or_left (is_among code.send (code.send ∷ code.port ∷ [])) (others code.send) (or_left (is_value code.send code.send) (is_among code.send (code.port ∷ [])) (same_itself code.send))) in
+    let port = h code.port (or_left (is_among code.port (code.send ∷ code.port ∷ [])) (others code.port) (or_right (is_value code.port code.send) (is_among code.port (code.port ∷ [])) (or_left (is_value code.port code.port) false (same_itself code.port)))) in
     ap (λ n. if n == 0 then Drop else Send (r code.port % 2 ^ 8) (with_writes code.fields r packet.bytes)) send
     ∙ ap (λ n. if r' code.send == 0 then Drop else Send (n % 2 ^ 8) (with_writes code.fields r packet.bytes)) port
     ∙ ap (λ bytes. if r' code.send == 0 then Drop else Send (r' code.port % 2 ^ 8) bytes) (writes_same r r' code.fields packet.bytes (λ v e. h v (or_right (is_among v (code.send ∷ code.port ∷ [])) (others v) e)))
@@ -249,7 +230,7 @@ bits_same : (cs : List Crossing) (r r' : Reading) → ((v : ValueId) → crosses
 unfolding value_bits
 bits_same [] r r' h = refl
 bits_same (c ∷ cs) r r' h =
-    ap (λ n. bits_of c.width n ++ value_bits cs (value_by r)) (h c.value (or_left (is_value c.value c.value) (crosses_in cs c.value) (value_self c.value)))
+    ap (λ n. bits_of c.width n ++ value_bits cs (value_by r)) (h c.value (or_left (is_value c.value c.value) (crosses_in cs c.value) (same_itself c.value)))
     ∙ ap (λ bits. bits_of c.width (r' c.value) ++ bits) (bits_same cs r r' (λ v e. h v (or_right (is_value v c.value) (crosses_in cs v) e)))
 
 frame_same : (cs : List Crossing) (number port : ℕ) (r r' : Reading) (bytes : List ℕ) → ((v : ValueId) → crosses_in cs v ≡ true → r v ≡ r' v) → up_frame cs number port r bytes ≡ up_frame cs number port r' bytes
@@ -271,12 +252,8 @@ ends_up code r r' h number packet (up.Finished verdict) a =
     (sym (any_live code.pre.blocks r r' code.pre.rest (tested code.up code.pre r r' h)) ∙ a.0, a.1 ∙ leaves_same code.pre r r' packet (put_out code.up code.pre r r' h))
 ends_up code r r' h number packet (up.Up frame) a =
     (sym (any_live code.pre.blocks r r' code.pre.rest (tested code.up code.pre r r' h)) ∙ a.0, a.1 ∙ frame_same code.up number packet.port r r' packet.bytes (taken_up code.up code.pre r r' h))
-ends_up code r r' h number packet up.Going a = tt
-ends_up code r r' h number packet up.Failed a = tt
-ends_up code r r' h number packet up.NoMemory a = tt
+ends_up code r r' h number packet end a = tt
 
 pub ends_down : (code : Code) (r r' : Reading) → AgreeLast (post_staging code) r r' → (packet : Packet) (end : DownEnd) → EndsDownBy code r packet end → EndsDownBy code r' packet end
 ends_down code r r' h packet (down.Verdict verdict) a = a ∙ leaves_same code.post r r' packet (put_out [] code.post r r' h)
-ends_down code r r' h packet down.Going a = tt
-ends_down code r r' h packet down.Failed a = tt
-ends_down code r r' h packet down.NoMemory a = tt
+ends_down code r r' h packet end a = tt

@@ -2,38 +2,32 @@
 use Rattle.std.proofs.Common.{◌≡◌, ℕ, suc, Bool, true, false, List, Some, None, inl, inr, refl, sym, ap, ◌∙◌, subst}
 use Rattle.std.proofs.lemmas.Bool.{cond-false, cases_Bool}
 use Rattle.packet_fields.specs.declared.packet.Packet.{Packet}
-use Rattle.packet_fields.specs.declared.verdict.Verdict.{Verdict}
 use Rattle.state_store.specs.declared.object.ObjectDecl.{ObjectDecl}
 use Rattle.state_store.specs.Kept.{IsKept, IsKeptObject}
 use Rattle.state_store.specs.Kinds.{is_table}
 use Rattle.state_store.specs.Store.{Store, object_at}
 use Rattle.flat_ir.specs.declared.program.ValueId.{ValueId}
-use Rattle.flat_ir.specs.Blocks.{Reading, nothing}
+use Rattle.flat_ir.specs.Blocks.{Reading}
 use Rattle.flat_ir.specs.Program.{Program}
 use Rattle.split_model.specs.declared.split.Part.{Part}
-use Rattle.transfer_header.specs.Frames.{IsFrame}
-use Rattle.transfer_header.specs.Values.{value_by}
 use Rattle.writeback_table.specs.declared.command.Command.{Command}
-use Rattle.switch_ir.specs.declared.port.DownEnd.TheVariants as down
 use Rattle.switch_ir.specs.declared.port.UpEnd.{UpEnd}
 use Rattle.switch_ir.specs.declared.port.UpEnd.TheVariants as up
 use Rattle.switch_ir.specs.Code.{Code}
 use Rattle.switch_ir.specs.Emitted.{emitted}
-use Rattle.switch_ir.specs.Meaning.{down_given, goes_up, leaves, pass_values, up_values}
-use Rattle.switch_ir.specs.Port.{EndsUp, OfItsParts}
-use Rattle.switch_ir.specs.Staged.{EndsBy, EndsDownBy, IsEntered, IsOver, IsStaged, Sees, Staging, is_had, last_numbers, post_staging, pre_staging}
+use Rattle.switch_ir.specs.Meaning.{goes_up, leaves, pass_values, up_values}
+use Rattle.switch_ir.specs.Port.{EndsUp}
+use Rattle.switch_ir.specs.Staged.{EndsBy, IsEntered, IsOver, IsStaged, Sees, Staging, is_had, last_numbers}
 use Rattle.switch_ir.specs.Tables.{Told, seen_tables, view_of}
-use Rattle.switch_ir.specs.UnderWay.{EndsWith, HasEntered, HasGoneOn, PassState, StagesTold}
-use Rattle.replay_state.specs.Journal.{UpAnswer}
-use Rattle.replay_state.specs.Told.{IsRight}
-use Rattle.split_answers.specs.Through.{IsThrough, end_of}
+use Rattle.switch_ir.specs.UnderWay.{HasEntered, HasGoneOn, PassState, StagesTold}
+use Rattle.split_answers.specs.Through.{IsThrough}
 use Rattle.split_answers.specs.UnderWay.{Knows, AreShown, Views, staging}
-use Rattle.split_answers.specs.Whole.{whole_of, IsSplit}
-use Rattle.split_answers.proofs.Declared.{can_change, looked_up_declared, started_at}
-use Rattle.split_answers.proofs.InStages.{Agreements, AgreeLast, ended_over, ends_down, ends_up, entered_over, staged_over}
+use Rattle.split_answers.specs.Whole.{IsSplit}
+use Rattle.split_answers.proofs.Declared.{can_change, looked_up_declared}
+use Rattle.split_answers.proofs.InStages.{AgreeLast, ended_over, entered_over, staged_over}
 use Rattle.split_answers.proofs.Lacking.{KeepLookedUp, looked_up_there, none_over}
-use Rattle.split_answers.proofs.Passed.{DownLaws, own_frame, reads, verdict_down}
 use Rattle.split_answers.proofs.Seen.{constant_viewed, has_replicated, replicated_viewed}
+use Rattle.switch_ir.proofs.Soundness.{starts}
 
 module _ (f : Program) (split : List Part) (writeback : ℕ) (is : IsSplit f split writeback) (st : Store) (kept : IsKept f.objects st) where
   abbrev code : Code
@@ -50,7 +44,7 @@ module _ (f : Program) (split : List Part) (writeback : ℕ) (is : IsSplit f spl
     keep : AreShown f split writeback commands st → KeepLookedUp f split (seen_tables told)
     keep shows o d looked at =
         table_or_not (IsKeptObject d (object_at (seen_tables told) o)) d
-        (λ table. subst (IsKeptObject d) (started_at f.objects o d at ∙ sym (constant_viewed f split writeback is commands told through told.bit o d at table looked)) (is.kept.each o d at))
+        (λ table. subst (IsKeptObject d) (starts f.objects o d at ∙ sym (constant_viewed f split writeback is commands told through told.bit o d at table looked)) (is.kept.each o d at))
         (λ changes. subst (IsKeptObject d) (sym (has_replicated f split writeback is commands told through st shows kept o (can_change f split o d is.legal looked at changes))) (kept.each o d at))
 
     module _ (before : List Command) (first : Told) (through_first : IsThrough code before first) where
@@ -69,7 +63,8 @@ module _ (f : Program) (split : List Part) (writeback : ℕ) (is : IsSplit f spl
 
   -- ## The entry
 
-  enters : (pre : Bool) (given : Reading) (packet : Packet) (commands : List Command) (told : Told) (pass : PassState) → IsThrough code commands told → AreShown f split writeback commands st
+  pub enters : (pre : Bool) (given : Reading) (packet : Packet) (commands : List Command) (told : Told) (pass : PassState) → IsThrough code commands told
+      → AreShown f split writeback commands st
       → ((v : ValueId) → is_had (staging pre code) 0 v ≡ false → given v ≡ 0)
       → HasEntered (staging pre code) (λ g. g ≡ given) packet (Some told) pass → Knows f split writeback pre given packet told.bit st pass
   enters pre given packet commands told pass through shows none entered =
@@ -91,18 +86,10 @@ module _ (f : Program) (split : List Part) (writeback : ℕ) (is : IsSplit f spl
         no_more = none_over f split writeback pre is.bounded.formed given (seen_tables told) packet (keep commands told through shows) none;
       }
 
-  pub enters_up : (packet : Packet) (commands : List Command) (told : Told) (pass : PassState) → IsThrough code commands told → AreShown f split writeback commands st
-      → HasEntered (pre_staging code) (λ g. g ≡ nothing) packet (Some told) pass → Knows f split writeback true nothing packet told.bit st pass
-  enters_up packet commands told pass through shows entered = enters true nothing packet commands told pass through shows (λ v e. refl) entered
-
-  pub enters_down : (values : Reading) (packet : Packet) (commands : List Command) (told : Told) (pass : PassState) → IsThrough code commands told → AreShown f split writeback commands st
-      → ((v : ValueId) → is_had (post_staging code) 0 v ≡ false → values v ≡ 0)
-      → HasEntered (post_staging code) (λ g. g ≡ values) packet (Some told) pass → Knows f split writeback false values packet told.bit st pass
-  enters_down values packet commands told pass through shows none entered = enters false values packet commands told pass through shows none entered
-
   -- ## A stage
 
-  module _ (agree : Agreements) (commands : List Command) (told : Told) (through : IsThrough code commands told) (pre : Bool) (given : Reading) (packet : Packet) (bit : Bool) (old : PassState)
+  module _ (commands : List Command) (told : Told) (through : IsThrough code commands told) (pre : Bool) (given : Reading) (packet : Packet) (bit : Bool)
+      (old : PassState)
       (views : Views f split writeback bit commands st) (knows : Knows f split writeback pre given packet bit st old) where
     abbrev p : Staging
     p = staging pre code
@@ -116,7 +103,8 @@ module _ (f : Program) (split : List Part) (writeback : ℕ) (is : IsSplit f spl
     goes_on new gone =
         let own = subst (λ o. StagesTold p (suc old.stage) old.packet (Some told) o new.told) knows.told gone.told in
         let staged = subst (λ q. IsStaged p (suc old.stage) knows.pass.numbers (view_of knows.pass.bit told.pairs) q own.0.numbers) knows.packet_is own.3 in
-        let over = staged_over p given (seen_tables knows.first) packet knows.no_more agree old.stage knows.pass.numbers own.0.numbers (view_of knows.pass.bit told.pairs) knows.over staged own_sees in
+        let over = staged_over p given (seen_tables knows.first) packet knows.no_more old.stage knows.pass.numbers own.0.numbers
+        (view_of knows.pass.bit told.pairs) knows.over staged own_sees in
         record {
           pass = own.0;
           told = own.1;
@@ -134,48 +122,15 @@ module _ (f : Program) (split : List Part) (writeback : ℕ) (is : IsSplit f spl
     -- the last numbers are those of the whole pass over the tables of the entry, as far as they are read
     pub ends_alike : suc old.stage ≡ p.code.highest → AgreeLast p (last_numbers p (suc old.stage) knows.pass.numbers (view_of knows.pass.bit told.pairs) packet) (pass_values p.code given (seen_tables knows.first) packet)
     ends_alike last =
-        ended_over p given (seen_tables knows.first) packet knows.no_more agree old.stage knows.pass.numbers (view_of knows.pass.bit told.pairs) (sym last) knows.over own_sees
+        ended_over p given (seen_tables knows.first) packet knows.no_more old.stage knows.pass.numbers (view_of knows.pass.bit told.pairs)
+        (sym last) knows.over own_sees
 
 -- ## The last answer
 
-over_up : (code : Code) (told : Told) (number : ℕ) (packet : Packet) (end : UpEnd) → EndsBy code (up_values code (seen_tables told) packet) number packet end → EndsUp code told number packet end
+pub over_up : (code : Code) (told : Told) (number : ℕ) (packet : Packet) (end : UpEnd)
+    → EndsBy code (up_values code (seen_tables told) packet) number packet end → EndsUp code told number packet end
 over_up c told number packet (up.Finished verdict) h =
     let reads = up_values c (seen_tables told) packet in
     cond-false (goes_up c reads) None (Some (leaves c.pre reads packet)) h.0 ∙ ap (λ y. Some y) (sym h.1)
 over_up c told number packet (up.Up frame) h = h
-over_up c told number packet up.Going h = tt
-over_up c told number packet up.Failed h = tt
-over_up c told number packet up.NoMemory h = tt
-
-module _ (agree : Agreements) (f : Program) (split : List Part) (writeback : ℕ) (is : IsSplit f split writeback) (st : Store) (kept : IsKept f.objects st)
-    (commands : List Command) (told : Told) (through : IsThrough (emitted f split writeback) commands told) (bit : Bool) (old : PassState) (views : Views f split writeback bit commands st) where
-  pub up_is_right : (packet : Packet) (number : ℕ) (answer : UpAnswer) (knows : Knows f split writeback true nothing packet bit st old)
-      → suc old.stage ≡ (emitted f split writeback).pre.highest
-      → EndsWith (pre_staging (emitted f split writeback)) (Some told) old (λ reads. EndsBy (emitted f split writeback) reads number old.packet (end_of answer))
-      → (EndsUp (emitted f split writeback) knows.first number packet (end_of answer) → IsRight (whole_of f split writeback) st number packet (Some answer))
-      → IsRight (whole_of f split writeback) st number packet (Some answer)
-  up_is_right packet number answer knows last ends right =
-      let c = emitted f split writeback in
-      let p : Staging = pre_staging c in
-      let view = view_of knows.pass.bit told.pairs in
-      let by_own = ends told knows.pass refl knows.told in
-      let by_packet = subst (λ q. EndsBy c (last_numbers p (suc old.stage) knows.pass.numbers view q) number q (end_of answer)) knows.packet_is by_own in
-      let alike = ends_alike f split writeback is st kept agree commands told through true nothing packet bit old views knows last in
-      right (over_up c knows.first number packet (end_of answer) (ends_up c _ _ alike number packet (end_of answer) by_packet))
-
-  pub down_is_right : DownLaws → (frame : List ℕ) (framed : IsFrame 2 (emitted f split writeback).down frame) (verdict : Verdict)
-      → OfItsParts (emitted f split writeback) frame (λ number packet values. Knows f split writeback false (down_given (emitted f split writeback) values packet) packet bit st old)
-      → suc old.stage ≡ (emitted f split writeback).post.highest
-      → EndsWith (post_staging (emitted f split writeback)) (Some told) old (λ reads. EndsDownBy (emitted f split writeback) reads old.packet (down.Verdict verdict))
-      → verdict ≡ (whole_of f split writeback).post frame
-  down_is_right laws frame framed verdict knows_all last ends =
-      let c = emitted f split writeback in
-      let p : Staging = post_staging c in
-      let numbers = value_by (reads laws f split writeback commands told frame is through framed) in
-      let packet : Packet = record { port = framed.port; bytes = framed.packet } in
-      let knows = knows_all framed.number framed.port numbers framed.packet (own_frame laws f split writeback commands told frame is through framed) in
-      let view = view_of knows.pass.bit told.pairs in
-      let by_own = ends told knows.pass refl knows.told in
-      let by_packet = subst (λ q. EndsDownBy c (last_numbers p (suc old.stage) knows.pass.numbers view q) q (down.Verdict verdict)) knows.packet_is by_own in
-      let alike = ends_alike f split writeback is st kept agree commands told through false (down_given c numbers packet) packet bit old views knows last in
-      verdict_down laws f split writeback knows.commands knows.first frame is knows.through framed verdict (ends_down c _ _ alike packet (down.Verdict verdict) by_packet)
+over_up c told number packet end h = tt

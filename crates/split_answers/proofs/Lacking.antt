@@ -1,5 +1,5 @@
 -- What a pass doesn't have counts as 0.
-use Rattle.std.proofs.Common.{◌≡◌, ◌≤◌, ◌<◌, ◌+◌, ◌==◌, ℕ, zero, suc, Bool, true, false, ◌&&◌, List, [], ◌∷◌, ◌++◌, Option, Some, None, is_some, slice_get, unwrap_or, replicate, length, map, inl, inr, refl, sym, ap, ◌∙◌, subst, arith, nat_lt, slice_index, ◌^◌}
+use Rattle.std.proofs.Common.{◌≡◌, ◌≤◌, ◌<◌, ◌+◌, ◌==◌, ℕ, zero, suc, Bool, true, false, ◌&&◌, List, [], ◌∷◌, ◌++◌, Option, Some, None, is_some, slice_get, unwrap_or, replicate, length, map, inl, inr, refl, sym, ap, ◌∙◌, arith, nat_lt, slice_index, ◌^◌}
 use Rattle.std.specs.Prelude.{nat_le}
 use Rattle.std.specs.FinMap as finmap
 use Rattle.std.specs.List.{AllByRecursion as Each, list_any}
@@ -14,7 +14,7 @@ use Rattle.flat_ir.specs.declared.program.ValueId.{ValueId}
 use Rattle.flat_ir.specs.Blocks.{Reading, nothing}
 use Rattle.flat_ir.specs.Fits.{fits}
 use Rattle.flat_ir.specs.Program.{Program, Work, step_at}
-use Rattle.flat_ir.specs.Program.Work.{const, field, apply, shift, select, byte, look, put, del}
+use Rattle.flat_ir.specs.Program.Work.{look}
 use Rattle.flat_ir.specs.Run.{results}
 use Rattle.flat_ir.specs.WellFormed.{IsWellFormed}
 use Rattle.split_model.specs.declared.layout.Crossing.{Crossing}
@@ -30,21 +30,11 @@ use Rattle.switch_ir.specs.Passes.{Step, Code}
 use Rattle.switch_ir.specs.Spans.{Written, handed_in, results_in, results_of, written_by}
 use Rattle.switch_ir.specs.Staged.{Staging, is_had, is_looked_at, post_staging}
 use Rattle.split_answers.specs.UnderWay.{HasNoMore, staging}
-use Rattle.split_answers.proofs.Declared.{declared_there, looked_there, there_at}
+use Rattle.split_answers.proofs.Declared.{declared_there, looked_there}
+use Rattle.lemmas.proofs.Lists.{each_all, each_append, each_weaker, get_within}
+use Rattle.switch_ir.proofs.Places.{any_at}
 
 -- ## Lists
-
-each_append : {X : Type 0} (P : X → Type 0) → (xs ys : List X) → Each P xs → Each P ys → Each P (xs ++ ys)
-each_append P [] ys h k = k
-each_append P (x ∷ xs) ys h k = (h.0, each_append P xs ys h.1 k)
-
-each_weaker : {X : Type 0} (P Q : X → Type 0) → ((x : X) → P x → Q x) → (xs : List X) → Each P xs → Each Q xs
-each_weaker P Q go [] h = tt
-each_weaker P Q go (x ∷ xs) h = (go x h.0, each_weaker P Q go xs h.1)
-
-each_of : {X : Type 0} (P : X → Type 0) → ((x : X) → P x) → (xs : List X) → Each P xs
-each_of P go [] = tt
-each_of P go (x ∷ xs) = (go x, each_of P go xs)
 
 none_parts : {X : Type 0} (test : X → Bool) (xs ys : List X) → list_any test (xs ++ ys) ≡ false → (list_any test xs ≡ false) × (list_any test ys ≡ false)
 none_parts test [] ys h = (refl, h)
@@ -141,14 +131,7 @@ none_found key = ap (λ (o : Option (List ℕ)). length (unwrap_or o (replicate 
 
 results_one : (tables : List Table) (reads : Reading) (packet : Packet) (work : Work) → length (results reads false [] packet work) ≤ results_in tables work
 results_one tables reads packet (look o keys) = omega (arith, none_found (map reads keys))
-results_one tables reads packet (const width number) = omega arith
-results_one tables reads packet (field name) = omega arith
-results_one tables reads packet (apply op width args) = omega arith
-results_one tables reads packet (shift op width arg by) = omega arith
-results_one tables reads packet (select width cond first second) = omega arith
-results_one tables reads packet (byte index) = omega arith
-results_one tables reads packet (put object keys values) = omega arith
-results_one tables reads packet (del object keys) = omega arith
+results_one tables reads packet work = omega arith
 
 -- the tables of what is looked up keep what was declared
 abbrev pub KeepLookedUp : Program → List Part → Store → Type 0
@@ -159,26 +142,12 @@ module _ (f : Program) (split : List Part) (well : IsWellFormed f) (store : Stor
       → length (results reads false store packet work) ≤ results_in (tables_from f split 0 f.objects) work
   results_few reads packet (look o keys) fit looks =
       let own = eq-eqb o o refl in
-      let d = there_at f.objects o (looked_there f o (look o keys) own fit) in
+      let d = get_within f.objects o (looked_there f o (look o keys) own fit) in
       let there = ap (λ (found : Option ObjectDecl). length (unwrap_or (option_map (λ (x : ObjectDecl). x.values) found) [])) (declared_there f split o d.0 (looks o own) d.1) in
       omega (arith, there, found_count d.0 (object_at store o) (map reads keys) (found_in (object_at store o) (map reads keys)) (kept o d.0 (looks o own) d.1) refl)
-  results_few reads packet (const width number) fit looks = omega arith
-  results_few reads packet (field name) fit looks = omega arith
-  results_few reads packet (apply op width args) fit looks = omega arith
-  results_few reads packet (shift op width arg by) fit looks = omega arith
-  results_few reads packet (select width cond first second) fit looks = omega arith
-  results_few reads packet (byte index) fit looks = omega arith
-  results_few reads packet (put object keys values) fit looks = omega arith
-  results_few reads packet (del object keys) fit looks = omega arith
+  results_few reads packet work fit looks = omega arith
 
 -- ## The steps of a pass
-
-any_from : (n i : ℕ) (test : ℕ → Bool) → i < n → test i ≡ true → any_below n test ≡ true
-any_from zero i test low h = absurd (omega (arith, low))
-any_from (suc n) i test low h = elim (cases_eq i n) [
-  | inl e ↦ or_right (any_below n test) (test n) (subst (λ k. test k ≡ true) e h)
-  | inr d ↦ or_left (any_below n test) (test n) (any_from n i test (omega (arith, low, d)) h)
-]
 
 module _ (f : Program) (stage : ℕ → Option ℕ) where
   -- an instruction of the program that has a stage
@@ -199,7 +168,7 @@ module _ (f : Program) (stage : ℕ → Option ℕ) where
 
   step_looks : (s : Step) (o : ℕ) → IsStepOf s → looks_at o s.work ≡ true → looked o ≡ true
   step_looks s o is looks =
-      any_from (length f.code) s.instruction (λ i. is_some (stage i) && looks_at o (step_at f i).work) is.1
+      any_at (length f.code) s.instruction (λ i. is_some (stage i) && looks_at o (step_at f i).work) is.1
       (and_from (is_some (stage s.instruction)) (looks_at o (step_at f s.instruction).work) is.0 (ap (looks_at o) (sym is.2) ∙ looks))
 
   some_looks : (ss : List Step) (o : ℕ) → Each IsStepOf ss → is_looked_at ss o ≡ true → looked o ≡ true
@@ -253,5 +222,5 @@ down_given_none code values packet v e =
     let parts = none_parts (has 0 v) (handed_in code.down) (given_there ++ steps_there) e in
     cond-false (crosses code.down v) (handed code.down values v) (inputs code packet v) (handed_none code.down v parts.0)
     ∙ lacking code.tables 0 v code.post.given nothing [] packet
-    (each_of (λ s. length (results nothing false [] packet s.work) ≤ results_in code.tables s.work) (λ s. results_one code.tables nothing packet s.work) code.post.given)
+    (each_all (λ s. length (results nothing false [] packet s.work) ≤ results_in code.tables s.work) (λ s. results_one code.tables nothing packet s.work) code.post.given)
     (none_parts (has 0 v) given_there steps_there parts.1).0 refl

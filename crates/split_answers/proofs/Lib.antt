@@ -3,11 +3,12 @@ mod Turns
 mod Runs
 mod Few
 mod Declared
-mod Wholes
+pub mod Wholes
 mod Commanded
 mod Seen
 mod Passed
-mod Tells
+pub mod Tells
 mod InStages
 mod Lacking
 mod Knowing
+pub mod Laws

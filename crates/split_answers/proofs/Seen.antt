@@ -1,43 +1,43 @@
 -- What lookups see of the tables that are told.
-use Rattle.std.proofs.Common.{◌≡◌, ◌<◌, ℕ, Bool, true, false, List, [], ◌∷◌, length, Option, Some, slice_get, refl, sym, ap, ◌∙◌, arith, if◌then◌else◌}
+use Rattle.std.proofs.Common.{◌≡◌, ◌<◌, ℕ, Bool, true, false, List, [], ◌∷◌, length, Option, Some, slice_get, refl, sym, ap, ◌∙◌, arith, if◌then◌else◌, inl, inr}
 use Rattle.std.specs.FinMap as finmap
 use Rattle.std.specs.FinMap.{len-empty, len-entries}
-use Rattle.std.proofs.lemmas.Bool.{cond-true, cond-false, eq-eqb}
-use Rattle.std.proofs.lemmas.List.{get_or-map, take_all}
+use Rattle.std.proofs.lemmas.Bool.{cond-true, cond-false, eq-eqb, cases_Bool}
+use Rattle.std.proofs.lemmas.List.{get_or-map, take_all, nil_from_length}
 use Rattle.std.proofs.lemmas.Option.{unwrap_or-slice_get}
 use Rattle.state_store.specs.declared.object.Kind.{Kind}
 use Rattle.state_store.specs.declared.object.ObjectDecl.{ObjectDecl}
-use Rattle.state_store.specs.declared.object.Row.{Row}
 use Rattle.state_store.specs.Kept.{IsKept, IsKeptObject}
 use Rattle.state_store.specs.Kinds.{is_table}
-use Rattle.state_store.specs.Store.{Contents, Object, Store, is_full, is_out, key_cmp, no_object, object_at, put_row, rows_from, rows_of, start_object}
+use Rattle.state_store.specs.Store.{Contents, Object, Store, is_full, is_out, key_cmp, no_object, object_at, put_row, start_object}
 use Rattle.flat_ir.specs.Program.{Program}
 use Rattle.split_model.specs.declared.split.Part.{Part}
 use Rattle.split_model.specs.Laws.{ShowsReplicated, HasDeclaredTables}
 use Rattle.split_model.specs.Shown.{is_replicated}
 use Rattle.writeback_table.specs.declared.command.Command.{Command}
-use Rattle.writeback_table.specs.declared.command.Command.TheVariants.{Stage, On, Main, Off, Clear}
+use Rattle.writeback_table.specs.declared.command.Command.TheVariants.{Stage, Main}
 use Rattle.writeback_table.specs.declared.command.To.{To}
 use Rattle.writeback_table.specs.declared.command.To.TheVariants.{Value, Gone}
-use Rattle.writeback_table.specs.declared.command.Update.{Update}
 use Rattle.writeback_table.specs.Batches.{seen_after}
 use Rattle.writeback_table.specs.Commands.{bit_through, names, pair_after, pair_through, room_for}
 use Rattle.writeback_table.specs.Pair.{Pair, Staged, applied, change_to, has_room, visible, with_staged, first_pair}
-use Rattle.server_runtime.specs.Serving.{IsUpdateIn}
 use Rattle.split_answers.specs.Whole.{IsSplit}
-use Rattle.switch_ir.specs.declared.port.RowsEnd.TheVariants as rows
 use Rattle.switch_ir.specs.Emitted.{emitted, is_looked_up}
-use Rattle.switch_ir.specs.Port.{EndsSeen, IsCommandOf, IsReplicatedIn, IsUpdateOf}
+use Rattle.switch_ir.specs.Port.{IsCommandOf, IsReplicatedIn}
 use Rattle.switch_ir.specs.Tables.{Told, has_room_in, no_pair, pair_at, seen_object, seen_tables, start_pair, view_of}
-use Rattle.split_answers.specs.Through.{HasTables, IsThrough}
-use Rattle.split_answers.proofs.Declared.{can_change, constant_at, declared_parts, declared_there, replicated_parts, shown_there, started_at, there_at}
+use Rattle.split_answers.specs.Through.{IsThrough}
+use Rattle.split_answers.specs.UnderWay.{AreShown}
+use Rattle.split_answers.proofs.Declared.{can_change, declared_parts, declared_there, replicated_parts, shown_there}
+use Rattle.lemmas.proofs.Lists.{get_within}
+use Rattle.state_store.proofs.Constants.{constant_at}
+use Rattle.switch_ir.proofs.Soundness.{starts}
 
 -- ## Replicated objects and those that are declared on the switch
 
 pub is_declared : (f : Program) (split : List Part) (writeback o : ℕ) → IsSplit f split writeback → is_replicated f split o ≡ true → (d : ObjectDecl) × IsReplicatedIn (emitted f split writeback) o d
 is_declared f split writeback o is shown =
     let parts = replicated_parts f split o shown in
-    let found = there_at f.objects o (shown_there f split o is.bounded.formed parts.1) in (
+    let found = get_within f.objects o (shown_there f split o is.bounded.formed parts.1) in (
       found.0,
       record {
         declared = declared_there f split o found.0 parts.2 found.1;
@@ -49,22 +49,7 @@ pub is_replicated_there : (f : Program) (split : List Part) (writeback o : ℕ) 
 is_replicated_there f split writeback o d is there =
     let parts = declared_parts f split o d there.declared in can_change f split o d is.legal parts.0 parts.1 there.changes
 
-pub is_update : (f : Program) (split : List Part) (writeback : ℕ) (update : Update) → IsUpdateIn f split update → IsUpdateOf (emitted f split writeback) update
-is_update f split writeback update is =
-    let parts = replicated_parts f split update.object is.replicated in (
-      is.declared,
-      record {
-        declared = declared_there f split update.object is.declared parts.2 is.is;
-        changes = sym (constant_at f.objects update.object is.declared is.is) ∙ parts.0;
-      },
-      is.widths,
-    )
-
 -- ## Start tables
-
-no_items : {X : Type 0} (xs : List X) → length xs ≡ 0 → xs ≡ []
-no_items [] len = refl
-no_items (x ∷ xs) len = absurd (omega (arith, len))
 
 abbrev starting : ObjectDecl → ℕ → Pair
 starting d writeback = start_pair writeback (Some d)
@@ -74,14 +59,14 @@ sees_start : (bit : Bool) (d : ObjectDecl) (writeback : ℕ) → visible bit (st
 sees_start false d writeback = refl
 sees_start true d writeback =
     let none : Staged = finmap.empty in
-    ap (λ staged. with_staged staged (start_object d).contents) (no_items (finmap.entries none) (sym (len-entries none) ∙ len-empty key_cmp (Option (List ℕ))))
+    ap (λ staged. with_staged staged (start_object d).contents) (nil_from_length (finmap.entries none) (sym (len-entries none) ∙ len-empty key_cmp (Option (List ℕ))))
 
 -- the world begins with the same
 pub same_start : (f : Program) (split : List Part) (writeback o : ℕ) (d : ObjectDecl) → slice_get f.objects o ≡ Some d → is_table d.kind ≡ false
     → first_pair f.objects writeback o ≡ starting d writeback
 same_start f split writeback o d is changes =
     let P : Object → ℕ → Pair = λ x n. record { main = x; staged = finmap.empty; room = n } in
-    ap (λ x. P x writeback) (started_at f.objects o d is)
+    ap (λ x. P x writeback) (starts f.objects o d is)
     ∙ ap (P (start_object d)) (sym (cond-false (is_table d.kind) 0 writeback changes))
 
 -- ## Commands change the contents alone
@@ -102,18 +87,11 @@ holds_change object key (Value values) contents = holds_put object key values co
 holds_change object key Gone contents = refl
 
 holds_applied : (pair : Pair) (command : Command) (contents : Contents) → holding contents (applied pair command).main ≡ holding contents pair.main
-holds_applied pair (Stage update) contents = refl
-holds_applied pair On contents = refl
 holds_applied pair (Main update) contents = holds_change pair.main update.key update.to contents
-holds_applied pair Off contents = refl
-holds_applied pair (Clear object key) contents = refl
+holds_applied pair command contents = refl
 
 holds_after : (o : ℕ) (pair : Pair) (command : Command) (contents : Contents) → holding contents (pair_after o pair command).main ≡ holding contents pair.main
-holds_after o pair command contents = by_test (names o command)
-  where
-    by_test : (b : Bool) → holding contents (if b then applied pair command else pair).main ≡ holding contents pair.main
-    by_test true = holds_applied pair command contents
-    by_test false = refl
+holds_after o pair command contents = elim (cases_Bool (names o command)) [ inl t ↦ rw t (holds_applied pair command contents) | inr t ↦ rw t refl ]
 
 holds_through : (o : ℕ) (pair : Pair) (commands : List Command) (contents : Contents) → holding contents (pair_through o pair commands).main ≡ holding contents pair.main
 holds_through o pair [] contents = refl
@@ -135,10 +113,6 @@ object_viewed bit pairs o within =
 
 seen_all : (o : ℕ) (pair : Pair) (commands : List Command) → seen_after o pair commands (length commands) ≡ visible (bit_through false commands) (pair_through o pair commands)
 seen_all o pair commands = ap (λ cs. visible (bit_through false cs) (pair_through o pair cs)) (take_all (length commands) commands (omega arith))
-
--- what lookups of a replicated object see is what the world says
-abbrev pub AreSeen : Program → List Part → ℕ → Store → List Command → Type 0
-AreSeen f split writeback st commands = (o : ℕ) → is_replicated f split o ≡ true → seen_after o (first_pair f.objects writeback o) commands (length commands) ≡ (object_at st o).contents
 
 module _ (f : Program) (split : List Part) (writeback : ℕ) (is : IsSplit f split writeback) (commands : List Command) (told : Told) (through : IsThrough (emitted f split writeback) commands told) where
   -- constant tables have their declared rows, whatever the bit
@@ -165,7 +139,8 @@ module _ (f : Program) (split : List Part) (writeback : ℕ) (is : IsSplit f spl
       ap (λ b. visible b (pair_through o (first_pair f.objects writeback o) commands)) through.bit
       ∙ sym (seen_all o (first_pair f.objects writeback o) commands)
 
-  contents_seen : (o : ℕ) → is_replicated f split o ≡ true → visible told.bit (pair_at told.pairs o) ≡ seen_after o (first_pair f.objects writeback o) commands (length commands)
+  pub contents_seen : (o : ℕ) → is_replicated f split o ≡ true
+      → visible told.bit (pair_at told.pairs o) ≡ seen_after o (first_pair f.objects writeback o) commands (length commands)
   contents_seen o shown = ap (visible told.bit) (pair_is o shown) ∙ seen_now o
 
   -- where lookups by a bit see the rows of a store that is kept, they see its object
@@ -181,12 +156,8 @@ module _ (f : Program) (split : List Part) (writeback : ℕ) (is : IsSplit f spl
       ∙ holds_through o (starting d.0 writeback) commands x.contents
       ∙ as_declared d.0 x (kept.each o d.0 at)
 
-  pub has_replicated : (st : Store) → AreSeen f split writeback st commands → IsKept f.objects st → ShowsReplicated f split st (seen_tables told)
+  pub has_replicated : (st : Store) → AreShown f split writeback commands st → IsKept f.objects st → ShowsReplicated f split st (seen_tables told)
   has_replicated st seen kept o shown = replicated_viewed told.bit st o shown (seen_now o ∙ seen o shown) kept
-
-  pub rows_seen : (st : Store) (o : ℕ) (list : List Row) → is_replicated f split o ≡ true → seen_after o (first_pair f.objects writeback o) commands (length commands) ≡ (object_at st o).contents
-      → EndsSeen told o (rows.Rows list) → list ≡ rows_of (object_at st o)
-  rows_seen st o list shown seen ends = ends ∙ ap (λ (c : Contents). rows_from (finmap.entries c)) (contents_seen o shown ∙ seen)
 
   -- ## Room
 
@@ -204,17 +175,5 @@ module _ (f : Program) (split : List Part) (writeback : ℕ) (is : IsSplit f spl
       → ((o : ℕ) → is_replicated f split o ≡ true → room_for o (pair_through o (first_pair f.objects writeback o) commands) command ≡ true)
       → has_room_in told.pairs command ≡ true
   room_found (Stage update) own room = has_room_there update.object own.0 (Stage update) (eq-eqb update.object update.object refl) own.1 room
-  room_found On own room = refl
   room_found (Main update) own room = has_room_there update.object own.0 (Main update) (eq-eqb update.object update.object refl) own.1 room
-  room_found Off own room = refl
-  room_found (Clear object key) own room = refl
-
-  -- ## Where nothing is left
-
-  pub are_newest : (st : Store) → bit_through false commands ≡ false
-      → ((o : ℕ) → is_replicated f split o ≡ true → pair_through o (first_pair f.objects writeback o) commands ≡ record { main = object_at st o; staged = finmap.empty; room = writeback })
-      → HasTables f split writeback st told
-  are_newest st clear quiet = record {
-    bit = through.bit ∙ clear;
-    each = λ o shown. pair_is o shown ∙ quiet o shown;
-  }
+  room_found command own room = refl

@@ -7,25 +7,22 @@ use Rattle.transfer_header.specs.Told.{number_in}
 use Rattle.switch_ir.specs.Code.{Code}
 use Rattle.switch_ir.specs.Port.{EndsDown, EndsUp, IsCommandOf}
 use Rattle.switch_ir.specs.Tables.{Told}
-use Rattle.replay_state.specs.Journal.{Call, CalledUp, CalledStageUp, CalledCommand, CalledDown, CalledStageDown}
+use Rattle.replay_state.specs.Journal.{Call, CalledUp, CalledCommand, CalledDown}
 use Rattle.split_answers.specs.Through.{down_end_of, end_of}
 
 -- what the call is given has its form
 abbrev pub IsGiven : Code → Call → Type 0
 IsGiven code (CalledUp fine n packet answer) = IsArrival packet
-IsGiven code (CalledStageUp n answer) = ⊤
 IsGiven code (CalledCommand command) = IsCommandOf code command
 IsGiven code (CalledDown fine n frame answer) = IsFrame 2 code.down frame × (number_in frame ≡ n)
-IsGiven code (CalledStageDown n answer) = ⊤
+IsGiven code call = ⊤
 
 -- What a call answers over these tables, where it takes a packet or a frame. What one answers that takes a pass by a
 -- stage rests on the pass.
 abbrev pub IsAnswerOver : Code → Told → Call → Type 0
 IsAnswerOver code told (CalledUp fine n packet answer) = EndsUp code told n packet (end_of answer)
-IsAnswerOver code told (CalledStageUp n answer) = ⊤
-IsAnswerOver code told (CalledCommand command) = ⊤
 IsAnswerOver code told (CalledDown fine n frame answer) = EndsDown code told frame (down_end_of answer)
-IsAnswerOver code told (CalledStageDown n answer) = ⊤
+IsAnswerOver code told call = ⊤
 
 abbrev pub AreAnswersOver : Code → Told → List Call → Type 0
 AreAnswersOver code told calls = Each (IsAnswerOver code told) calls

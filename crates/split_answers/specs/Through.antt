@@ -3,10 +3,9 @@ use Rattle.std.specs.Prelude.{◌≡◌, ◌<◌, ℕ, true, false, List, length
 use Rattle.std.specs.FinMap as finmap
 use Rattle.state_store.specs.declared.object.ObjectDecl.{ObjectDecl}
 use Rattle.state_store.specs.Kinds.{is_table}
-use Rattle.state_store.specs.Store.{Store, object_at, start_store}
+use Rattle.state_store.specs.Store.{Store, object_at}
 use Rattle.writeback_table.specs.declared.command.Command.{Command}
 use Rattle.writeback_table.specs.Commands.{bit_through, pair_through}
-use Rattle.writeback_table.specs.Pair.{Pair}
 use Rattle.flat_ir.specs.Program.{Program}
 use Rattle.split_model.specs.declared.split.Part.{Part}
 use Rattle.split_model.specs.Shown.{is_replicated}

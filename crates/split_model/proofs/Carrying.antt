@@ -1,21 +1,21 @@
 -- Carried values hang on the packet and on the constant tables alone.
-use Rattle.std.proofs.Common.{◌≡◌, ℕ, zero, suc, ◌<◌, ◌≤◌, true, false, not, ◌&&◌, ◌||◌, List, [], ◌∷◌, length, Some, None, refl, sym, ap, ◌∙◌, subst, arith, ⊎_elim, slice_index, slice_get, get_or}
-use Rattle.std.proofs.lemmas.Bool.{false≢true, and_from, or_left, or_right, eq-eqb, cases_Bool, cases_lt}
+use Rattle.std.proofs.Common.{◌≡◌, ℕ, zero, suc, ◌<◌, ◌≤◌, true, false, not, ◌&&◌, ◌||◌, List, [], ◌∷◌, length, Some, None, refl, sym, ap, ◌∙◌, subst, arith, ⊎_elim, slice_index, slice_get}
+use Rattle.std.proofs.lemmas.Bool.{false≢true, and_from, or_left, or_right, eq-eqb, cases_Bool, cases_lt, not-false}
 use Rattle.std.proofs.Math.Nat.{eq-or-lt_of_le}
 use Rattle.packet_fields.specs.declared.packet.Packet.{Packet}
 use Rattle.state_store.specs.declared.object.ObjectDecl.{ObjectDecl}
 use Rattle.state_store.specs.declared.object.Kind.{Kind}
-use Rattle.state_store.specs.declared.object.Kind.TheVariants.{Table, Map, Vector, Int}
+use Rattle.state_store.specs.declared.object.Kind.TheVariants.{Table}
 use Rattle.state_store.specs.Kept.{IsKept}
 use Rattle.state_store.specs.Kinds.{is_table, is_constant}
 use Rattle.state_store.specs.Store.{Store, object_at}
 use Rattle.flat_ir.specs.Program.{Program, Work, step_at, operands}
-use Rattle.flat_ir.specs.Program.Work.{const, field, apply, shift, select, byte, look, put, del}
+use Rattle.flat_ir.specs.Program.Work.{look}
 use Rattle.flat_ir.specs.Blocks.{Reading, nothing, is_live}
 use Rattle.flat_ir.specs.Kinds.{is_mutable_look}
 use Rattle.flat_ir.specs.Run.{after, flat_run}
 use Rattle.flat_ir.specs.WellFormed.{IsWellFormed, HasConstantTables}
-use Rattle.flat_ir.specs.Laws.{KeepsTables, Same}
+use Rattle.flat_ir.specs.Laws.{Same}
 use Rattle.split_model.specs.declared.split.Part.{Part}
 use Rattle.split_model.specs.declared.split.Slow.TheVariants.{Server}
 use Rattle.split_model.specs.Counts.{is_post_shown}
@@ -24,11 +24,13 @@ use Rattle.split_model.specs.Legal.{IsLegal}
 use Rattle.split_model.specs.Passes.{AgreeOnShown, pre_values}
 use Rattle.split_model.specs.Shown.{is_shown, looks_at}
 use Rattle.split_model.specs.Split.{pre_stage, is_pre, is_post, is_carried, is_carried_up}
-use Rattle.split_model.proofs.Below.{Agreements, AreItsValues, each_weaker, each_both}
-use Rattle.split_model.proofs.Passing.{any_passes}
-use Rattle.split_model.proofs.Rules.{not_false, pre_kind, pre_rises, carried_pre, carried_look, carried_operands}
+use Rattle.split_model.proofs.Rules.{pre_kind, pre_rises, carried_pre, carried_look, carried_operands}
 use Rattle.split_model.proofs.Sights.{SameSight, seen_same}
 use Rattle.split_model.proofs.Stages.{staged_value}
+use Rattle.flat_ir.proofs.Passing.{any_passes}
+use Rattle.flat_ir.proofs.Laws.{a_run_is_its_values, a_run_keeps_the_tables-runs, readings_that_agree-operands, readings_that_agree-results}
+use Rattle.lemmas.proofs.Lists.{each_both, each_weaker}
+use Rattle.std.proofs.lemmas.List.{get_or_past}
 
 -- a constant object has its declaration
 pub declared_at : (ds : List ObjectDecl) (o : ℕ) → is_constant ds o ≡ true → (d : ObjectDecl) × (slice_get ds o ≡ Some d) × (is_table d.kind ≡ true)
@@ -59,25 +61,13 @@ post_shown f split i o within post looks =
 
 -- a look that isn't mutable sees the same in both
 pub constant_sight : (f : Program) (st st' : Store) (work : Work) → ((o : ℕ) → is_constant f.objects o ≡ true → looks_at o work ≡ true → object_at st o ≡ object_at st' o) → is_mutable_look f work ≡ false → SameSight st st' work
-constant_sight f st st' (look object keys) same e = same object (not_false (is_constant f.objects object) e) (eq-eqb object object refl)
-constant_sight f st st' (const width number) same e = tt
-constant_sight f st st' (field name) same e = tt
-constant_sight f st st' (apply op width args) same e = tt
-constant_sight f st st' (shift op width arg by) same e = tt
-constant_sight f st st' (select width c first second) same e = tt
-constant_sight f st st' (byte index) same e = tt
-constant_sight f st st' (put object keys values) same e = tt
-constant_sight f st st' (del object keys) same e = tt
-
-pub beyond : {X : Type 0} (xs : List X) (k : ℕ) (d : X) → length xs ≤ k → get_or xs k d ≡ d
-beyond [] k d le = refl
-beyond (x ∷ xs) zero d le = absurd (omega (arith, le))
-beyond (x ∷ xs) (suc k) d le = beyond xs k d (omega (arith, le))
+constant_sight f st st' (look object keys) same e = same object (not-false (is_constant f.objects object) e) (eq-eqb object object refl)
+constant_sight f st st' _ same e = tt
 
 -- what is carried is an instruction of the program
 pub carried_within : (f : Program) (split : List Part) → length split ≡ length f.code → (i : ℕ) → is_carried split i ≡ true → i < length f.code
 carried_within f split count i e =
-    ⊎_elim (λ lt. lt) (λ le. absurd (false≢true (ap (λ (p : Part). is_carried_up p.slow) (sym (beyond split i (record { pre = None; slow = Server }) (subst (λ n. n ≤ i) (sym count) le))) ∙ e))) (cases_lt i (length f.code))
+    ⊎_elim (λ lt. lt) (λ le. absurd (false≢true (ap (λ (p : Part). is_carried_up p.slow) (sym (get_or_past split i (record { pre = None; slow = Server }) (subst (λ n. n ≤ i) (sym count) le))) ∙ e))) (cases_lt i (length f.code))
 
 module _ (f : Program) (split : List Part) (st tables : Store) (packet : Packet) where
   abbrev P : Reading
@@ -89,10 +79,10 @@ module _ (f : Program) (split : List Part) (st tables : Store) (packet : Packet)
   abbrev work_at : ℕ → Work
   work_at i = (step_at f i).work
 
-  module _ (agree : Agreements) (its : AreItsValues f st packet) (keeps : KeepsTables f st packet) (well : IsWellFormed f) (legal : IsLegal f split) (has : HasConstantTables f st) (loaded : HasDeclaredTables f split tables) where
+  module _ (well : IsWellFormed f) (legal : IsLegal f split) (has : HasConstantTables f st) (loaded : HasDeclaredTables f split tables) where
     -- at any time of the run the constant tables are those of the pass
     pub constants : (n : ℕ) → n ≤ length f.code → (o : ℕ) → is_constant f.objects o ≡ true → (is_shown f split o || is_post_shown f split o) ≡ true → object_at tables o ≡ object_at (after f st packet n).store o
-    constants n le o e shown = tables_agree f split st tables has loaded o e shown ∙ sym (keeps o n e le)
+    constants n le o e shown = tables_agree f split st tables has loaded o e shown ∙ sym (a_run_keeps_the_tables-runs f st packet well o n e le)
 
     abbrev StandsAt : ℕ → Type 0
     StandsAt i = is_carried split i ≡ true → (place : ℕ) → Same P F (record { instruction = i; result = place })
@@ -102,10 +92,10 @@ module _ (f : Program) (split : List Part) (st tables : Store) (packet : Packet)
         let pre = carried_pre f split legal n within carried in
         let now = (after f st packet n).store in
         let l = is_live f.blocks F (step_at f n).block in
-        staged_value agree f (pre_stage split) nothing tables packet (record { instruction = n; result = place }) pre (pre_rises f split legal) within
-        ∙ ap (λ rs. slice_index rs place) (agree.results P F false tables packet (work_at n) (agree.operands P F (work_at n) (each_weaker (λ v. (v.instruction < n) × (is_carried split v.instruction ≡ true)) (Same P F) (λ v h. before v.instruction h.0 h.1 v.result) (operands (work_at n)) (each_both (λ v. v.instruction < n) (λ v. is_carried split v.instruction ≡ true) (operands (work_at n)) (well.after_operands n within) (carried_operands f split legal n within carried)))))
+        staged_value f (pre_stage split) nothing tables packet (record { instruction = n; result = place }) pre (pre_rises f split legal) within
+        ∙ ap (λ rs. slice_index rs place) (readings_that_agree-results P F false tables packet (work_at n) (readings_that_agree-operands P F (work_at n) (each_weaker (λ v. (v.instruction < n) × (is_carried split v.instruction ≡ true)) (Same P F) (λ v h. before v.instruction h.0 h.1 v.result) (operands (work_at n)) (each_both (λ v. v.instruction < n) (λ v. is_carried split v.instruction ≡ true) (operands (work_at n)) (well.after_operands n within) (carried_operands f split legal n within carried)))))
         ∙ ap (λ rs. slice_index rs place) (seen_same F false l tables now packet (work_at n) (pre_kind f split legal n within pre) (constant_sight f tables now (work_at n) (λ o constant looks. constants n (omega (arith, within)) o constant (pre_shown f split n o within pre looks)) (carried_look f split legal n within carried)))
-        ∙ sym ((its n within).value place)
+        ∙ sym ((a_run_is_its_values f st packet n well within).value place)
 
     stands : (n : ℕ) → n ≤ length f.code → (i : ℕ) → i < n → StandsAt i
     stands zero le i lt = absurd (omega (arith, lt))
@@ -120,9 +110,7 @@ module _ (f : Program) (split : List Part) (st tables : Store) (packet : Packet)
 
 a_table : (kind : Kind) → is_table kind ≡ true → kind ≡ Table
 a_table Table e = refl
-a_table Map e = absurd (false≢true e)
-a_table Vector e = absurd (false≢true e)
-a_table Int e = absurd (false≢true e)
+a_table _ e = absurd (false≢true e)
 
 pub kept_has_tables : (f : Program) (st : Store) → IsKept f.objects st → HasConstantTables f st
 kept_has_tables f st kept = record {

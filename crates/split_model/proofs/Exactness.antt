@@ -1,18 +1,17 @@
 -- Preprocessing finishes exactly the fast packets, with their verdicts.
-use Rattle.std.proofs.Common.{◌≡◌, ◌⊎◌, ℕ, zero, suc, ◌==◌, ◌<◌, ◌≤◌, ◌%◌, ◌^◌, Bool, true, false, not, ◌&&◌, List, [], ◌∷◌, ◌++◌, length, Some, None, refl, sym, ap, ◌∙◌, subst, arith, ⊎_elim, slice_index, if◌then◌else◌}
+use Rattle.std.proofs.Common.{◌≡◌, ◌⊎◌, ℕ, zero, suc, ◌<◌, ◌≤◌, Bool, true, false, not, ◌&&◌, List, [], ◌∷◌, ◌++◌, length, Some, None, refl, sym, ap, ◌∙◌, subst, arith, ⊎_elim, slice_index, if◌then◌else◌}
 use Rattle.std.proofs.lemmas.Bool.{false≢true, cases_Bool, and_from, and_right, eq-eqb}
 use Rattle.std.proofs.Math.Nat.{eq-or-lt_of_le}
 use Rattle.std.specs.List.{AllByRecursion as Each}
 use Rattle.packet_fields.specs.declared.packet.Packet.{Packet}
 use Rattle.packet_fields.specs.Table.{row}
-use Rattle.packet_fields.specs.declared.verdict.Verdict.TheVariants.{Drop, Send}
 use Rattle.state_store.specs.Store.{Store, object_at}
 use Rattle.flat_ir.specs.declared.program.ValueId.{ValueId}
 use Rattle.flat_ir.specs.declared.program.FieldValue.{FieldValue}
 use Rattle.flat_ir.specs.Program.{Program, Work, step_at, operands}
-use Rattle.flat_ir.specs.Program.Work.{const, field, apply, shift, select, byte, look, put, del}
+use Rattle.flat_ir.specs.Program.Work.{field, apply, shift, select, byte, look, put, del}
 use Rattle.flat_ir.specs.Blocks.{Reading, nothing, is_on, same, block_at, line, is_live}
-use Rattle.flat_ir.specs.Run.{after, flat_run, made, change_of, with_changes, verdict, with_writes}
+use Rattle.flat_ir.specs.Run.{after, flat_run, made, change_of, with_changes, verdict}
 use Rattle.flat_ir.specs.WellFormed.{IsWellFormed, EachCondition, IsSeenFrom, IsInArm, SeesOperands, IsOutput, IsWritten}
 use Rattle.flat_ir.specs.Kinds.{is_write}
 use Rattle.flat_ir.specs.Laws.{Same, SameFor}
@@ -22,18 +21,16 @@ use Rattle.split_model.specs.Legal.{IsLegal}
 use Rattle.split_model.specs.Shown.{looks_at}
 use Rattle.split_model.specs.Passes.{pre_values, meets_rest, AgreeOnShown}
 use Rattle.split_model.specs.Laws.{IsExact}
-use Rattle.split_model.proofs.Below.{Agreements, AreItsValues, Lines, each_weaker}
-use Rattle.split_model.proofs.Passing.{any_passes}
 use Rattle.split_model.proofs.Rules.{pre_kind, pre_rises, writes_not_pre}
-use Rattle.split_model.proofs.Sights.{named_within, none_below, any_same, inside, SameSight, seen_same, no_change, writes_same}
+use Rattle.split_model.proofs.Sights.{named_within, none_below, any_same, inside, SameSight, seen_same, no_change, sent_same, writes_same}
 use Rattle.split_model.proofs.Stages.{staged_value}
+use Rattle.flat_ir.proofs.Passing.{any_passes}
+use Rattle.flat_ir.proofs.Laws.{a_run_is_its_values, lines_of_blocks-arm, lines_of_blocks-line, lines_of_blocks-live, lines_of_blocks-seen, readings_that_agree-results}
+use Rattle.lemmas.proofs.Lists.{each_weaker}
 
 -- verdicts from the same numbers
 pub verdict_same : (f : Program) (packet : Packet) (r r' : Reading) → Same r r' f.send → Same r r' f.port → Each (λ (w : FieldValue). Same r r' w.value) f.fields → verdict f packet r ≡ verdict f packet r'
-verdict_same f packet r r' send port writes =
-    ap (λ n. if n == 0 then Drop else Send (r f.port % 2 ^ 8) (with_writes f.fields r packet.bytes)) send
-    ∙ ap (λ n. if r' f.send == 0 then Drop else Send (n % 2 ^ 8) (with_writes f.fields r packet.bytes)) port
-    ∙ ap (λ bytes. if r' f.send == 0 then Drop else Send (r' f.port % 2 ^ 8) bytes) (writes_same r r' f.fields packet.bytes writes)
+verdict_same f packet r r' send port writes = sent_same send port (writes_same r r' f.fields packet.bytes writes)
 
 module _ (f : Program) (split : List Part) (st tables : Store) (packet : Packet) where
   abbrev P : Reading
@@ -55,9 +52,9 @@ module _ (f : Program) (split : List Part) (st tables : Store) (packet : Packet)
   abbrev Agrees : ℕ → Type 0
   Agrees n = (i : ℕ) → i < n → AgreesAt i
 
-  module _ (agree : Agreements) (lines : Lines f) (its : AreItsValues f st packet) (well : IsWellFormed f) (legal : IsLegal f split) where
+  module _ (well : IsWellFormed f) (legal : IsLegal f split) where
     agree_on : (n : ℕ) → Agrees n → (k : ℕ) → is_live f.blocks F k ≡ true → (v : ValueId) → v.instruction < n → IsSeenFrom f k v → Same P F v
-    agree_on n agrees k live v lt seen = (agrees v.instruction lt (lines.seen F k v seen live)).1 v.result
+    agree_on n agrees k live v lt seen = (agrees v.instruction lt (lines_of_blocks-seen f F k v well seen live)).1 v.result
 
     agree_in : (n : ℕ) → Agrees n → (v : ValueId) → v.instruction < n → is_live f.blocks F (block_of v.instruction) ≡ true → Same P F v
     agree_in n agrees v lt live = (agrees v.instruction lt live).1 v.result
@@ -68,7 +65,7 @@ module _ (f : Program) (split : List Part) (st tables : Store) (packet : Packet)
 
     agree_side : (n : ℕ) → Agrees n → (k : ℕ) → is_live f.blocks F k ≡ true → (c : ValueId) (polarity : Bool) → same polarity (is_on (F c)) ≡ true → (v : ValueId) → v.instruction < n → (IsSeenFrom f k v ⊎ IsInArm f k c polarity v) → Same P F v
     agree_side n agrees k live c polarity on v lt sees =
-        ⊎_elim (λ seen. agree_on n agrees k live v lt seen) (λ arm. agree_in n agrees v lt (lines.arm F k c polarity v arm live on)) sees
+        ⊎_elim (λ seen. agree_on n agrees k live v lt seen) (λ arm. agree_in n agrees v lt (lines_of_blocks-arm f F k c polarity v well arm live on)) sees
 
     each_split : (keys values : List ValueId) (Q : ValueId → Type 0) → Each Q (keys ++ values) → Each Q keys × Each Q values
     each_split [] values Q h = (tt, h)
@@ -76,8 +73,6 @@ module _ (f : Program) (split : List Part) (st tables : Store) (packet : Packet)
 
     -- in a live block an instruction reads the same
     for_work : (n : ℕ) → Agrees n → (k : ℕ) → is_live f.blocks F k ≡ true → (work : Work) → Each (λ v. v.instruction < n) (operands work) → SeesOperands f k work → SameFor P F work
-    for_work n agrees k live (const width number) lt sees = tt
-    for_work n agrees k live (field name) lt sees = tt
     for_work n agrees k live (apply op width args) lt sees = agree_each n agrees k live args lt sees
     for_work n agrees k live (shift op width arg by) lt sees = agree_on n agrees k live arg lt.0 sees
     for_work n agrees k live (select width c first second) lt sees =
@@ -89,6 +84,7 @@ module _ (f : Program) (split : List Part) (st tables : Store) (packet : Packet)
         let parts = each_split keys values (λ v. v.instruction < n) lt in
         (agree_each n agrees k live keys parts.0 sees.0, agree_each n agrees k live values parts.1 sees.1)
     for_work n agrees k live (del object keys) lt sees = agree_each n agrees k live keys lt sees
+    for_work n agrees k live _ lt sees = tt
 
     -- a block whose conditions stand is live by both or by none
     same_live : (n : ℕ) → Agrees n → (u k : ℕ) → k ≤ u → k ≤ length f.blocks → Each (EachCondition f (λ c. c.instruction < n)) (line f.blocks k) → is_live f.blocks P k ≡ is_live f.blocks F k
@@ -99,14 +95,14 @@ module _ (f : Program) (split : List Part) (st tables : Store) (packet : Packet)
         let c = (block_at f.blocks k).cond in
         let polarity = (block_at f.blocks k).polarity in
         let low : parent ≤ k = well.parents k (omega (arith, there)) in
-        let parts = subst (Each (EachCondition f (λ c. c.instruction < n))) (lines.line k) lt in
+        let parts = subst (Each (EachCondition f (λ c. c.instruction < n))) (lines_of_blocks-line f.blocks k well.parents) lt in
         let rest : is_live f.blocks P parent ≡ is_live f.blocks F parent = same_live n agrees u parent (omega (arith, low, le)) (omega (arith, low, there)) parts.1 in
-        lines.live P k
+        lines_of_blocks-live f.blocks P k well.parents
         ∙ ⊎_elim
         (λ on. ap (λ b. same polarity (is_on (P c)) && b) rest ∙ ap (λ m. same polarity (is_on m) && is_live f.blocks F parent) (agree_on n agrees parent on c parts.0 (well.conditions k (omega (arith, there)))))
         (λ off. and_right (same polarity (is_on (P c))) (is_live f.blocks P parent) (rest ∙ off) ∙ sym (and_right (same polarity (is_on (F c))) (is_live f.blocks F parent) off))
         (cases_Bool (is_live f.blocks F parent))
-        ∙ sym (lines.live F k)
+        ∙ sym (lines_of_blocks-live f.blocks F k well.parents)
 
     live_both : (n : ℕ) → Agrees n → (i : ℕ) → i ≤ n → i < length f.code → is_live f.blocks P (block_of i) ≡ is_live f.blocks F (block_of i)
     live_both n agrees i le within =
@@ -118,7 +114,7 @@ module _ (f : Program) (split : List Part) (st tables : Store) (packet : Packet)
         let m = after f st packet n in
         let change = change_of m.reads m.store (work_at n) in
         ⊎_elim
-        (λ write. ap (λ l. made l change) ((its n within).live ∙ not_live (is_live f.blocks F (block_of n)) gate (writes_not_pre f split legal n within write)))
+        (λ write. ap (λ l. made l change) ((a_run_is_its_values f st packet n well within).live ∙ not_live (is_live f.blocks F (block_of n)) gate (writes_not_pre f split legal n within write)))
         (λ none. no_change m.reads (is_live f.blocks m.reads (block_of n)) m.store (work_at n) none)
         (cases_Bool (is_write (work_at n)))
       where
@@ -131,23 +127,16 @@ module _ (f : Program) (split : List Part) (st tables : Store) (packet : Packet)
       sight i within pre now e (look object keys) is =
           shows object (any_passes (length f.code) (λ j. is_pre split j && looks_at object (work_at j)) i within (and_from (is_pre split i) (looks_at object (work_at i)) pre (ap (looks_at object) is ∙ eq-eqb object object refl)))
           ∙ ap (λ s. object_at s object) (sym e)
-      sight i within pre now e (const width number) is = tt
-      sight i within pre now e (field name) is = tt
-      sight i within pre now e (apply op width args) is = tt
-      sight i within pre now e (shift op width arg by) is = tt
-      sight i within pre now e (select width c first second) is = tt
-      sight i within pre now e (byte index) is = tt
-      sight i within pre now e (put object keys values) is = tt
-      sight i within pre now e (del object keys) is = tt
+      sight i within pre now e _ is = tt
 
       agree_step : (n : ℕ) → n < length f.code → Agrees n → (after f st packet n).store ≡ st → is_live f.blocks F (block_of n) ≡ true → is_pre split n ≡ true → (place : ℕ) → Same P F (record { instruction = n; result = place })
       agree_step n within agrees same live pre place =
           let now = (after f st packet n).store in
           let l = is_live f.blocks F (block_of n) in
-          staged_value agree f (pre_stage split) nothing tables packet (record { instruction = n; result = place }) pre (pre_rises f split legal) within
-          ∙ ap (λ rs. slice_index rs place) (agree.results P F false tables packet (work_at n) (for_work n agrees (block_of n) live (work_at n) (well.after_operands n within) (well.sees n within)))
+          staged_value f (pre_stage split) nothing tables packet (record { instruction = n; result = place }) pre (pre_rises f split legal) within
+          ∙ ap (λ rs. slice_index rs place) (readings_that_agree-results P F false tables packet (work_at n) (for_work n agrees (block_of n) live (work_at n) (well.after_operands n within) (well.sees n within)))
           ∙ ap (λ rs. slice_index rs place) (seen_same F false l tables now packet (work_at n) (pre_kind f split legal n within pre) (sight n within pre now same (work_at n) refl))
-          ∙ sym ((its n within).value place)
+          ∙ sym ((a_run_is_its_values f st packet n well within).value place)
 
       -- what lets an instruction be in the pass
       abbrev Gate : Type 0

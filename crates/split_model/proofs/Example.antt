@@ -1,7 +1,6 @@
 -- A small program with a split in which every part has work.
-use Rattle.std.proofs.Common.{◌≡◌, ◌<◌, ℕ, zero, suc, Bool, true, false, not, ◌==◌, List, [], ◌∷◌, nat_lt, nat_le, Some, None, refl, arith, ⊎_elim, inl, inr, subst, sym}
-use Rattle.std.proofs.lemmas.Bool.{and_parts, eqb-true, ltb-true, leb-true}
-use Rattle.std.proofs.Math.Nat.{eq-or-lt_of_le}
+use Rattle.std.proofs.Common.{◌≡◌, ◌<◌, ℕ, zero, suc, true, false, not, ◌==◌, List, [], ◌∷◌, nat_lt, nat_le, Some, None, refl, arith, inl, inr}
+use Rattle.std.proofs.lemmas.Bool.{eqb-true, ltb-true, leb-true, not-true}
 use Rattle.std.specs.List.{list_all}
 use Rattle.gal_bits.specs.declared.op.Op.TheVariants.{Add, Mul}
 use Rattle.packet_fields.specs.declared.field.Field.TheVariants.{MetaLen}
@@ -18,9 +17,9 @@ use Rattle.split_model.specs.declared.split.Part.{Part}
 use Rattle.split_model.specs.declared.split.Slow.TheVariants.{Carried, Server, Post}
 use Rattle.split_model.specs.Laws.{HasEveryPart}
 use Rattle.split_model.specs.Legal.{IsLegal, breaks}
-use Rattle.split_model.proofs.Below.{each_weaker}
-use Rattle.split_model.proofs.Crossings.{not_true}
 use Rattle.split_model.proofs.Rules.{each_true}
+use Rattle.flat_ir.proofs.Exact.{below_each}
+use Rattle.lemmas.proofs.Lists.{each_weaker}
 
 abbrev val : ℕ → ℕ → ValueId
 val i j = record { instruction = i; result = j }
@@ -71,21 +70,11 @@ parts =
 
 -- ## Tests of each number below one
 
-at : (n : ℕ) (test : ℕ → Bool) → all_below n test ≡ true → (i : ℕ) → i < n → test i ≡ true
-at zero test e i lt = absurd (omega (arith, lt))
-at (suc n) test e i lt =
-    let parts = and_parts (all_below n test) (test n) e in
-    ⊎_elim (λ same. subst (λ k. test k ≡ true) (sym same) parts.1) (λ less. at n test parts.0 i less) (eq-or-lt_of_le {n = i} {m = n} (omega (arith, lt)))
-
 before : (i : ℕ) (k : ℕ) → is_before program.blocks i k ≡ true → EachCondition program (λ c. c.instruction < i) k
 before i zero e = tt
 before i (suc k) e = ltb-true (block_at program.blocks k).cond.instruction i e
 
 sees : (i : ℕ) → i < 10 → SeesOperands program (step_at program i).block (step_at program i).work
-sees zero lt = tt
-sees (suc zero) lt = tt
-sees (suc (suc zero)) lt = tt
-sees (suc (suc (suc zero))) lt = tt
 sees (suc (suc (suc (suc zero)))) lt = (refl, (refl, tt))
 sees (suc (suc (suc (suc (suc zero))))) lt = (refl, tt)
 sees (suc (suc (suc (suc (suc (suc zero)))))) lt = ((refl, tt), (refl, tt))
@@ -94,23 +83,24 @@ sees (suc (suc (suc (suc (suc (suc (suc (suc zero)))))))) lt = (refl, (refl, tt)
 sees (suc (suc (suc (suc (suc (suc (suc (suc (suc zero))))))))) lt =
     (refl, inl refl, inr (record { arm = 0; stands = refl; there = omega arith; block = refl }))
 sees (suc (suc (suc (suc (suc (suc (suc (suc (suc (suc i)))))))))) lt = absurd (omega (arith, lt))
+sees _ lt = tt
 
 pub well : IsWellFormed program
 well = record {
-  parents = λ k lt. leb-true (block_at program.blocks k).parent k (at 1 (λ j. nat_le (block_at program.blocks j).parent j) refl k lt);
-  names_conditions = at 1 (λ j. is_named program (block_at program.blocks j).cond) refl;
-  condition_widths = λ k lt. eqb-true (width_of_value program (block_at program.blocks k).cond) 1 (at 1 (λ j. width_of_value program (block_at program.blocks j).cond == 1) refl k lt);
-  conditions = at 1 (λ j. is_seen program (block_at program.blocks j).parent (block_at program.blocks j).cond) refl;
-  blocks = λ i lt. leb-true (step_at program i).block 1 (at 10 (λ j. nat_le (step_at program j).block 1) refl i lt);
+  parents = λ k lt. leb-true (block_at program.blocks k).parent k (below_each 1 (λ j. nat_le (block_at program.blocks j).parent j) refl k lt);
+  names_conditions = below_each 1 (λ j. is_named program (block_at program.blocks j).cond) refl;
+  condition_widths = λ k lt. eqb-true (width_of_value program (block_at program.blocks k).cond) 1 (below_each 1 (λ j. width_of_value program (block_at program.blocks j).cond == 1) refl k lt);
+  conditions = below_each 1 (λ j. is_seen program (block_at program.blocks j).parent (block_at program.blocks j).cond) refl;
+  blocks = λ i lt. leb-true (step_at program i).block 1 (below_each 10 (λ j. nat_le (step_at program j).block 1) refl i lt);
   after_conditions = λ i lt.
       each_weaker (λ k. is_before program.blocks i k ≡ true) (EachCondition program (λ c. c.instruction < i)) (before i) (line program.blocks (step_at program i).block)
-      (each_true (is_before program.blocks i) (line program.blocks (step_at program i).block) (at 10 (λ j. list_all (is_before program.blocks j) (line program.blocks (step_at program j).block)) refl i lt));
+      (each_true (is_before program.blocks i) (line program.blocks (step_at program i).block) (below_each 10 (λ j. list_all (is_before program.blocks j) (line program.blocks (step_at program j).block)) refl i lt));
   after_operands = λ i lt.
       each_weaker (λ (v : ValueId). nat_lt v.instruction i ≡ true) (λ (v : ValueId). v.instruction < i) (λ (v : ValueId) e. ltb-true v.instruction i e) (operands (step_at program i).work)
-      (each_true (λ (v : ValueId). nat_lt v.instruction i) (operands (step_at program i).work) (at 10 (λ j. list_all (λ (v : ValueId). nat_lt v.instruction j) (operands (step_at program j).work)) refl i lt));
-  names = λ i lt. each_true (is_named program) (operands (step_at program i).work) (at 10 (λ j. list_all (is_named program) (operands (step_at program j).work)) refl i lt);
+      (each_true (λ (v : ValueId). nat_lt v.instruction i) (operands (step_at program i).work) (below_each 10 (λ j. list_all (λ (v : ValueId). nat_lt v.instruction j) (operands (step_at program j).work)) refl i lt));
+  names = λ i lt. each_true (is_named program) (operands (step_at program i).work) (below_each 10 (λ j. list_all (is_named program) (operands (step_at program j).work)) refl i lt);
   sees = sees;
-  fit = at 10 (λ j. fits program (step_at program j).work) refl;
+  fit = below_each 10 (λ j. fits program (step_at program j).work) refl;
   send = record { named = refl; root = refl; wide = refl };
   port = record { named = refl; root = refl; wide = refl };
   fields = tt;
@@ -119,7 +109,7 @@ well = record {
 
 -- no instruction breaks the rule of a number
 unbroken : (rule : ℕ) → all_below 10 (λ i. not (breaks rule program parts i)) ≡ true → (i : ℕ) → i < 10 → breaks rule program parts i ≡ false
-unbroken rule e i lt = not_true (breaks rule program parts i) (at 10 (λ j. not (breaks rule program parts j)) e i lt)
+unbroken rule e i lt = not-true (breaks rule program parts i) (below_each 10 (λ j. not (breaks rule program parts j)) e i lt)
 
 kept : (rule i : ℕ) → i < 10 → breaks rule program parts i ≡ false
 kept zero i lt = refl

@@ -1,5 +1,5 @@
 -- The server keeps to the declared widths.
-use Rattle.std.proofs.Common.{◌≡◌, ◌<◌, ◌≤◌, ◌^◌, ℕ, zero, suc, Bool, true, false, ◌||◌, List, [], ◌∷◌, length, slice_index, Option, Some, None, refl, sym, ap, ◌∙◌, subst, arith, ⊎_elim, if◌then◌else◌}
+use Rattle.std.proofs.Common.{◌≡◌, ◌<◌, ◌≤◌, ◌^◌, ℕ, zero, suc, Bool, true, false, List, [], ◌∷◌, length, slice_index, Option, Some, None, refl, sym, ap, ◌∙◌, subst, ⊎_elim, if◌then◌else◌}
 use Rattle.std.proofs.lemmas.Bool.{cond-true, cases_lt, false≢true}
 use Rattle.std.proofs.lemmas.Nat.{pow_pos}
 use Rattle.std.proofs.lemmas.Option.{none-some}
@@ -7,38 +7,25 @@ use Rattle.packet_fields.specs.declared.packet.Packet.{Packet}
 use Rattle.state_store.specs.Kept.{IsKept}
 use Rattle.state_store.specs.Store.{Store}
 use Rattle.flat_ir.specs.declared.program.ValueId.{ValueId}
-use Rattle.flat_ir.specs.Blocks.{Reading, nothing, is_live}
+use Rattle.flat_ir.specs.Blocks.{Reading, nothing}
 use Rattle.flat_ir.specs.Kinds.{is_input}
 use Rattle.flat_ir.specs.Program.Work.{const}
+use Rattle.flat_ir.specs.Arrivals.{IsArrival}
 use Rattle.flat_ir.specs.Laws.{AllFit, KeepsWidths}
+use Rattle.flat_ir.specs.WellFormed.{IsWellFormed}
+use Rattle.flat_ir.proofs.Laws.{a_turn_keeps_widths}
 use Rattle.flat_ir.specs.Program.{Program, Step, step_at, width_of_value}
-use Rattle.flat_ir.specs.Run.{Machine, do_step, results}
+use Rattle.flat_ir.specs.Run.{results}
 use Rattle.split_model.specs.Crossing.{crosses_up, crosses_down, is_at_hand}
 use Rattle.split_model.specs.declared.split.Part.{Part}
 use Rattle.split_model.specs.Laws.{FitAcross, IsServedAlike, IsServedWithin}
-use Rattle.split_model.specs.Passes.{IsHanded, is_stage, done_below, value_from, pass, given_down, served, server_run}
+use Rattle.split_model.specs.Passes.{IsHanded, is_stage, done_below, value_from, pass, given_down, server_run}
 use Rattle.split_model.specs.declared.split.Slow.TheVariants.{Server}
-use Rattle.split_model.specs.Split.{pre_stage, post_stage, stage_after, is_server}
-use Rattle.split_model.proofs.Carrying.{beyond}
+use Rattle.split_model.specs.Split.{pre_stage, post_stage, stage_after}
 use Rattle.split_model.proofs.Crossings.{input_from}
-use Rattle.split_model.proofs.Serving.{set_own}
 use Rattle.split_model.proofs.Sights.{input_same}
-
-either : (f : Program) (b : Bool) (x y : Machine) → KeepsWidths f x → KeepsWidths f y → KeepsWidths f (if b then x else y)
-either f true x y h k = h
-either f false x y h k = k
-
--- what an instruction keeps
-abbrev pub Turns : Program → Packet → Type 0
-Turns f packet = (live : Bool) (i : ℕ) (m : Machine) → i < length f.code → KeepsWidths f m → KeepsWidths f (do_step live packet i (step_at f i).work m)
-
-pub served_fits : (f : Program) (split : List Part) (st : Store) (packet : Packet) (up : Reading) → Turns f packet → IsKept f.objects st → AllFit f up → (n : ℕ) → n ≤ length f.code → KeepsWidths f (served f split up st packet n)
-served_fits f split st packet up turns kept fit zero le = record { kept = kept; fits = fit }
-served_fits f split st packet up turns kept fit (suc n) le =
-    let m = served f split up st packet n in
-    let so = served_fits f split st packet up turns kept fit n (omega (arith, le)) in
-    let live = is_live f.blocks m.reads (step_at f n).block in
-    either f (is_input (step_at f n).work || is_server split n) (do_step live packet n (step_at f n).work m) m (turns live n m le so) so
+use Rattle.flat_ir.proofs.Runs.{set_own}
+use Rattle.std.proofs.lemmas.List.{get_or_past}
 
 -- the numbers of the values that cross, and 0 for all others
 abbrev pub crossing_alone : Program → List Part → Reading → Reading
@@ -63,13 +50,13 @@ served_within f split st packet up other alike fit = record {
 
 -- ## Passes
 
-module _ (f : Program) (packet : Packet) (tables : Store) (turns : Turns f packet) (kept : IsKept f.objects tables) where
+module _ (f : Program) (packet : Packet) (tables : Store) (well : IsWellFormed f) (arrives : IsArrival packet) (kept : IsKept f.objects tables) where
   -- an instruction's results of numbers that fit
   made_fits : (r : Reading) → AllFit f r → (v : ValueId) → v.instruction < length f.code → slice_index (results r false tables packet (step_at f v.instruction).work) v.result < 2 ^ width_of_value f v
   made_fits r fit v lt =
       let rs = results r false tables packet (step_at f v.instruction).work in
       subst (λ n. n < 2 ^ width_of_value f v) (set_own v.instruction rs r v refl)
-      ((turns false v.instruction (record { reads = r; store = tables; changes = [] }) lt (record { kept = kept; fits = fit })).fits v)
+      ((a_turn_keeps_widths f packet false v.instruction (record { reads = r; store = tables; changes = [] }) well arrives lt (record { kept = kept; fits = fit })).fits v)
 
   module _ (stage : ℕ → Option ℕ) (given : Reading) (fit : AllFit f given) (within : (i own : ℕ) → stage i ≡ Some own → i < length f.code) where
     abbrev done : ℕ → Reading
@@ -97,7 +84,7 @@ module _ (f : Program) (packet : Packet) (tables : Store) (turns : Turns f packe
   -- what postprocessing has at hand
   past_the_end : (v : ValueId) → length f.code ≤ v.instruction → slice_index (results nothing false [] packet (step_at f v.instruction).work) v.result ≡ 0
   past_the_end v le =
-      ap (λ (s : Step). slice_index (results nothing false [] packet s.work) v.result) (beyond f.code v.instruction (record { block = 0; looped = false; work = const 1 0 }) le) ∙ zero_at v.result
+      ap (λ (s : Step). slice_index (results nothing false [] packet s.work) v.result) (get_or_past f.code v.instruction (record { block = 0; looped = false; work = const 1 0 }) le) ∙ zero_at v.result
     where
       zero_at : (k : ℕ) → slice_index (0 ∷ []) k ≡ 0
       zero_at zero = refl
@@ -122,8 +109,8 @@ module _ (f : Program) (packet : Packet) (tables : Store) (turns : Turns f packe
 
 pub pre_within : (f : Program) (split : List Part) → length split ≡ length f.code → (i own : ℕ) → pre_stage split i ≡ Some own → i < length f.code
 pre_within f split count i own e =
-    ⊎_elim (λ lt. lt) (λ le. absurd (none-some own (sym (ap (λ (p : Part). p.pre) (beyond split i (record { pre = None; slow = Server }) (subst (λ n. n ≤ i) (sym count) le))) ∙ e))) (cases_lt i (length f.code))
+    ⊎_elim (λ lt. lt) (λ le. absurd (none-some own (sym (ap (λ (p : Part). p.pre) (get_or_past split i (record { pre = None; slow = Server }) (subst (λ n. n ≤ i) (sym count) le))) ∙ e))) (cases_lt i (length f.code))
 
 pub post_within : (f : Program) (split : List Part) → length split ≡ length f.code → (i own : ℕ) → post_stage split i ≡ Some own → i < length f.code
 post_within f split count i own e =
-    ⊎_elim (λ lt. lt) (λ le. absurd (none-some own (sym (ap (λ (p : Part). stage_after p.slow) (beyond split i (record { pre = None; slow = Server }) (subst (λ n. n ≤ i) (sym count) le))) ∙ e))) (cases_lt i (length f.code))
+    ⊎_elim (λ lt. lt) (λ le. absurd (none-some own (sym (ap (λ (p : Part). stage_after p.slow) (get_or_past split i (record { pre = None; slow = Server }) (subst (λ n. n ≤ i) (sym count) le))) ∙ e))) (cases_lt i (length f.code))

@@ -1,22 +1,22 @@
-mod Below
 mod Carrying
-mod Crossings
+pub mod Crossings
 mod Descents
 mod Exactness
 mod Example
-mod Fitness
+pub mod Fitness
 mod Marking
-mod Numbering
+pub mod Numbering
 mod Passing
 mod Posting
 mod Rules
 mod Served
 mod Serving
 mod Showing
-mod Sights
+pub mod Sights
 mod Stages
-mod Steps
-mod Sums
+pub mod Steps
+pub mod Sums
 mod Tabled
 mod Wholes
 mod Wide
+pub mod Laws

@@ -8,7 +8,7 @@ use Rattle.flat_ir.specs.declared.program.FieldValue.{FieldValue}
 use Rattle.split_model.specs.declared.split.Part.{Part}
 use Rattle.split_model.specs.Crossing.{is_value, is_among, is_server_write}
 use Rattle.split_model.specs.Marked.{AreMarked}
-use Rattle.split_model.proofs.Passing.{or_assoc}
+use Rattle.lemmas.proofs.Tests.{or_assoc}
 
 -- marks for one test are marks for another one that says the same
 pub same_test : (n : ℕ) (p q : ValueId → Bool) (marks : List Bool) → ((v : ValueId) → p v ≡ q v) → AreMarked n p marks → AreMarked n q marks

@@ -23,7 +23,7 @@ results_more f test before i n =
     joined f test before (first_results i n) (record { instruction = i; result = n } ∷ [])
     ∙ ap (λ m. before ++ map (crossing f) (filter test (first_results i m))) (sym (add-one n))
 
-count_results : (i n : ℕ) → length (first_results i n) ≡ n
+pub count_results : (i n : ℕ) → length (first_results i n) ≡ n
 count_results i zero = refl
 count_results i (suc n) = simp length-append (let rest = count_results i n in omega arith)
 
@@ -44,7 +44,7 @@ fewer : (b : Bool) (x : ValueId) (xs : List ValueId) (n : ℕ) → length xs ≤
 fewer true x xs n h = omega arith
 fewer false x xs n h = omega arith
 
-few_pass : (test : ValueId → Bool) (vs : List ValueId) → length (filter test vs) ≤ length vs
+pub few_pass : (test : ValueId → Bool) (vs : List ValueId) → length (filter test vs) ≤ length vs
 few_pass test [] = omega arith
 few_pass test (v ∷ vs) = fewer (test v) v (filter test vs) (length vs) (few_pass test vs)
 

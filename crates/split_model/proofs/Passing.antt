@@ -1,42 +1,9 @@
 -- Tests that some number below a bound passes.
-use Rattle.std.proofs.Common.{◌≡◌, ℕ, zero, suc, ◌+◌, ◌<◌, Bool, true, false, ◌&&◌, ◌||◌, ◌⊎◌, inl, inr, refl, ap, sym, ◌∙◌, arith, add-one}
-use Rattle.std.specs.Prelude.{nat_lt}
-use Rattle.std.proofs.lemmas.Bool.{or_left, or_right, or_cases}
-use Rattle.std.proofs.lemmas.Bool.Decides.{nat_tests}
+use Rattle.std.proofs.Common.{◌≡◌, ℕ, ◌+◌, Bool, true, false, ◌&&◌, ◌||◌, refl, ap, sym, add-one}
 use Rattle.split_model.specs.Split.{any_below}
-
-pub lt_true : (i k : ℕ) → nat_lt i k ≡ true → i < k
-lt_true i k h = grind (arith, nat_tests)
-
-pub true_lt : (i k : ℕ) → i < k → nat_lt i k ≡ true
-true_lt i k h = grind (arith, nat_tests)
-
-under_suc : (i n : ℕ) → i < suc n → (i < n) ⊎ (i ≡ n)
-under_suc i zero h = inr (omega arith)
-under_suc zero (suc n) h = inl (omega arith)
-under_suc (suc i) (suc n) h = elim (under_suc i n (omega arith)) [ inl p ↦ inl (omega arith) | inr q ↦ inr (ap suc q) ]
-
-pub any_passes : (n : ℕ) (test : ℕ → Bool) (i : ℕ) → i < n → test i ≡ true → any_below n test ≡ true
-any_passes zero test i h t = absurd (omega arith)
-any_passes (suc n) test i h t = elim (under_suc i n h) [
-  | inl lt ↦ or_left _ _ (any_passes n test i lt t)
-  | inr e ↦ or_right (any_below n test) (test n) (ap test (sym e) ∙ t)
-]
-
--- a number below the bound that passes
-pub passes_any : (n : ℕ) (test : ℕ → Bool) → any_below n test ≡ true → (i : ℕ) × (i < n) × (test i ≡ true)
-passes_any zero test h = cc
-passes_any (suc n) test h = elim (or_cases (any_below n test) (test n) h) [
-  | inl p ↦ let found = passes_any n test p in (found.0, omega (arith, found.1), found.2)
-  | inr q ↦ (n, omega arith, q)
-]
 
 pub any_more : (n : ℕ) (test : ℕ → Bool) → (any_below n test || test n) ≡ any_below (n + 1) test
 any_more n test = ap (λ m. any_below m test) (sym (add-one n))
-
-pub or_assoc : (a b c : Bool) → ((a || b) || c) ≡ (a || (b || c))
-or_assoc true b c = refl
-or_assoc false b c = refl
 
 pub with_true : (a b : Bool) → a ≡ true → b ≡ (a && b)
 with_true true b h = refl

@@ -1,25 +1,24 @@
 -- Postprocessing hangs on what crosses down alone, and on the server's numbers for fields.
-use Rattle.std.proofs.Common.{◌≡◌, ◌==◌, ◌%◌, ◌^◌, true, false, List, [], refl, sym, ap, ◌∙◌, ⊎_elim, slice_index, if◌then◌else◌}
+use Rattle.std.proofs.Common.{◌≡◌, true, false, List, [], refl, sym, ◌∙◌, ⊎_elim, slice_index, if◌then◌else◌}
 use Rattle.std.proofs.lemmas.Bool.{cases_Bool, cond-true, cond-false}
 use Rattle.packet_fields.specs.declared.packet.Packet.{Packet}
-use Rattle.packet_fields.specs.declared.verdict.Verdict.TheVariants.{Drop, Send}
 use Rattle.state_store.specs.Store.{Store}
 use Rattle.flat_ir.specs.declared.program.FieldValue.{FieldValue}
 use Rattle.flat_ir.specs.declared.program.ValueId.{ValueId}
 use Rattle.flat_ir.specs.Blocks.{Reading, nothing}
 use Rattle.flat_ir.specs.Program.{Program, step_at}
-use Rattle.flat_ir.specs.Run.{results, with_writes}
+use Rattle.flat_ir.specs.Run.{results}
 use Rattle.split_model.specs.Crossing.{is_at_hand, is_written_value, crosses_down}
 use Rattle.split_model.specs.declared.split.Part.{Part}
 use Rattle.split_model.specs.Laws.{IsSentAlike}
 use Rattle.split_model.specs.Passes.{IsHanded, given_down, post_values, leaving}
 use Rattle.split_model.specs.Split.{post_stage, is_post}
-use Rattle.split_model.proofs.Below.{Agreements, each_weaker}
 use Rattle.split_model.proofs.Crossings.{each_written}
-use Rattle.split_model.proofs.Sights.{writes_same}
+use Rattle.split_model.proofs.Sights.{sent_same, writes_same}
 use Rattle.split_model.proofs.Stages.{pass_alike}
+use Rattle.lemmas.proofs.Lists.{each_weaker}
 
-module _ (f : Program) (split : List Part) (tables : Store) (packet : Packet) (server down other_server other_down : Reading) (agree : Agreements) (written : IsHanded (is_written_value f split) server other_server) (handed : IsHanded (crosses_down f split) down other_down) where
+module _ (f : Program) (split : List Part) (tables : Store) (packet : Packet) (server down other_server other_down : Reading) (written : IsHanded (is_written_value f split) server other_server) (handed : IsHanded (crosses_down f split) down other_down) where
   abbrev Q : Reading
   Q = post_values f split down tables packet
 
@@ -35,7 +34,7 @@ module _ (f : Program) (split : List Part) (tables : Store) (packet : Packet) (s
       (cases_Bool (crosses_down f split v))
 
   values_alike : (v : ValueId) → R v ≡ Q v
-  values_alike v = pass_alike agree f (post_stage split) (given_down f split other_down packet) (given_down f split down packet) tables tables packet packet given_alike (λ u some r. refl) v
+  values_alike v = pass_alike f (post_stage split) (given_down f split other_down packet) (given_down f split down packet) tables tables packet packet given_alike (λ u some r. refl) v
 
   leaves_alike : (w : FieldValue) → (is_post split w.value.instruction ≡ false → is_written_value f split w.value ≡ true) → leaving split other_server R w.value ≡ leaving split server Q w.value
   leaves_alike w set =
@@ -50,9 +49,6 @@ module _ (f : Program) (split : List Part) (tables : Store) (packet : Packet) (s
       let M = leaving split server Q in
       record {
         values = values_alike;
-        verdict =
-            ap (λ n. if n == 0 then Drop else Send (R f.port % 2 ^ 8) (with_writes f.fields L packet.bytes)) (values_alike f.send)
-            ∙ ap (λ n. if Q f.send == 0 then Drop else Send (n % 2 ^ 8) (with_writes f.fields L packet.bytes)) (values_alike f.port)
-            ∙ ap (λ bytes. if Q f.send == 0 then Drop else Send (Q f.port % 2 ^ 8) bytes)
+        verdict = sent_same (values_alike f.send) (values_alike f.port)
             (writes_same L M f.fields packet.bytes (each_weaker (λ (w : FieldValue). is_post split w.value.instruction ≡ false → is_written_value f split w.value ≡ true) (λ (w : FieldValue). L w.value ≡ M w.value) leaves_alike f.fields (each_written split f.fields)));
       }

@@ -1,6 +1,6 @@
 -- What the nine rules say of the instructions of a legal split.
 use Rattle.std.proofs.Common.{◌≡◌, ℕ, zero, suc, ◌==◌, ◌<◌, Bool, true, false, not, ◌&&◌, ◌||◌, List, [], ◌∷◌, length, nat_lt, Option, Some, inl, inr, refl, sym, ap, ◌∙◌, arith}
-use Rattle.std.proofs.lemmas.Bool.{false≢true, true≢false, or_parts, or_cases, cases_eq, cases_lt, eqb-true, eq-eqb, ltb-true}
+use Rattle.std.proofs.lemmas.Bool.{false≢true, true≢false, or_parts, or_cases, cases_eq, cases_lt, eqb-true, eq-eqb, ltb-true, not-false}
 use Rattle.std.specs.List.{AllByRecursion as Each, list_all, list_any}
 use Rattle.flat_ir.specs.declared.program.ValueId.{ValueId}
 use Rattle.flat_ir.specs.Program.{Program, Work, step_at, operands}
@@ -12,22 +12,14 @@ use Rattle.split_model.specs.Split.{pre_stage, post_stage, is_pre, is_carried, i
 use Rattle.split_model.specs.Legal.{IsLegal, is_post_condition, is_not_lower, is_misplaced}
 use Rattle.split_model.specs.Crossing.{is_value, is_among}
 use Rattle.split_model.specs.Laws.{GoesByStages}
-use Rattle.split_model.proofs.Below.{each_weaker}
+use Rattle.lemmas.proofs.Lists.{each_weaker}
+use Rattle.lemmas.proofs.Tests.{and_second, true_of_and_not}
 
 -- ## Tests that hold
-
-pub both_false : (a b : Bool) → (a && not b) ≡ false → a ≡ true → b ≡ true
-both_false true true e h = refl
-both_false true false e h = absurd (true≢false e)
-both_false false b e h = absurd (false≢true h)
 
 pub second_false : (a b : Bool) → (a && b) ≡ false → a ≡ true → b ≡ false
 second_false true b e h = e
 second_false false b e h = absurd (false≢true h)
-
-pub not_false : (b : Bool) → not b ≡ false → b ≡ true
-not_false true e = refl
-not_false false e = absurd (true≢false e)
 
 pub each_true : {X : Type 0} (test : X → Bool) (xs : List X) → list_all test xs ≡ true → Each (λ x. test x ≡ true) xs
 each_true test [] e = tt
@@ -52,7 +44,7 @@ abbrev pub IsRising : Program → (ℕ → Option ℕ) → Type 0
 IsRising f stage = (i own : ℕ) → i < length f.code → stage i ≡ Some own → Each (IsLower stage own) (operands (step_at f i).work)
 
 is_lower : (stage : ℕ → Option ℕ) (own : ℕ) (v : ValueId) → is_not_lower (stage v.instruction) own ≡ false → IsLower stage own v
-is_lower stage own v e other is = ltb-true other own (not_false (nat_lt other own) (ap (λ o. is_not_lower o own) (sym is) ∙ e))
+is_lower stage own v e other is = ltb-true other own (not-false (nat_lt other own) (ap (λ o. is_not_lower o own) (sym is) ∙ e))
 
 rises : (f : Program) (stage : ℕ → Option ℕ) (i own : ℕ) → stage i ≡ Some own → is_misplaced f stage i (stage i) ≡ false → Each (IsLower stage own) (operands (step_at f i).work)
 rises f stage i own is e =
@@ -97,7 +89,7 @@ by_stages f stage placed = record {
     own_place : (i own : ℕ) → i < length f.code → stage i ≡ Some own → same (is_input (step_at f i).work) (own == 0) ≡ true
     own_place i own within is =
         let work = (step_at f i).work in
-        not_false (same (is_input work) (own == 0))
+        not-false (same (is_input work) (own == 0))
         ((or_parts (not (same (is_input work) (own == 0))) (list_any (λ v. is_not_lower (stage v.instruction) own) (operands work)) (ap (is_misplaced f stage i) (sym is) ∙ placed i within)).0)
 
 -- ## The rules
@@ -107,28 +99,24 @@ no_post_condition : (f : Program) (split : List Part) (k : ℕ) → is_post_cond
 no_post_condition f split zero e = tt
 no_post_condition f split (suc k) e = e
 
-can_of : (a b : Bool) → (a && b) ≡ true → b ≡ true
-can_of true b h = h
-can_of false b h = absurd (false≢true h)
-
 module _ (f : Program) (split : List Part) (legal : IsLegal f split) (i : ℕ) (within : i < length f.code) where
   abbrev work : Work
   work = (step_at f i).work
 
   -- preprocessing does what the switch can, from values that it has
   pub pre_kind : is_pre split i ≡ true → can_switch work ≡ true
-  pre_kind pre = can_of (not (step_at f i).looped) (can_switch work) (both_false (is_pre split i) (fits_switch (step_at f i)) (legal.kept 1 i within) pre)
+  pre_kind pre = and_second (not (step_at f i).looped) (can_switch work) (true_of_and_not (is_pre split i) (fits_switch (step_at f i)) (legal.kept 1 i within) pre)
 
   -- what is carried is computed there, and hangs on no row that can change
   pub carried_pre : is_carried split i ≡ true → is_pre split i ≡ true
-  carried_pre carried = both_false (is_carried split i) (is_pre split i) (legal.kept 3 i within) carried
+  carried_pre carried = true_of_and_not (is_carried split i) (is_pre split i) (legal.kept 3 i within) carried
 
   pub carried_look : is_carried split i ≡ true → is_mutable_look f work ≡ false
   carried_look carried = second_false (is_carried split i) (is_mutable_look f work) (legal.kept 4 i within) carried
 
   pub carried_operands : is_carried split i ≡ true → Each (λ v. is_carried split v.instruction ≡ true) (operands work)
   carried_operands carried =
-      each_true (λ v. is_carried split v.instruction) (operands work) (both_false (is_carried split i) (list_all (λ v. is_carried split v.instruction) (operands work)) (legal.kept 5 i within) carried)
+      each_true (λ v. is_carried split v.instruction) (operands work) (true_of_and_not (is_carried split i) (list_all (λ v. is_carried split v.instruction) (operands work)) (legal.kept 5 i within) carried)
 
   abbrev sixth : (is_server split i && list_any (λ v. is_post split v.instruction) (operands work) ≡ false) × ((is_write work && list_any (is_post_condition f split) (line f.blocks (step_at f i).block)) ≡ false)
   sixth =
@@ -151,7 +139,7 @@ module _ (f : Program) (split : List Part) (legal : IsLegal f split) (i : ℕ) (
 
   -- postprocessing does what the switch can, without the rows that can change
   pub post_kind : is_post split i ≡ true → can_switch work ≡ true
-  post_kind post = can_of (not (step_at f i).looped) (can_switch work) (not_false (fits_switch (step_at f i)) (seventh post).0)
+  post_kind post = and_second (not (step_at f i).looped) (can_switch work) (not-false (fits_switch (step_at f i)) (seventh post).0)
 
   pub post_field : is_post split i ≡ true → is_field work ≡ false
   post_field post = (or_parts (is_mutable_look f work) (is_field work) (seventh post).1).1
@@ -164,7 +152,7 @@ module _ (f : Program) (split : List Part) (legal : IsLegal f split) (i : ℕ) (
 
   -- the server alone writes
   pub writes_server : is_write work ≡ true → is_server split i ≡ true
-  writes_server write = not_false (is_server split i) (eighth write).1
+  writes_server write = not-false (is_server split i) (eighth write).1
 
   pub writes_not_pre : is_write work ≡ true → is_pre split i ≡ false
   writes_not_pre write = (eighth write).0

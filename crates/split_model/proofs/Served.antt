@@ -14,20 +14,19 @@ use Rattle.split_model.specs.Laws.{IsServedAlike}
 use Rattle.split_model.specs.Legal.{IsLegal}
 use Rattle.split_model.specs.Passes.{IsHanded, served, server_run}
 use Rattle.split_model.specs.Split.{is_post}
-use Rattle.split_model.proofs.Below.{Agreements, Lines}
 use Rattle.split_model.proofs.Crossings.{down_parts, written_parts}
 use Rattle.split_model.proofs.Serving.{server_does, claim, knows_all}
 use Rattle.split_model.proofs.Sights.{named_within}
 
-module _ (f : Program) (split : List Part) (st : Store) (packet : Packet) (up other : Reading) (agree : Agreements) (lines : Lines f) (well : IsWellFormed f) (legal : IsLegal f split) (handed : IsHanded (crosses_up f split) up other) where
+module _ (f : Program) (split : List Part) (st : Store) (packet : Packet) (up other : Reading) (well : IsWellFormed f) (legal : IsLegal f split) (handed : IsHanded (crosses_up f split) up other) where
   -- the numbers that it hands on
   on : (v : ValueId) → (crosses_down f split v || is_written_value f split v) ≡ true → (is_named f v ≡ true) × (is_post split v.instruction ≡ false) → Same (server_run f split other st packet).reads (server_run f split up st packet).reads v
   on v want parts =
-      knows_all f split agree lines well legal packet st other up (served f split other st packet) (served f split up st packet) (server_does f split packet st other) (server_does f split packet st up) handed v (named_within f v parts.0) parts.0 parts.1 want
+      knows_all f split well legal packet st other up (served f split other st packet) (served f split up st packet) (server_does f split packet st other) (server_does f split packet st up) handed v (named_within f v parts.0) parts.0 parts.1 want
 
   pub served_alike : IsServedAlike f split st packet up other
   served_alike =
-      let all = claim f split agree lines well legal packet st other up (served f split other st packet) (served f split up st packet) (server_does f split packet st other) (server_does f split packet st up) handed (length f.code) (omega arith) in
+      let all = claim f split well legal packet st other up (served f split other st packet) (served f split up st packet) (server_does f split packet st other) (server_does f split packet st up) handed (length f.code) (omega arith) in
       record {
         store = all.1;
         changes = all.2;

@@ -1,6 +1,6 @@
 -- The server's run hangs on the numbers that cross up alone, and on the run's own these numbers make it the run.
 use Rattle.std.proofs.Common.{◌≡◌, ◌⊎◌, ℕ, zero, suc, ◌==◌, ◌<◌, ◌≤◌, Bool, true, false, not, ◌&&◌, ◌||◌, List, [], ◌++◌, length, is_some, refl, sym, ap, ◌∙◌, subst, arith, ⊎_elim, inl, inr, slice_index}
-use Rattle.std.proofs.lemmas.Bool.{false≢true, true≢false, cases_Bool, cond-true, cond-false, and_from, and_parts, or_left, or_right, or_cases, or_parts, eq-eqb, ne_eqb}
+use Rattle.std.proofs.lemmas.Bool.{false≢true, true≢false, cases_Bool, cond-true, cond-false, and_from, and_parts, or_left, or_right, or_cases, or_parts, ne_eqb}
 use Rattle.std.proofs.Math.Nat.{eq-or-lt_of_le}
 use Rattle.std.proofs.lemmas.List.{append-nil}
 use Rattle.std.specs.List.{AllByRecursion as Each, list_any}
@@ -21,10 +21,13 @@ use Rattle.split_model.specs.declared.split.Slow.TheVariants.{Carried, Server, P
 use Rattle.split_model.specs.Legal.{IsLegal}
 use Rattle.split_model.specs.Passes.{served}
 use Rattle.split_model.specs.Split.{part_at, is_carried, is_server, is_post, is_carried_up, is_served, stage_after}
-use Rattle.split_model.proofs.Below.{Agreements, Lines, Stays, each_weaker, each_both, condition_weaker}
-use Rattle.split_model.proofs.Passing.{any_passes}
 use Rattle.split_model.proofs.Rules.{server_operands, write_conditions, writes_server}
 use Rattle.split_model.proofs.Sights.{each_among, each_condition, conditions_both, no_change, live_counts, input_same}
+use Rattle.flat_ir.proofs.Passing.{any_passes}
+use Rattle.flat_ir.proofs.Readings.{condition_weaker}
+use Rattle.flat_ir.proofs.Runs.{set_own}
+use Rattle.flat_ir.proofs.Laws.{a_run_goes_on-stays, lines_of_blocks-line, readings_that_agree-changes, readings_that_agree-live, readings_that_agree-operands, readings_that_agree-results}
+use Rattle.lemmas.proofs.Lists.{each_both, each_weaker}
 
 -- ## Small facts
 
@@ -36,8 +39,7 @@ slow_cases (Post stage) e = absurd (true≢false e)
 
 not_served : (s : Slow) → is_carried_up s ≡ true → is_served s ≡ false
 not_served Carried e = refl
-not_served Server e = absurd (false≢true e)
-not_served (Post stage) e = absurd (false≢true e)
+not_served _ e = absurd (false≢true e)
 
 neither : (a b : Bool) → not a ≡ true → b ≡ false → (a || b) ≡ false
 neither true b na nb = absurd (false≢true na)
@@ -51,16 +53,13 @@ made_counts r live live' st work e =
 pub set_other : (i : ℕ) (rs : List ℕ) (reads : Reading) (v : ValueId) → (v.instruction ≡ i → ⊥) → with_results i rs reads v ≡ reads v
 set_other i rs reads v ne = cond-false (v.instruction == i) (slice_index rs v.result) (reads v) (ne_eqb v.instruction i ne)
 
-pub set_own : (i : ℕ) (rs : List ℕ) (reads : Reading) (v : ValueId) → v.instruction ≡ i → with_results i rs reads v ≡ slice_index rs v.result
-set_own i rs reads v e = cond-true (v.instruction == i) (slice_index rs v.result) (reads v) (eq-eqb v.instruction i e)
-
 -- the conditions of a block that is there, and of those above it, are named
-named_line : (f : Program) (lines : Lines f) (well : IsWellFormed f) (u k : ℕ) → k ≤ u → k ≤ length f.blocks → Each (EachCondition f (λ c. is_named f c ≡ true)) (line f.blocks k)
-named_line f lines well u zero le there = (tt, tt)
-named_line f lines well zero (suc k) le there = absurd (omega (arith, le))
-named_line f lines well (suc u) (suc k) le there =
+named_line : (f : Program) (well : IsWellFormed f) (u k : ℕ) → k ≤ u → k ≤ length f.blocks → Each (EachCondition f (λ c. is_named f c ≡ true)) (line f.blocks k)
+named_line f well u zero le there = (tt, tt)
+named_line f well zero (suc k) le there = absurd (omega (arith, le))
+named_line f well (suc u) (suc k) le there =
     let low : (block_at f.blocks k).parent ≤ k = well.parents k there in
-    subst (Each (EachCondition f (λ c. is_named f c ≡ true))) (sym (lines.line k)) (well.names_conditions k there, named_line f lines well u (block_at f.blocks k).parent (omega (arith, low, le)) (omega (arith, low, there)))
+    subst (Each (EachCondition f (λ c. is_named f c ≡ true))) (sym (lines_of_blocks-line f.blocks k well.parents)) (well.names_conditions k there, named_line f well u (block_at f.blocks k).parent (omega (arith, low, le)) (omega (arith, low, there)))
 
 -- ## Runs that do the server's instructions
 
@@ -148,20 +147,20 @@ module _ (f : Program) (split : List Part) where
       none_made n within e = no_change (m n).reads (live_m n) (m n).store (work_at n) (quiet n within (or_parts (is_input (work_at n)) (is_server split n) e).1)
 
       -- the run of the whole program is one, with its own numbers
-      pub whole_does : Stays f st packet → Does packet st (flat_run f st packet).reads (after f st packet)
-      whole_does stays = record {
+      pub whole_does : Does packet st (flat_run f st packet).reads (after f st packet)
+      whole_does = record {
         store = refl;
         changes = refl;
         done = λ n within e. refl;
         skips_value = λ n within e v lt. set_other n (results (m n).reads (live_m n) (m n).store packet (work_at n)) (m n).reads v (λ same. omega (arith, lt, same));
         skips_store = λ n within e. ap (with_changes (m n).store) (none_made n within e);
         skips_changes = λ n within e. ap (λ cs. (m n).changes ++ cs) (none_made n within e) ∙ append-nil (m n).changes;
-        handed = λ v e n le lt. sym (stays (length f.code) n v lt le);
+        handed = λ v e n le lt. sym (a_run_goes_on-stays f st packet (length f.code) n v lt le);
       }
 
   -- ## Two such runs that know the same
 
-  module _ (agree : Agreements) (lines : Lines f) (well : IsWellFormed f) (legal : IsLegal f split) (packet : Packet) (st : Store) (c c' : Reading) (m m' : ℕ → Machine) (does : Does packet st c m) (does' : Does packet st c' m') (alike : (v : ValueId) → crosses_up f split v ≡ true → c v ≡ c' v) where
+  module _ (well : IsWellFormed f) (legal : IsLegal f split) (packet : Packet) (st : Store) (c c' : Reading) (m m' : ℕ → Machine) (does : Does packet st c m) (does' : Does packet st c' m') (alike : (v : ValueId) → crosses_up f split v ≡ true → c v ≡ c' v) where
     abbrev live_a : ℕ → Bool
     live_a n = is_live f.blocks (m n).reads (block_of n)
 
@@ -209,7 +208,7 @@ module _ (f : Program) (split : List Part) where
     write_live : (n : ℕ) → n < length f.code → Knows n → is_write (work_at n) ≡ true → live_a n ≡ live_b n
     write_live n within so write =
         let ks = line f.blocks (block_of n) in
-        agree.live f (m n).reads (m' n).reads (block_of n)
+        readings_that_agree-live f (m n).reads (m' n).reads (block_of n)
         (each_weaker (λ k. EachCondition f (λ v. v.instruction < n) k × (EachCondition f (λ v. is_post split v.instruction ≡ false) k × (EachCondition f (λ v. list_any (is_condition f v) ks ≡ true) k × EachCondition f (λ v. is_named f v ≡ true) k))) (EachCondition f (Same (m n).reads (m' n).reads))
         (λ k h. condition_weaker f (λ v. (v.instruction < n) × ((is_post split v.instruction ≡ false) × ((list_any (is_condition f v) ks ≡ true) × (is_named f v ≡ true)))) (Same (m n).reads (m' n).reads)
         (λ v g. knows n (omega (arith, within)) so v g.0 g.1.0 (λ up other. wanted v g.1.1.1 up other (or_right (is_read_by f (is_server split) v) (guards_write f v || (crosses_down f split v || is_written_value f split v)) (or_left (guards_write f v) (crosses_down f split v || is_written_value f split v) (guard_wanted n within write v g.1.1.0)))))
@@ -217,7 +216,7 @@ module _ (f : Program) (split : List Part) where
         ks
         (each_both (EachCondition f (λ v. v.instruction < n)) (λ k. EachCondition f (λ v. is_post split v.instruction ≡ false) k × (EachCondition f (λ v. list_any (is_condition f v) ks ≡ true) k × EachCondition f (λ v. is_named f v ≡ true) k)) ks (well.after_conditions n within)
         (each_both (EachCondition f (λ v. is_post split v.instruction ≡ false)) (λ k. EachCondition f (λ v. list_any (is_condition f v) ks ≡ true) k × EachCondition f (λ v. is_named f v ≡ true) k) ks (write_conditions f split legal n within write)
-        (each_both (EachCondition f (λ v. list_any (is_condition f v) ks ≡ true)) (EachCondition f (λ v. is_named f v ≡ true)) ks (each_condition f ks) (named_line f lines well (block_of n) (block_of n) (omega arith) (well.blocks n within))))))
+        (each_both (EachCondition f (λ v. list_any (is_condition f v) ks ≡ true)) (EachCondition f (λ v. is_named f v ≡ true)) ks (each_condition f ks) (named_line f well (block_of n) (block_of n) (omega arith) (well.blocks n within))))))
 
     abbrev pub Claim : ℕ → Type 0
     Claim n = Knows n × ((m n).store ≡ (m' n).store) × ((m n).changes ≡ (m' n).changes)
@@ -229,7 +228,7 @@ module _ (f : Program) (split : List Part) where
         (λ server.
         made_counts (m n).reads (live_a n) (live_b n) (m n).store (work_at n) (write_live n within so.0)
         ∙ ap (λ store. made (live_b n) (change_of (m n).reads store (work_at n))) so.1
-        ∙ ap (made (live_b n)) (agree.changes (m n).reads (m' n).reads (m' n).store (work_at n) (agree.operands (m n).reads (m' n).reads (work_at n) (server_reads n within so.0 server))))
+        ∙ ap (made (live_b n)) (readings_that_agree-changes (m n).reads (m' n).reads (m' n).store (work_at n) (readings_that_agree-operands (m n).reads (m' n).reads (work_at n) (server_reads n within so.0 server))))
         (λ other. no_change (m n).reads (live_a n) (m n).store (work_at n) (quiet legal n within other) ∙ sym (no_change (m' n).reads (live_b n) (m' n).store (work_at n) (quiet legal n within other)))
         (cases_Bool (is_server split n))
 
@@ -240,7 +239,7 @@ module _ (f : Program) (split : List Part) where
         (λ server.
         live_counts (m n).reads (live_a n) (live_b n) (m n).store packet (work_at n) (write_live n within so.0)
         ∙ ap (λ store. results (m n).reads (live_b n) store packet (work_at n)) so.1
-        ∙ agree.results (m n).reads (m' n).reads (live_b n) (m' n).store packet (work_at n) (agree.operands (m n).reads (m' n).reads (work_at n) (server_reads n within so.0 server)))
+        ∙ readings_that_agree-results (m n).reads (m' n).reads (live_b n) (m' n).store packet (work_at n) (readings_that_agree-operands (m n).reads (m' n).reads (work_at n) (server_reads n within so.0 server)))
         (or_cases (is_input (work_at n)) (is_server split n) done)
 
     claim_done : (n : ℕ) → n < length f.code → Claim n → is_done n ≡ true → Claim (suc n)

@@ -1,14 +1,15 @@
 -- Tests over numbers and lists, and what two stores have to agree on.
-use Rattle.std.proofs.Common.{◌≡◌, ℕ, zero, suc, ◌==◌, ◌<◌, Bool, true, false, not, ◌&&◌, ◌||◌, List, [], ◌∷◌, length, nat_lt, None, refl, sym, ap, ◌∙◌, arith, ⊎_elim}
-use Rattle.std.proofs.lemmas.Bool.{false≢true, true≢false, or_left, or_right, or_parts, and_from, and_parts, eq-eqb, ltb-true}
+use Rattle.std.proofs.Common.{◌≡◌, ℕ, zero, suc, ◌<◌, ◌==◌, ◌%◌, ◌^◌, if◌then◌else◌, Bool, true, false, not, ◌&&◌, ◌||◌, List, [], ◌∷◌, length, nat_lt, None, refl, sym, ap, ◌∙◌, arith, ⊎_elim}
+use Rattle.std.proofs.lemmas.Bool.{false≢true, true≢false, or_left, or_right, or_parts, and_parts, ltb-true}
 use Rattle.std.proofs.Math.Nat.{eq-or-lt_of_le}
 use Rattle.std.specs.List.{AllByRecursion as Each, list_any}
 use Rattle.packet_fields.specs.declared.packet.Packet.{Packet}
+use Rattle.packet_fields.specs.declared.verdict.Verdict.TheVariants.{Drop, Send}
 use Rattle.state_store.specs.Store.{Store, object_at}
 use Rattle.flat_ir.specs.declared.program.ValueId.{ValueId}
 use Rattle.flat_ir.specs.declared.program.FieldValue.{FieldValue}
 use Rattle.flat_ir.specs.Program.{Program, Work, step_at, is_named, result_count}
-use Rattle.flat_ir.specs.Program.Work.{const, field, apply, shift, select, byte, look, put, del}
+use Rattle.flat_ir.specs.Program.Work.{const, field, look, put, del}
 use Rattle.flat_ir.specs.Blocks.{Reading, block_at}
 use Rattle.flat_ir.specs.Run.{made, change_of, results, with_writes}
 use Rattle.packet_fields.specs.Fields.{with_field}
@@ -16,9 +17,10 @@ use Rattle.flat_ir.specs.WellFormed.{EachCondition}
 use Rattle.flat_ir.specs.Laws.{Same}
 use Rattle.split_model.specs.Split.{any_below}
 use Rattle.flat_ir.specs.Kinds.{can_switch, is_write, is_input}
-use Rattle.split_model.proofs.Below.{each_weaker}
 use Rattle.flat_ir.specs.Guards.{is_condition}
 use Rattle.split_model.specs.Crossing.{is_value, is_among}
+use Rattle.flat_ir.proofs.Exact.{same_itself}
+use Rattle.lemmas.proofs.Lists.{each_weaker}
 
 pub none_below : (n : ℕ) (test : ℕ → Bool) (i : ℕ) → any_below n test ≡ false → i < n → test i ≡ false
 none_below zero test i none lt = absurd (omega (arith, lt))
@@ -42,13 +44,10 @@ pub named_within : (f : Program) (v : ValueId) → is_named f v ≡ true → v.i
 named_within f v e =
     ltb-true v.instruction (length f.code) (and_parts (nat_lt v.instruction (length f.code)) (nat_lt v.result (result_count f.objects (step_at f v.instruction).work)) e).0
 
-pub value_self : (v : ValueId) → is_value v v ≡ true
-value_self v = and_from (v.instruction == v.instruction) (v.result == v.result) (eq-eqb v.instruction v.instruction refl) (eq-eqb v.result v.result refl)
-
 pub each_among : (vs : List ValueId) → Each (λ v. is_among v vs ≡ true) vs
 each_among [] = tt
 each_among (w ∷ vs) =
-    (or_left (is_value w w) (is_among w vs) (value_self w), each_weaker (λ v. is_among v vs ≡ true) (λ v. is_among v (w ∷ vs) ≡ true) (λ v h. or_right (is_value v w) (is_among v vs) h) vs (each_among vs))
+    (or_left (is_value w w) (is_among w vs) (same_itself w), each_weaker (λ v. is_among v vs ≡ true) (λ v. is_among v (w ∷ vs) ≡ true) (λ v h. or_right (is_value v w) (is_among v vs) h) vs (each_among vs))
 
 condition_more : (f : Program) (k : ℕ) (ks : List ℕ) (j : ℕ) → EachCondition f (λ c. list_any (is_condition f c) ks ≡ true) j → EachCondition f (λ c. list_any (is_condition f c) (k ∷ ks) ≡ true) j
 condition_more f k ks zero h = tt
@@ -56,7 +55,7 @@ condition_more f k ks (suc j) h = let c = (block_at f.blocks j).cond in or_right
 
 condition_own : (f : Program) (k : ℕ) (ks : List ℕ) → EachCondition f (λ c. list_any (is_condition f c) (k ∷ ks) ≡ true) k
 condition_own f zero ks = tt
-condition_own f (suc k) ks = let c = (block_at f.blocks k).cond in or_left (is_value c c) (list_any (is_condition f c) ks) (value_self c)
+condition_own f (suc k) ks = let c = (block_at f.blocks k).cond in or_left (is_value c c) (list_any (is_condition f c) ks) (same_itself c)
 
 -- each condition of these blocks is the condition of one of them
 pub each_condition : (f : Program) (ks : List ℕ) → Each (EachCondition f (λ c. list_any (is_condition f c) ks ≡ true)) ks
@@ -72,68 +71,43 @@ conditions_both f P Q (suc k) p q = (p, q)
 
 abbrev pub SameSight : Store → Store → Work → Type 0
 SameSight st st' (look object keys) = object_at st object ≡ object_at st' object
-SameSight st st' (const width number) = Unit {0}
-SameSight st st' (field name) = Unit {0}
-SameSight st st' (apply op width args) = Unit {0}
-SameSight st st' (shift op width arg by) = Unit {0}
-SameSight st st' (select width cond first second) = Unit {0}
-SameSight st st' (byte index) = Unit {0}
-SameSight st st' (put object keys values) = Unit {0}
-SameSight st st' (del object keys) = Unit {0}
+SameSight st st' _ = Unit {0}
 
 -- what the switch can do hangs on no block, and on the object that it looks at
 pub seen_same : (r : Reading) (live live' : Bool) (st st' : Store) (packet : Packet) (work : Work) → can_switch work ≡ true → SameSight st st' work → results r live st packet work ≡ results r live' st' packet work
-seen_same r live live' st st' packet (const width number) can h = refl
-seen_same r live live' st st' packet (field name) can h = refl
-seen_same r live live' st st' packet (apply op width args) can h = refl
-seen_same r live live' st st' packet (shift op width arg by) can h = refl
-seen_same r live live' st st' packet (select width cond first second) can h = refl
-seen_same r live live' st st' packet (byte index) can h = refl
 seen_same r live live' st st' packet (look object keys) can h = rw h
 seen_same r live live' st st' packet (put object keys values) can h = absurd (false≢true can)
 seen_same r live live' st st' packet (del object keys) can h = absurd (false≢true can)
+seen_same r live live' st st' packet _ can h = refl
 
 -- a const or a field hangs on the packet alone
 pub input_same : (r r' : Reading) (live live' : Bool) (st st' : Store) (packet : Packet) (work : Work) → is_input work ≡ true → results r live st packet work ≡ results r' live' st' packet work
 input_same r r' live live' st st' packet (const width number) can = refl
 input_same r r' live live' st st' packet (field name) can = refl
-input_same r r' live live' st st' packet (apply op width args) can = absurd (false≢true can)
-input_same r r' live live' st st' packet (shift op width arg by) can = absurd (false≢true can)
-input_same r r' live live' st st' packet (select width cond first second) can = absurd (false≢true can)
-input_same r r' live live' st st' packet (byte index) can = absurd (false≢true can)
-input_same r r' live live' st st' packet (look object keys) can = absurd (false≢true can)
-input_same r r' live live' st st' packet (put object keys values) can = absurd (false≢true can)
-input_same r r' live live' st st' packet (del object keys) can = absurd (false≢true can)
+input_same r r' live live' st st' packet _ can = absurd (false≢true can)
 
-none_made : (live : Bool) → made live None ≡ []
+pub none_made : (live : Bool) → made live None ≡ []
 none_made true = refl
 none_made false = refl
 
 -- what isn't a write changes nothing
 pub no_change : (r : Reading) (live : Bool) (st : Store) (work : Work) → is_write work ≡ false → made live (change_of r st work) ≡ []
-no_change r live st (const width number) e = none_made live
-no_change r live st (field name) e = none_made live
-no_change r live st (apply op width args) e = none_made live
-no_change r live st (shift op width arg by) e = none_made live
-no_change r live st (select width cond first second) e = none_made live
-no_change r live st (byte index) e = none_made live
-no_change r live st (look object keys) e = none_made live
 no_change r live st (put object keys values) e = absurd (true≢false e)
 no_change r live st (del object keys) e = absurd (true≢false e)
+no_change r live st _ e = none_made live
 
 -- only a write hangs on whether it is live
 pub live_counts : (r : Reading) (live live' : Bool) (st : Store) (packet : Packet) (work : Work) → (is_write work ≡ true → live ≡ live') → results r live st packet work ≡ results r live' st packet work
-live_counts r live live' st packet (const width number) e = refl
-live_counts r live live' st packet (field name) e = refl
-live_counts r live live' st packet (apply op width args) e = refl
-live_counts r live live' st packet (shift op width arg by) e = refl
-live_counts r live live' st packet (select width cond first second) e = refl
-live_counts r live live' st packet (byte index) e = refl
-live_counts r live live' st packet (look object keys) e = refl
 live_counts r live live' st packet (put object keys values) e = ap (λ l. results r l st packet (put object keys values)) (e refl)
 live_counts r live live' st packet (del object keys) e = ap (λ l. results r l st packet (del object keys)) (e refl)
+live_counts r live live' st packet _ e = refl
 
 pub writes_same : (r r' : Reading) (ws : List FieldValue) (bytes : List ℕ) → Each (λ (w : FieldValue). Same r r' w.value) ws → with_writes ws r bytes ≡ with_writes ws r' bytes
 writes_same r r' [] bytes h = refl
 writes_same r r' (w ∷ ws) bytes h =
     ap (λ n. with_writes ws r (with_field bytes w.field n)) h.0 ∙ writes_same r r' ws (with_field bytes w.field (r' w.value)) h.1
+
+-- verdicts of the same numbers and bytes
+pub sent_same : {send send' port port' : ℕ} {bytes bytes' : List ℕ} → send ≡ send' → port ≡ port' → bytes ≡ bytes'
+    → (if send == 0 then Drop else Send (port % 2 ^ 8) bytes) ≡ (if send' == 0 then Drop else Send (port' % 2 ^ 8) bytes')
+sent_same a b c = λ i. if a i == 0 then Drop else Send (b i % 2 ^ 8) (c i)

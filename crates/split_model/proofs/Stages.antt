@@ -10,11 +10,12 @@ use Rattle.flat_ir.specs.Program.{Program, step_at, operands}
 use Rattle.flat_ir.specs.Blocks.{Reading}
 use Rattle.flat_ir.specs.Run.{results}
 use Rattle.flat_ir.specs.Laws.{Same}
+use Rattle.flat_ir.proofs.Laws.{readings_that_agree-operands, readings_that_agree-results}
 use Rattle.split_model.specs.Passes.{is_stage, done_below, value_from, pass}
-use Rattle.split_model.proofs.Below.{Agreements, each_weaker, each_all}
 use Rattle.split_model.proofs.Rules.{IsLower, IsRising}
+use Rattle.lemmas.proofs.Lists.{each_all, each_weaker}
 
-module _ (agree : Agreements) (f : Program) (stage : ℕ → Option ℕ) (given : Reading) (tables : Store) (packet : Packet) where
+module _ (f : Program) (stage : ℕ → Option ℕ) (given : Reading) (tables : Store) (packet : Packet) where
   abbrev pub done : ℕ → Reading
   done = done_below f stage given tables packet
 
@@ -52,7 +53,7 @@ module _ (agree : Agreements) (f : Program) (stage : ℕ → Option ℕ) (given 
   pub pass_value : (v : ValueId) (own : ℕ) → stage v.instruction ≡ Some own → Each (IsLower stage own) (operands (step_at f v.instruction).work) → all v ≡ made_of all v
   pass_value v own e low =
       pass_stage v own e
-      ∙ ap (λ rs. slice_index rs v.result) (agree.results (done own) all false tables packet (step_at f v.instruction).work (agree.operands (done own) all (step_at f v.instruction).work (each_weaker (IsLower stage own) (Same (done own) all) (λ w. done_by own w (stage w.instruction) refl) (operands (step_at f v.instruction).work) low)))
+      ∙ ap (λ rs. slice_index rs v.result) (readings_that_agree-results (done own) all false tables packet (step_at f v.instruction).work (readings_that_agree-operands (done own) all (step_at f v.instruction).work (each_weaker (IsLower stage own) (Same (done own) all) (λ w. done_by own w (stage w.instruction) refl) (operands (step_at f v.instruction).work) low)))
 
   value_case : (v : ValueId) (o : Option ℕ) → stage v.instruction ≡ o → is_some o ≡ true → IsRising f stage → v.instruction < length f.code → all v ≡ made_of all v
   value_case v None e some rising lt = absurd (false≢true some)
@@ -78,11 +79,11 @@ has_stage None t e = absurd (false≢true e)
 has_stage (Some own) t e = refl
 
 -- a pass that is given the same numbers, and reads the same in other tables and another packet, has the same values
-module _ (agree : Agreements) (f : Program) (stage : ℕ → Option ℕ) (given given' : Reading) (tables tables' : Store) (packet packet' : Packet) (alike : (v : ValueId) → given v ≡ given' v) (seen : (v : ValueId) → is_some (stage v.instruction) ≡ true → (r : Reading) → results r false tables packet (step_at f v.instruction).work ≡ results r false tables' packet' (step_at f v.instruction).work) where
+module _ (f : Program) (stage : ℕ → Option ℕ) (given given' : Reading) (tables tables' : Store) (packet packet' : Packet) (alike : (v : ValueId) → given v ≡ given' v) (seen : (v : ValueId) → is_some (stage v.instruction) ≡ true → (r : Reading) → results r false tables packet (step_at f v.instruction).work ≡ results r false tables' packet' (step_at f v.instruction).work) where
   made_alike : (r r' : Reading) → ((v : ValueId) → r v ≡ r' v) → (v : ValueId) → is_some (stage v.instruction) ≡ true → slice_index (results r false tables packet (step_at f v.instruction).work) v.result ≡ slice_index (results r' false tables' packet' (step_at f v.instruction).work) v.result
   made_alike r r' h v some =
       let work = (step_at f v.instruction).work in
-      ap (λ rs. slice_index rs v.result) (agree.results r r' false tables packet work (agree.operands r r' work (each_all (Same r r') h (operands work))) ∙ seen v some r')
+      ap (λ rs. slice_index rs v.result) (readings_that_agree-results r r' false tables packet work (readings_that_agree-operands r r' work (each_all (Same r r') h (operands work))) ∙ seen v some r')
 
   done_alike : (t : ℕ) (v : ValueId) → done_below f stage given tables packet t v ≡ done_below f stage given' tables' packet' t v
   done_alike zero v = alike v

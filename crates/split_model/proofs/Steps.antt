@@ -5,7 +5,7 @@ use Rattle.flat_ir.specs.declared.program.Instr.{Instr}
 use Rattle.flat_ir.specs.declared.program.Flat.{Flat}
 use Rattle.flat_ir.specs.Program.{Step, program_of, step_at, step_of}
 
-step_in : (code : List Instr) (i : ℕ) (d : Step) (one : Instr) → i < length code → one ≡ get_or code i one → slice_index_or (map step_of code) i d ≡ step_of one
+pub step_in : (code : List Instr) (i : ℕ) (d : Step) (one : Instr) → i < length code → one ≡ get_or code i one → slice_index_or (map step_of code) i d ≡ step_of one
 step_in [] i d one h e = absurd (omega arith)
 step_in (x ∷ xs) zero d one h e = ap step_of (sym e)
 step_in (x ∷ xs) (suc i) d one h e = step_in xs i d one (omega arith) e

@@ -1,14 +1,13 @@
 -- Postprocessing reads constant tables alone.
-use Rattle.std.proofs.Common.{◌≡◌, ℕ, ◌<◌, ◌==◌, ◌%◌, ◌^◌, true, false, List, length, refl, sym, ap, ◌∙◌, if◌then◌else◌}
+use Rattle.std.proofs.Common.{◌≡◌, ℕ, ◌<◌, true, false, List, length, refl, sym, ◌∙◌}
 use Rattle.packet_fields.specs.declared.packet.Packet.{Packet}
-use Rattle.packet_fields.specs.declared.verdict.Verdict.TheVariants.{Drop, Send}
 use Rattle.state_store.specs.Store.{Store, object_at}
 use Rattle.flat_ir.specs.declared.program.FieldValue.{FieldValue}
 use Rattle.flat_ir.specs.declared.program.ValueId.{ValueId}
 use Rattle.flat_ir.specs.Blocks.{Reading}
 use Rattle.flat_ir.specs.Laws.{Same}
 use Rattle.flat_ir.specs.Program.{Program, step_at}
-use Rattle.flat_ir.specs.Run.{results, with_writes}
+use Rattle.flat_ir.specs.Run.{results}
 use Rattle.state_store.specs.Kinds.{is_constant}
 use Rattle.split_model.specs.declared.split.Part.{Part}
 use Rattle.split_model.specs.Laws.{HasDeclaredTables, IsPostedAlike}
@@ -16,14 +15,14 @@ use Rattle.split_model.specs.Legal.{IsLegal}
 use Rattle.split_model.specs.Passes.{given_down, post_values, post_fields}
 use Rattle.split_model.specs.Shown.{looks_at}
 use Rattle.split_model.specs.Split.{post_stage, is_post}
-use Rattle.split_model.proofs.Below.{Agreements, each_all}
 use Rattle.split_model.proofs.Carrying.{declared_at, constant_sight, post_shown}
 use Rattle.split_model.proofs.Descents.{post_inside}
 use Rattle.split_model.proofs.Rules.{post_kind, post_look}
-use Rattle.split_model.proofs.Sights.{seen_same, writes_same}
+use Rattle.split_model.proofs.Sights.{seen_same, sent_same, writes_same}
 use Rattle.split_model.proofs.Stages.{pass_alike}
+use Rattle.lemmas.proofs.Lists.{each_all}
 
-module _ (agree : Agreements) (f : Program) (split : List Part) (legal : IsLegal f split) (tables other : Store) (packet : Packet) (down : Reading) (loaded : HasDeclaredTables f split tables) (loaded' : HasDeclaredTables f split other) where
+module _ (f : Program) (split : List Part) (tables other : Store) (packet : Packet) (down : Reading) (legal : IsLegal f split) (loaded : HasDeclaredTables f split tables) (loaded' : HasDeclaredTables f split other) where
   -- an object that it looks up is a constant table, which both have
   same_table : (i o : ℕ) → i < length f.code → is_post split i ≡ true → is_constant f.objects o ≡ true → looks_at o (step_at f i).work ≡ true → object_at other o ≡ object_at tables o
   same_table i o within post constant looks =
@@ -39,7 +38,7 @@ module _ (agree : Agreements) (f : Program) (split : List Part) (legal : IsLegal
       (constant_sight f other tables (step_at f i).work (λ o. same_table i o within post) (post_look f split legal i within post))
 
   values_alike : (v : ValueId) → post_values f split down other packet v ≡ post_values f split down tables packet v
-  values_alike v = pass_alike agree f (post_stage split) (given_down f split down packet) (given_down f split down packet) other tables packet packet (λ u. refl) seen_alike v
+  values_alike v = pass_alike f (post_stage split) (given_down f split down packet) (given_down f split down packet) other tables packet packet (λ u. refl) seen_alike v
 
   pub posted_alike : IsPostedAlike f split tables other packet down
   posted_alike =
@@ -48,9 +47,6 @@ module _ (agree : Agreements) (f : Program) (split : List Part) (legal : IsLegal
       let own = post_fields f split in
       record {
         values = values_alike;
-        verdict =
-            ap (λ n. if n == 0 then Drop else Send (R f.port % 2 ^ 8) (with_writes own R packet.bytes)) (values_alike f.send)
-            ∙ ap (λ n. if Q f.send == 0 then Drop else Send (n % 2 ^ 8) (with_writes own R packet.bytes)) (values_alike f.port)
-            ∙ ap (λ bytes. if Q f.send == 0 then Drop else Send (Q f.port % 2 ^ 8) bytes)
+        verdict = sent_same (values_alike f.send) (values_alike f.port)
             (writes_same R Q own packet.bytes (each_all (λ (w : FieldValue). Same R Q w.value) (λ w. values_alike w.value) own));
       }

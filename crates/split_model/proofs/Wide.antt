@@ -8,7 +8,7 @@ use Rattle.std.proofs.lemmas.Option.{same_Some, slice_get_within, slice_get-get_
 use Rattle.gal_bits.specs.Fitting.{is_width}
 use Rattle.state_store.specs.declared.object.ObjectDecl.{ObjectDecl}
 use Rattle.flat_ir.specs.Program.{Work, value_widths, result_widths}
-use Rattle.flat_ir.specs.Program.Work.{const, field, apply, shift, select, byte, look, put, del}
+use Rattle.flat_ir.specs.Program.Work.{look}
 use Rattle.split_model.specs.Bounds.{IsSmall}
 
 pub width_at : (ws : List ℕ) (i : ℕ) → IsTrue (list_all is_width ws) → i < length ws → IsTrue (is_width (slice_index ws i))
@@ -37,11 +37,4 @@ value_wide ds o p (Some d) e all h =
 pub result_wide : (ds : List ObjectDecl) (work : Work) (p : ℕ) → All IsSmall ds → 0 < p → p < length (result_widths ds work) → IsTrue (is_width (slice_index (result_widths ds work) p))
 result_wide ds work zero all some h = absurd (omega (arith, some))
 result_wide ds (look object keys) (suc p) all some h = value_wide ds object p (slice_get ds object) refl all (omega arith)
-result_wide ds (const width number) (suc p) all some h = absurd (omega (arith, h))
-result_wide ds (field name) (suc p) all some h = absurd (omega (arith, h))
-result_wide ds (apply op width args) (suc p) all some h = absurd (omega (arith, h))
-result_wide ds (shift op width arg by) (suc p) all some h = absurd (omega (arith, h))
-result_wide ds (select width cond first second) (suc p) all some h = absurd (omega (arith, h))
-result_wide ds (byte index) (suc p) all some h = absurd (omega (arith, h))
-result_wide ds (put object keys values) (suc p) all some h = absurd (omega (arith, h))
-result_wide ds (del object keys) (suc p) all some h = absurd (omega (arith, h))
+result_wide ds _ (suc p) all some h = absurd (omega (arith, h))

@@ -30,14 +30,7 @@ is_written f split name = list_any (λ w. is_server_write split w && (field_inde
 -- a field that the server leaves, which postprocessing reads in the packet
 abbrev pub is_left_field : Program → List Part → Work → Bool
 is_left_field f split (field name) = not (is_written f split name)
-is_left_field f split (const width number) = false
-is_left_field f split (apply op width args) = false
-is_left_field f split (shift op width arg by) = false
-is_left_field f split (select width cond first second) = false
-is_left_field f split (byte index) = false
-is_left_field f split (look object keys) = false
-is_left_field f split (put object keys values) = false
-is_left_field f split (del object keys) = false
+is_left_field f split _ = false
 
 -- what postprocessing has from the code and the packet
 abbrev pub is_at_hand : Program → List Part → Work → Bool

@@ -11,13 +11,7 @@ use Rattle.split_model.specs.Split.{is_pre, any_step}
 abbrev pub writes_to : ℕ → Work → Bool
 writes_to o (put object keys values) = object == o
 writes_to o (del object keys) = object == o
-writes_to o (const width number) = false
-writes_to o (field name) = false
-writes_to o (apply op width args) = false
-writes_to o (shift op width arg by) = false
-writes_to o (select width cond first second) = false
-writes_to o (byte index) = false
-writes_to o (look object keys) = false
+writes_to o _ = false
 
 -- preprocessing looks the object up
 abbrev pub is_shown : Program → List Part → ℕ → Bool

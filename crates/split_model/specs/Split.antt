@@ -14,22 +14,19 @@ abbrev pub pre_stage : List Part → ℕ → Option ℕ
 pre_stage split i = (part_at split i).pre
 
 abbrev pub stage_after : Slow → Option ℕ
-stage_after Carried = None
-stage_after Server = None
 stage_after (Post stage) = Some stage
+stage_after _ = None
 
 abbrev pub post_stage : List Part → ℕ → Option ℕ
 post_stage split i = stage_after (part_at split i).slow
 
 abbrev pub is_carried_up : Slow → Bool
 is_carried_up Carried = true
-is_carried_up Server = false
-is_carried_up (Post stage) = false
+is_carried_up _ = false
 
 abbrev pub is_served : Slow → Bool
-is_served Carried = false
 is_served Server = true
-is_served (Post stage) = false
+is_served _ = false
 
 abbrev pub is_pre : List Part → ℕ → Bool
 is_pre split i = is_some (pre_stage split i)

@@ -5,8 +5,8 @@ ghost use Rattle.flat_ir.specs.WellFormed.{IsWellFormed};
 
 use crate::samples::{guarded_put, recall};
 use dependence::{
-    Depths, Marks, Uses, carried_closure, depths, depths_are_least, guards, post_closure,
-    post_closure_beside_guards, pre_closure,
+    Depths, Marks, Uses, carried_closure, depths, guards, post_closure, post_closure_beside_guards,
+    pre_closure,
 };
 use flat_ir::{Flat, is_well_formed};
 use gal_io::NoMemory;
@@ -110,7 +110,6 @@ fn marks(alloc: Global, digits: &str) -> Result<Marks, NoMemory> {
 
 // Whether these are the depths, with the members that a text has a 1 for.
 fn are_depths(alloc: Global, f: &Flat, members: &str, want: &[u32]) -> Result<bool, NoMemory> {
-    depths_are_least();
     if !is_well_formed(f) || f.code.len() > 4096 {
         return Ok(false);
     }

@@ -2,7 +2,7 @@
 use Rattle.std.proofs.Common.{◌≡◌, ℕ, suc, ◌≤◌, List, [], ◌∷◌, ◌++◌, length, Option, Some, None, decimal}
 use Rattle.std.specs.Prelude.{codes}
 use Rattle.split_model.specs.declared.split.Slow.{Slow}
-use Rattle.split_model.specs.declared.split.Slow.TheVariants.{Carried, Server, Post}
+use Rattle.split_model.specs.declared.split.Slow.TheVariants.{Post}
 use Rattle.split_model.specs.declared.split.Part.{Part}
 use Rattle.std.specs.List.{AllByRecursion}
 use Rattle.split_validate.specs.SplitText.{pre_text, slow_text}
@@ -38,9 +38,8 @@ IsLowPre None = Unit {0}
 IsLowPre (Some stage) = stage ≤ 4096
 
 abbrev pub IsLowSlow : Slow → Type 0
-IsLowSlow Carried = Unit {0}
-IsLowSlow Server = Unit {0}
 IsLowSlow (Post stage) = stage ≤ 4096
+IsLowSlow _ = Unit {0}
 
 abbrev pub IsLow : Part → Type 0
 IsLow part = IsLowPre part.pre × IsLowSlow part.slow

@@ -1,6 +1,5 @@
 -- Marks on blocks, one after the other.
-use Rattle.std.proofs.Common.{◌≡◌, ℕ, suc, ◌+◌, ◌≤◌, ◌<◌, inl, inr, Bool, true, false, ◌||◌, List, [], ◌∷◌, ◌++◌, length, get_or, refl, sym, ap, subst, ◌∙◌, arith}
-use Rattle.std.specs.Prelude.{slice_index_or}
+use Rattle.std.proofs.Common.{◌≡◌, ℕ, suc, ◌+◌, ◌≤◌, ◌<◌, inl, inr, Bool, true, false, ◌||◌, List, [], ◌∷◌, ◌++◌, length, get_or, sym, ap, subst, ◌∙◌, arith}
 use Rattle.std.specs.List.{list_any}
 use Rattle.std.proofs.lemmas.Bool.{cases_lt}
 use Rattle.std.proofs.lemmas.List.{get_or_append_left, get_or_push, get_or_default, length_push}
@@ -14,13 +13,6 @@ use Rattle.split_validate.specs.Flaws.{ArePostGuarded}
 
 abbrev pub guarded_by : Program → List Part → ℕ → Bool
 guarded_by f split b = list_any (is_post_condition f split) (line f.blocks b)
-
--- only the root is marked, and it has no condition
-pub root_marked : (f : Program) (split : List Part) → ArePostGuarded f split 0 (false ∷ [])
-root_marked f split = record {
-  count = refl;
-  exact = λ b low. let zero_it_is : 0 ≡ b = omega (arith, low) in subst (λ n. slice_index_or (false ∷ []) n false ≡ guarded_by f split n) zero_it_is refl;
-}
 
 pub one_marked : (f : Program) (split : List Part) (k : ℕ) (marks : List Bool) (mark : Bool) → ArePostGuarded f split k marks → mark ≡ guarded_by f split (k + 1) → ArePostGuarded f split (k + 1) (marks ++ mark ∷ [])
 one_marked f split k marks mark h e = record {

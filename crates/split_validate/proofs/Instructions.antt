@@ -1,27 +1,16 @@
 -- Instructions, by their place, and the rules that look at all operands of one.
-use Rattle.std.proofs.Common.{◌≡◌, ℕ, zero, suc, ◌<◌, true, not, ◌&&◌, List, [], ◌∷◌, sym, ap, ◌∙◌, arith, length, get_or, map}
-use Rattle.std.specs.Prelude.{slice_index_or}
+use Rattle.std.proofs.Common.{◌≡◌, ℕ, true, not, ◌&&◌, List, sym, ap, ◌∙◌, length}
 use Rattle.std.specs.List.{list_all}
 use Rattle.std.proofs.lemmas.List.{length-map}
-use Rattle.flat_ir.specs.declared.program.Instr.{Instr}
 use Rattle.flat_ir.specs.declared.program.Flat.{Flat}
 use Rattle.flat_ir.specs.Kinds.{needed}
-use Rattle.flat_ir.specs.Program.{Program, Step, Work, operands, program_of, step_at, step_of}
+use Rattle.flat_ir.specs.Program.{Program, Work, operands, program_of, step_at, step_of}
 use Rattle.split_model.specs.declared.split.Part.{Part}
 use Rattle.split_model.specs.Split.{is_pre, is_carried}
 use Rattle.split_model.specs.Legal.{rule_2, rule_5}
 use Rattle.split_validate.specs.declared.operand.Flaw.TheVariants.{NotBefore, NotCarried}
 use Rattle.split_validate.specs.Flaws.{any_flawed}
 use Rattle.split_validate.proofs.Operands.{not_all}
-
-step_in : (code : List Instr) (i : ℕ) (d : Step) (one : Instr) → i < length code → one ≡ get_or code i one → slice_index_or (map step_of code) i d ≡ step_of one
-step_in [] i d one h e = absurd (omega arith)
-step_in (x ∷ xs) zero d one h e = ap step_of (sym e)
-step_in (x ∷ xs) (suc i) d one h e = step_in xs i d one (omega arith) e
-
--- the instruction at a place in the code
-pub step_is : (f : Flat) (code : List Instr) (i : ℕ) (one : Instr) → code ≡ f.code → i < length code → one ≡ get_or code i one → step_at (program_of f) i ≡ step_of one
-step_is f code i one same h e = step_in f.code i _ one (rw same at h) (rw same at e)
 
 -- as many instructions as the program has
 pub same_count : (f : Flat) → length (program_of f).code ≡ length f.code

@@ -10,3 +10,4 @@ pub mod TextLines
 pub mod Guards
 pub mod Verdicts
 pub mod Instructions
+pub mod Laws

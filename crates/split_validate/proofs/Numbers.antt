@@ -1,15 +1,12 @@
 -- Numbers as they are printed and read.
-use Rattle.std.proofs.Common.{◌≡◌, ℕ, zero, suc, ◌<◌, ◌≤◌, ◌^◌, Bool, true, false, cond, leb, List, [], ◌∷◌, length, get_or, Some, None, option_and_then, sym, ap, ◌∙◌, lit<, arith}
+use Rattle.std.proofs.Common.{◌≡◌, ℕ, ◌<◌, ◌≤◌, ◌^◌, true, List, [], ◌∷◌, length, get_or, Some, sym, ap, ◌∙◌, arith}
 use Rattle.std.specs.Fmt.{decimal}
 use Rattle.std.specs.Str.{all_ascii_digits}
 use Rattle.std.specs.Str.Parse.{digits_value}
-use Rattle.std.proofs.lemmas.Str.Parse.{IsNumeralModel, numerals_by_value, tells_all_ascii_digits}
-use Rattle.std.proofs.lemmas.Fmt.{decimal-digits_value, digits_decimal, digits_value-decimal, decimal_nonempty, first_decimal, decimal_digit}
+use Rattle.std.proofs.lemmas.Fmt.{decimal-digits_value, digits_decimal, digits_value-decimal, decimal_nonempty}
 use Rattle.std.proofs.lemmas.Bool.Decides.{nat_tests}
 use Rattle.gal_io.specs.Number.{is_number, number_up_to}
-
-by_digits : IsNumeralModel (λ digits. all_ascii_digits digits ≡ true) (digits_value 10)
-by_digits = numerals_by_value _ tells_all_ascii_digits
+use Rattle.lemmas.proofs.Numbers.{bounded_twice, decimal_digits as by_digits, no_zero_first}
 
 pub decimal_digits : (n : ℕ) → n < 2 ^ 64 → all_ascii_digits (decimal n) ≡ true
 decimal_digits n fits = digits_decimal by_digits n fits
@@ -28,15 +25,6 @@ number_is : (text : List ℕ) → IsNumeral text → is_number text ≡ true
 number_is [] h = absurd (omega (arith, h.some))
 number_is (first ∷ rest) h = grind (arith, nat_tests, h.digits, h.unpadded)
 
-no_zero_first : (n : ℕ) → n < 2 ^ 64 → get_or (decimal n) 0 0 ≡ 48 → length (decimal n) ≡ 1
-no_zero_first zero fits h = ap length (decimal_digit 0 (lit< tt))
-no_zero_first (suc m) fits h = absurd (omega (arith, first_decimal (suc m) (omega arith) fits, h))
-
--- what the test of a number gives
-tested : (is : Bool) (value most n : ℕ) → option_and_then (λ x. cond (leb x most) (Some x) None) (cond is (Some value) None) ≡ Some n → (is ≡ true) × (value ≡ n) × (n ≤ most)
-tested true value most n h = (grind (arith, nat_tests), grind (arith, nat_tests), grind (arith, nat_tests))
-tested false value most n h = cc
-
 pub number_back : (most n : ℕ) → n ≤ most → most < 2 ^ 64 → number_up_to most (decimal n) ≡ Some n
 number_back most n small fits =
     let is : is_number (decimal n) ≡ true = number_is (decimal n) (record {
@@ -48,10 +36,10 @@ number_back most n small fits =
     rw (is, value) (grind (arith, nat_tests))
 
 pub number_small : (most n : ℕ) (text : List ℕ) → number_up_to most text ≡ Some n → n ≤ most
-number_small most n text h = (tested (is_number text) (digits_value 10 text) most n h).2
+number_small most n text h = (bounded_twice (is_number text) (digits_value 10 text) most n h).2
 
 pub number_printed : (most n : ℕ) (text : List ℕ) → number_up_to most text ≡ Some n → most < 2 ^ 64 → text ≡ decimal n
 number_printed most n text h fits =
-    let found = tested (is_number text) (digits_value 10 text) most n h in
+    let found = bounded_twice (is_number text) (digits_value 10 text) most n h in
     let numeral = numeral_of text found.0 in
     sym (ap decimal (sym found.1) ∙ decimal-digits_value by_digits text numeral.digits numeral.some numeral.unpadded (omega (arith, found.1, found.2)))

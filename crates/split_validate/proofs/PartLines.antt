@@ -6,7 +6,6 @@ use Rattle.std.specs.Option.{option_map}
 use Rattle.std.specs.Str.{bytes_eq}
 use Rattle.std.specs.List.{list_any, list_all, before_first, after_first}
 use Rattle.std.proofs.lemmas.Bool.{and_parts, eqb-true, eq-eqb}
-use Rattle.std.proofs.lemmas.Slice.Eq.{bytes_eq-Decides}
 use Rattle.std.proofs.lemmas.Option.{same_Some}
 use Rattle.gal_io.specs.Number.{number_up_to}
 use Rattle.split_model.specs.declared.split.Slow.{Slow}
@@ -18,16 +17,8 @@ use Rattle.split_validate.proofs.Gone.{IsLow, IsLowPre, IsLowSlow, part_told}
 use Rattle.split_validate.proofs.Numbers.{decimal_digits, number_back, number_printed, number_small}
 use Rattle.split_validate.proofs.Plain.{digits_no_dash, digits_unspaced}
 use Rattle.split_validate.proofs.Words.{after_space, before_space, parted, space_there, unspaced}
-
-pub same_bytes : (xs : List ℕ) → bytes_eq xs xs ≡ true
-same_bytes xs = (bytes_eq-Decides xs xs).1 refl
-
-pub are_same : (xs ys : List ℕ) → bytes_eq xs ys ≡ true → xs ≡ ys
-are_same xs ys h = (bytes_eq-Decides xs ys).0 h
-
-chosen : {A P : Type 0} (t : Bool) (x : A) (o : Option A) → cond t o None ≡ Some x → (t ≡ true → o ≡ Some x → P) → P
-chosen true x o h k = k refl h
-chosen false x o h k = cc
+use Rattle.lemmas.proofs.Lists.{bytes_eq_true}
+use Rattle.lemmas.proofs.Tests.{some_of_cond}
 
 it_is : (number : ℕ) (o : Option ℕ) → is_it number o ≡ true → o ≡ Some number
 it_is number None h = cc
@@ -55,8 +46,8 @@ title_sound count line small h =
     let r = and_parts (list_any is_space back) (bytes_eq version (codes "1") && writes count number) q.1 in
     let s = and_parts (bytes_eq version (codes "1")) (writes count number) r.1 in
     let words : back ≡ codes "1" ++ (32 ∷ decimal count) =
-    parted back r.0 ∙ ap (λ b. b ++ (32 ∷ number)) (are_same version (codes "1") s.0) ∙ ap (λ b. codes "1" ++ (32 ∷ b)) (writes_sound count number small s.1) in
-    parted line p.0 ∙ ap (λ b. b ++ (32 ∷ back)) (are_same front (codes "split") q.0) ∙ ap (λ b. codes "split" ++ (32 ∷ b)) words
+    parted back r.0 ∙ ap (λ b. b ++ (32 ∷ number)) (bytes_eq_true version (codes "1") s.0) ∙ ap (λ b. codes "1" ++ (32 ∷ b)) (writes_sound count number small s.1) in
+    parted line p.0 ∙ ap (λ b. b ++ (32 ∷ back)) (bytes_eq_true front (codes "split") q.0) ∙ ap (λ b. codes "split" ++ (32 ∷ b)) words
 
 pre_unspaced : (pre : Option ℕ) → IsLowPre pre → list_all unspaced (pre_text pre) ≡ true
 pre_unspaced None low = refl
@@ -69,9 +60,8 @@ pre_back (Some stage) low =
     rw dash (ap (option_map (λ (s : ℕ). Some s)) (number_back 4096 stage low (lit< tt)))
 
 slow_back : (slow : Slow) → IsLowSlow slow → slow_of (slow_text slow) ≡ Some slow
-slow_back Carried low = refl
-slow_back Server low = refl
 slow_back (Post stage) low = ap (option_map (λ (s : ℕ). Post s)) (number_back 4096 stage low (lit< tt))
+slow_back _ low = refl
 
 words_back : (part : Part) → IsLow part → words_of (pre_text part.pre ++ (32 ∷ slow_text part.slow)) ≡ Some part
 words_back part low =
@@ -104,7 +94,7 @@ pre_by false None pre h = cc
 
 pre_sound : (pre : Option ℕ) (word : List ℕ) → pre_of word ≡ Some pre → (word ≡ pre_text pre) × IsLowPre pre
 pre_sound pre word h = elim (pre_by (bytes_eq word (codes "-")) (stage_of word) pre h) [
-  | inl p ↦ (are_same word (codes "-") p.0 ∙ ap pre_text p.1, subst IsLowPre p.1 tt)
+  | inl p ↦ (bytes_eq_true word (codes "-") p.0 ∙ ap pre_text p.1, subst IsLowPre p.1 tt)
   | inr q ↦ (number_printed 4096 q.0 word q.1 (lit< tt) ∙ ap pre_text q.2, subst IsLowPre q.2 (number_small 4096 q.0 word q.1))
 ]
 
@@ -122,18 +112,18 @@ post_sound : (slow : Slow) (words : List ℕ) → post_of words ≡ Some slow �
 post_sound slow words h =
     let front = before_first is_space words in
     let back = after_first is_space words in
-    chosen (list_any is_space words) slow (cond (bytes_eq front (codes "post")) (option_map (λ (s : ℕ). Post s) (stage_of back)) None) h (λ spaced inner.
-    chosen (bytes_eq front (codes "post")) slow (option_map (λ (s : ℕ). Post s) (stage_of back)) inner (λ post stage.
+    some_of_cond (list_any is_space words) slow (cond (bytes_eq front (codes "post")) (option_map (λ (s : ℕ). Post s) (stage_of back)) None) h (λ spaced inner.
+    some_of_cond (bytes_eq front (codes "post")) slow (option_map (λ (s : ℕ). Post s) (stage_of back)) inner (λ post stage.
     let found = mapped (stage_of back) slow stage in
     let text : words ≡ slow_text (Post found.0) =
-    parted words spaced ∙ ap (λ b. b ++ (32 ∷ back)) (are_same front (codes "post") post) ∙ ap (λ b. codes "post" ++ (32 ∷ b)) (number_printed 4096 found.0 back found.1 (lit< tt)) in
+    parted words spaced ∙ ap (λ b. b ++ (32 ∷ back)) (bytes_eq_true front (codes "post") post) ∙ ap (λ b. codes "post" ++ (32 ∷ b)) (number_printed 4096 found.0 back found.1 (lit< tt)) in
     (text ∙ ap slow_text found.2, subst IsLowSlow found.2 (number_small 4096 found.0 back found.1))))
 
 slow_sound : (slow : Slow) (words : List ℕ) → slow_of words ≡ Some slow → (words ≡ slow_text slow) × IsLowSlow slow
 slow_sound slow words h = elim (slow_by (bytes_eq words (codes "carried")) (bytes_eq words (codes "server")) (post_of words) slow h) [
-  | inl p ↦ (are_same words (codes "carried") p.0 ∙ ap slow_text p.1, subst IsLowSlow p.1 tt)
+  | inl p ↦ (bytes_eq_true words (codes "carried") p.0 ∙ ap slow_text p.1, subst IsLowSlow p.1 tt)
   | inr q ↦ elim q [
-    | inl p ↦ (are_same words (codes "server") p.0 ∙ ap slow_text p.1, subst IsLowSlow p.1 tt)
+    | inl p ↦ (bytes_eq_true words (codes "server") p.0 ∙ ap slow_text p.1, subst IsLowSlow p.1 tt)
     | inr post ↦ post_sound slow words post
   ]
 ]
@@ -149,7 +139,7 @@ words_sound : (part : Part) (words : List ℕ) → words_of words ≡ Some part 
 words_sound part words h =
     let front = before_first is_space words in
     let back = after_first is_space words in
-    chosen (list_any is_space words) part (part_with (pre_of front) (slow_of back)) h (λ spaced inner.
+    some_of_cond (list_any is_space words) part (part_with (pre_of front) (slow_of back)) h (λ spaced inner.
     let found = with_both (pre_of front) (slow_of back) part inner in
     let pre = pre_sound part.pre front found.0 in
     let slow = slow_sound part.slow back found.1 in
@@ -159,7 +149,7 @@ pub part_sound : (i : ℕ) (part : Part) (line : List ℕ) → i < 2 ^ 64 → pa
 part_sound i part line small h =
     let front = before_first is_space line in
     let back = after_first is_space line in
-    chosen (list_any is_space line) part (cond (writes i front) (words_of back) None) h (λ spaced inner.
-    chosen (writes i front) part (words_of back) inner (λ number words.
+    some_of_cond (list_any is_space line) part (cond (writes i front) (words_of back) None) h (λ spaced inner.
+    some_of_cond (writes i front) part (words_of back) inner (λ number words.
     let found = words_sound part back words in
     (parted line spaced ∙ ap (λ b. b ++ (32 ∷ back)) (writes_sound i front small number) ∙ ap (λ b. decimal i ++ (32 ∷ b)) found.0, found.1)))

@@ -56,10 +56,6 @@ told_both (x ∷ xs) ys h k = (h.0, told_both xs ys h.1 k)
 
 -- ## Bytes
 
-pub both : (p : ℕ → Bool) (xs ys : List ℕ) → list_all p xs ≡ true → list_all p ys ≡ true → list_all p (xs ++ ys) ≡ true
-both p [] ys h k = k
-both p (x ∷ xs) ys h k = let hp = and_parts (p x) (list_all p xs) h in rw hp.0 (both p xs ys hp.1 k)
-
 pub digits_plain : (ds : List ℕ) → all_ascii_digits ds ≡ true → list_all plain ds ≡ true
 digits_plain [] h = refl
 digits_plain (d ∷ ds) h = let rest = digits_plain ds in grind (arith, nat_tests, rest, h)

@@ -1,8 +1,7 @@
 -- What a line adds to what was read, and which lines a split text can't go on with.
 use Rattle.std.proofs.Common.{◌≡◌, ℕ, zero, suc, ◌+◌, ◌-◌, ◌≤◌, ◌<◌, ◌^◌, Bool, true, false, cond, ltb, List, [], ◌∷◌, ◌++◌, length, Option, Some, None, refl, sym, ap, subst, ◌∙◌, arith, append_assoc, length-append}
 use Rattle.std.specs.Str.{bytes_eq}
-use Rattle.std.proofs.lemmas.Bool.{true≢false, ltb-true}
-use Rattle.std.proofs.lemmas.Bool.Decides.{nat_tests}
+use Rattle.std.proofs.lemmas.Bool.{true≢false, ltb-true, ltb-false}
 use Rattle.std.proofs.lemmas.List.{append-nil}
 use Rattle.std.proofs.lemmas.Option.{same_Some}
 use Rattle.split_model.specs.declared.split.Slow.TheVariants.{Server}
@@ -11,7 +10,8 @@ use Rattle.split_validate.specs.SplitSteps.{is_title, part_of, step, title, with
 use Rattle.split_validate.specs.declared.reading.Progress.{Progress}
 use Rattle.split_validate.specs.declared.reading.Progress.TheVariants.{Nothing, Title, All}
 use Rattle.split_validate.proofs.Gone.{AreLow, Fits, IsLow, at, last, part_told, parts_told, so_far, split_told}
-use Rattle.split_validate.proofs.PartLines.{are_same, part_back, part_sound, same_bytes, title_back, title_sound}
+use Rattle.split_validate.proofs.PartLines.{part_back, part_sound, title_back, title_sound}
+use Rattle.lemmas.proofs.Lists.{bytes_eq_same, bytes_eq_true}
 
 -- ## Lists
 
@@ -20,9 +20,6 @@ head_is x y xs ys e = cc
 
 pub tail_is : {X : Type 0} (x y : X) (xs ys : List X) → x ∷ xs ≡ y ∷ ys → xs ≡ ys
 tail_is x y xs ys e = cc
-
-not_below : (a b : ℕ) → ltb a b ≡ false → b ≤ a
-not_below a b e = grind (arith, nat_tests, e)
 
 pub parts_both : (i : ℕ) (ps qs : List Part) → parts_told i (ps ++ qs) ≡ parts_told i ps ++ parts_told (i + length ps) qs
 parts_both i [] qs = let e : i ≡ i + 0 = omega arith in ap (λ n. parts_told n qs) e
@@ -76,7 +73,7 @@ title_goes true count line parts after small b f h =
     subst (GoesTo count line Title parts) found.2 (part_goes count line parts found.0 small f (ltb-true (length parts) count b) found.1)
 title_goes false count line parts after small b f h =
     let found = taken_one (bytes_eq line last) (at All parts) after h in
-    subst (GoesTo count line Title parts) found.1 (last_goes count line parts f (not_below (length parts) count b) (are_same line last found.0))
+    subst (GoesTo count line Title parts) found.1 (last_goes count line parts f (ltb-false (length parts) count b) (bytes_eq_true line last found.0))
 
 first_goes : (count : ℕ) (line : List ℕ) (parts : List Part) → Fits count Nothing parts → line ≡ title count → GoesTo count line Nothing parts (at Title parts)
 first_goes count line parts f e =
@@ -143,12 +140,12 @@ last_stops count line parts f full h split more is low e =
     let few : length parts ≤ count = f.count_is in
     let behind = end_here 0 parts split (last ∷ []) (line ∷ more) (tail_is (title (length split)) (title count) (parts_told 0 split ++ last ∷ []) (parts_told 0 parts ++ (line ∷ more)) e) (omega (arith, few, full, is)) in
     let same : last ≡ line = head_is last line [] more behind in
-    true≢false (sym (same_bytes line) ∙ ap (bytes_eq line) (sym same) ∙ h)
+    true≢false (sym (bytes_eq_same line) ∙ ap (bytes_eq line) (sym same) ∙ h)
 
 title_stops : (b : Bool) (count : ℕ) (line : List ℕ) (parts : List Part) → count < 2 ^ 64 → ltb (length parts) count ≡ b → Fits count Title parts
     → cond b (with_part parts (part_of (length parts) line)) (cond (bytes_eq line last) (Some (at All parts)) None) ≡ None → Stops count line Title parts
 title_stops true count line parts small b f h = part_stops count line parts small (ltb-true (length parts) count b) (with_none parts (part_of (length parts) line) h)
-title_stops false count line parts small b f h = last_stops count line parts f (not_below (length parts) count b) (refused_one (bytes_eq line last) (at All parts) h)
+title_stops false count line parts small b f h = last_stops count line parts f (ltb-false (length parts) count b) (refused_one (bytes_eq line last) (at All parts) h)
 
 first_stops : (count : ℕ) (line : List ℕ) (parts : List Part) → count < 2 ^ 64 → is_title count line ≡ false → Stops count line Nothing parts
 first_stops count line parts small h split more is low e =
@@ -174,9 +171,8 @@ step_stops count line All parts small f h = all_stops count line parts f
 
 -- some lines are missing
 abbrev pub IsEarly : Progress → Type 0
-IsEarly Nothing = Unit {0}
-IsEarly Title = Unit {0}
 IsEarly All = ⊥
+IsEarly _ = Unit {0}
 
 too_short : (i : ℕ) (parts split : List Part) (x : List ℕ) (rest : List (List ℕ)) → parts_told i split ++ (x ∷ rest) ≡ parts_told i parts → length parts ≤ length split → ⊥
 too_short i [] [] x rest e few = cc

@@ -1,5 +1,5 @@
 -- Which texts are those of splits, and where another goes wrong.
-use Rattle.std.proofs.Common.{◌≡◌, ℕ, zero, suc, ◌+◌, ◌≤◌, ◌<◌, ◌^◌, inl, inr, Bool, true, false, cond, List, [], ◌∷◌, ◌++◌, length, take, drop, Option, Some, None, refl, sym, ap, subst, ◌∙◌, arith, append_assoc}
+use Rattle.std.proofs.Common.{◌≡◌, ℕ, suc, ◌+◌, ◌≤◌, ◌<◌, ◌^◌, inl, inr, Bool, true, false, cond, List, [], ◌∷◌, ◌++◌, length, take, drop, Option, Some, None, refl, sym, ap, subst, ◌∙◌, arith, append_assoc}
 use Rattle.std.specs.List.{AllByRecursion}
 use Rattle.std.proofs.lemmas.Bool.{cases_lt}
 use Rattle.std.proofs.lemmas.List.{append-nil, take-append-drop}
@@ -12,11 +12,12 @@ use Rattle.split_validate.specs.SplitLines.{AreLinesOf, Begins, IsFirstWrong, Is
 use Rattle.split_validate.specs.declared.reading.SplitTextError.TheVariants.{Line}
 use Rattle.split_validate.specs.SplitSteps.{ended, line_read, step, taken, title}
 use Rattle.split_validate.specs.declared.reading.Progress.{Progress}
-use Rattle.split_validate.specs.declared.reading.Progress.TheVariants.{Nothing, Title, All}
+use Rattle.split_validate.specs.declared.reading.Progress.TheVariants.{All}
 use Rattle.split_validate.proofs.Gone.{Fits, at, last, parts_told, so_far, split_told}
 use Rattle.split_validate.proofs.Plain.{IsTold, all_told}
 use Rattle.split_validate.proofs.Told.{all_plain, few_of, low_of, text_lines}
 use Rattle.split_validate.proofs.Steps.{IsEarly, can_go, early_stops, one_split, step_goes, step_stops, tail_is}
+use Rattle.lemmas.proofs.Lists.{drop_line, line_within, lines_passed, take_fewer, take_line, take_lines}
 
 -- ## Lines
 
@@ -30,43 +31,14 @@ all_behind : (xs ys : List (List ℕ)) → AllByRecursion IsTold (xs ++ ys) → 
 all_behind [] ys h = h
 all_behind (x ∷ xs) ys h = all_behind xs ys h.1
 
-take_next : (n : ℕ) (l : List ℕ) (ls rest : List (List ℕ)) → drop n ls ≡ l ∷ rest → take (suc n) ls ≡ take n ls ++ l ∷ []
-take_next zero l [] rest e = cc e
-take_next (suc n) l [] rest e = cc e
-take_next zero l (x ∷ ls) rest e = ap (λ m. take 1 m) e
-take_next (suc n) l (x ∷ ls) rest e = ap (λ m. x ∷ m) (take_next n l ls rest e)
-
-drop_on : (n : ℕ) (l : List ℕ) (ls rest : List (List ℕ)) → drop n ls ≡ l ∷ rest → drop (suc n) ls ≡ rest
-drop_on zero l [] rest e = cc e
-drop_on (suc n) l [] rest e = cc e
-drop_on zero l (x ∷ ls) rest e = ap (drop 1) e
-drop_on (suc n) l (x ∷ ls) rest e = drop_on n l ls rest e
-
 -- the lines behind one more
 pub drop_more : (n : ℕ) (l : List ℕ) (ls rest : List (List ℕ)) → drop n ls ≡ l ∷ rest → rest ≡ drop (n + 1) ls
-drop_more n l ls rest e = let up : n + 1 ≡ suc n = omega arith in sym (ap (λ m. drop m ls) up ∙ drop_on n l ls rest e)
-
-pub drop_inside : (n : ℕ) (l : List ℕ) (ls rest : List (List ℕ)) → drop n ls ≡ l ∷ rest → n < length ls
-drop_inside zero l [] rest e = cc e
-drop_inside (suc n) l [] rest e = cc e
-drop_inside zero l (x ∷ ls) rest e = omega arith
-drop_inside (suc n) l (x ∷ ls) rest e = omega (arith, drop_inside n l ls rest e)
-
-take_whole : (ls : List (List ℕ)) → take (length ls) ls ≡ ls
-take_whole [] = refl
-take_whole (l ∷ ls) = ap (λ m. l ∷ m) (take_whole ls)
-
--- nothing is left
-all_passed : (n : ℕ) (ls : List (List ℕ)) → n ≤ length ls → drop n ls ≡ [] → n ≡ length ls
-all_passed zero [] h e = refl
-all_passed (suc n) [] h e = absurd (omega (arith, h))
-all_passed zero (l ∷ ls) h e = cc e
-all_passed (suc n) (l ∷ ls) h e = ap suc (all_passed n ls (omega (arith, h)) e)
+drop_more n l ls rest e = let up : n + 1 ≡ suc n = omega arith in sym (ap (λ m. drop m ls) up ∙ drop_line n l ls rest e)
 
 pub whole_told : (n : ℕ) (ls told : List (List ℕ)) → n ≤ length ls → drop n ls ≡ [] → told_of (take n ls) ≡ told → told_of ls ≡ told
 whole_told n ls told h e t =
-    let all = all_passed n ls h e in
-    ap told_of (sym (ap (λ m. take m ls) all ∙ take_whole ls)) ∙ t
+    let all = lines_passed n ls h e in
+    ap told_of (sym (ap (λ m. take m ls) all ∙ take_lines ls)) ∙ t
 
 -- ## One turn of the reader
 
@@ -74,14 +46,14 @@ pub turn_skipped : (n : ℕ) (ls rest told : List (List ℕ)) (l : List ℕ) →
 turn_skipped n ls rest told l e skipped t =
     let up : n + 1 ≡ suc n = omega arith in
     let none : told_of (l ∷ []) ≡ [] = rw skipped refl in
-    ap (λ m. told_of (take m ls)) up ∙ ap told_of (take_next n l ls rest e) ∙ told_append (take n ls) (l ∷ [])
+    ap (λ m. told_of (take m ls)) up ∙ ap told_of (take_line n l ls rest e) ∙ told_append (take n ls) (l ∷ [])
     ∙ ap (λ m. told_of (take n ls) ++ m) none ∙ append-nil (told_of (take n ls)) ∙ t
 
 pub turn_taken : (n : ℕ) (ls rest told : List (List ℕ)) (l : List ℕ) → drop n ls ≡ l ∷ rest → is_skipped l ≡ false → told_of (take n ls) ≡ told → told_of (take (n + 1) ls) ≡ told ++ l ∷ []
 turn_taken n ls rest told l e spoken t =
     let up : n + 1 ≡ suc n = omega arith in
     let one : told_of (l ∷ []) ≡ l ∷ [] = rw spoken refl in
-    ap (λ m. told_of (take m ls)) up ∙ ap told_of (take_next n l ls rest e) ∙ told_append (take n ls) (l ∷ [])
+    ap (λ m. told_of (take m ls)) up ∙ ap told_of (take_line n l ls rest e) ∙ told_append (take n ls) (l ∷ [])
     ∙ ap (λ m. told_of (take n ls) ++ m) one ∙ ap (λ m. m ++ l ∷ []) t
 
 pub taken_yes : (b : Bool) (progress : Progress) (parts : List Part) (o : Option (Progress × List Part)) → taken b progress parts o → b ≡ true → o ≡ Some (at progress parts)
@@ -159,7 +131,7 @@ refused_line count n ls rest l progress parts small e spoken f t stops b =
     let more = b.0 in
     let one : told_of (l ∷ more) ≡ l ∷ told_of more = rw spoken refl in
     let told : told_of (take (suc n) ls ++ more) ≡ so_far count progress parts ++ (l ∷ told_of more) =
-    ap (λ m. told_of (m ++ more)) (take_next n l ls rest e) ∙ ap told_of (append_assoc (take n ls) (l ∷ []) more) ∙ told_append (take n ls) (l ∷ more)
+    ap (λ m. told_of (m ++ more)) (take_line n l ls rest e) ∙ ap told_of (append_assoc (take n ls) (l ∷ []) more) ∙ told_append (take n ls) (l ∷ more)
     ∙ ap (λ m. told_of (take n ls) ++ m) one ∙ ap (λ m. m ++ (l ∷ told_of more)) t in
     step_stops count l progress parts small f stops b.1 (told_of more) b.2.parts (low_of b.1 b.2.stages) (sym (split_lines count (take (suc n) ls ++ more) b.1 small b.2) ∙ told)
 
@@ -167,7 +139,7 @@ wrong_line : (count n : ℕ) (ls rest : List (List ℕ)) (l : List ℕ) (progres
     → step count l progress parts ≡ None → IsFirstWrong count ls n
 wrong_line count n ls rest l progress parts small e spoken f t stops =
     let bad = refused_line count n ls rest l progress parts small e spoken f t stops in
-    let inside = drop_inside n l ls rest e in
+    let inside = line_within n l ls rest e in
     record {
       within = omega (arith, inside);
       begins = can_begin count (take n ls) progress parts small f t;
@@ -188,14 +160,12 @@ line_stop count n text rest l progress parts small e f t stops =
 
 -- which lines were read at the end
 pub ended_all : (progress : Progress) (parts found : List Part) → ended progress parts ≡ Some found → (progress ≡ All) × (parts ≡ found)
-ended_all Nothing parts found h = cc h
-ended_all Title parts found h = cc h
 ended_all All parts found h = (refl, same_Some parts found h)
+ended_all _ parts found h = cc h
 
 pub ended_early : (progress : Progress) (parts : List Part) → ended progress parts ≡ None → IsEarly progress
-ended_early Nothing parts h = tt
-ended_early Title parts h = tt
 ended_early All parts h = cc h
+ended_early _ parts h = tt
 
 -- what is known of the lines of the text at the end
 pub record AllRead (count : ℕ) (text : List ℕ) (found : List Part) : Type 0 where
@@ -215,14 +185,14 @@ pub text_stop : (count n : ℕ) (text : List ℕ) (progress : Progress) (parts :
     → told_of (take n (lines text)) ≡ so_far count progress parts → IsRefused count text (Line (n + 1))
 text_stop count n text progress parts small h e early f t =
     let ls = lines text in
-    let all = all_passed n ls h e in
+    let all = lines_passed n ls h e in
     let up : n + 1 ≡ suc (length ls) = omega (arith, all) in
     let whole = whole_told n ls (so_far count progress parts) h e t in (
       length ls,
       ap Line up,
       record {
         within = omega arith;
-        begins = subst (Begins count) (sym (take_whole ls)) (can_begin count ls progress parts small f whole);
+        begins = subst (Begins count) (sym (take_lines ls)) (can_begin count ls progress parts small f whole);
         wrong = λ less b. absurd (omega (arith, less));
         none = λ split k. early_stops count progress parts split early f k.parts (sym (split_lines count ls split small k) ∙ whole);
       },
@@ -240,16 +210,10 @@ printed_is split small few =
 
 -- ## One line is the first wrong one
 
-fewer : (j k : ℕ) (ls : List (List ℕ)) → j ≤ k → take k ls ≡ take j ls ++ drop j (take k ls)
-fewer zero k ls h = refl
-fewer (suc j) zero ls h = absurd (omega (arith, h))
-fewer (suc j) (suc k) [] h = refl
-fewer (suc j) (suc k) (l ∷ ls) h = ap (λ m. l ∷ m) (fewer j k ls (omega (arith, h)))
-
 begins_sooner : (count j k : ℕ) (ls : List (List ℕ)) → j ≤ k → Begins count (take k ls) → Begins count (take j ls)
 begins_sooner count j k ls h b =
     let between = drop j (take k ls) in
-    (between ++ b.0, b.1, subst (λ m. AreLinesOf count m b.1) (ap (λ m. m ++ b.0) (fewer j k ls h) ∙ append_assoc (take j ls) between b.0) b.2)
+    (between ++ b.0, b.1, subst (λ m. AreLinesOf count m b.1) (ap (λ m. m ++ b.0) (take_fewer j k ls h) ∙ append_assoc (take j ls) between b.0) b.2)
 
 not_later : (count : ℕ) (ls : List (List ℕ)) (j k : ℕ) → IsFirstWrong count ls j → IsFirstWrong count ls k → j < k → ⊥
 not_later count ls j k f g less = f.wrong (omega (arith, less, g.within)) (begins_sooner count (suc j) k ls (omega (arith, less)) g.begins)

@@ -6,7 +6,7 @@ use Rattle.std.proofs.lemmas.Fmt.{decimal_nonempty}
 use Rattle.std.proofs.lemmas.Option.{same_Some}
 use Rattle.gal_io.specs.Lines.{lines, line_end}
 use Rattle.split_model.specs.declared.split.Slow.{Slow}
-use Rattle.split_model.specs.declared.split.Slow.TheVariants.{Carried, Server, Post}
+use Rattle.split_model.specs.declared.split.Slow.TheVariants.{Post}
 use Rattle.split_model.specs.declared.split.Part.{Part}
 use Rattle.split_model.specs.Split.{pre_stage, post_stage, stage_after}
 use Rattle.split_model.specs.Bounds.{HasFewStages}
@@ -14,7 +14,8 @@ use Rattle.split_validate.specs.SplitText.{first_line, part_line, part_lines, pr
 use Rattle.split_validate.specs.SplitSteps.{title}
 use Rattle.split_validate.proofs.Gone.{AreLow, IsLow, IsLowPre, IsLowSlow, last, part_told, parts_told, split_told}
 use Rattle.split_validate.proofs.Numbers.{decimal_digits}
-use Rattle.split_validate.proofs.Plain.{IsTold, both, digits_plain, digits_told, lined, lines_lined, plain, told_both}
+use Rattle.split_validate.proofs.Plain.{IsTold, digits_plain, digits_told, lined, lines_lined, plain, told_both}
+use Rattle.lemmas.proofs.Lists.{list_all_append}
 
 -- ## Stages
 
@@ -23,9 +24,8 @@ low_pre None f = tt
 low_pre (Some stage) f = f stage refl
 
 low_slow : (slow : Slow) → ((stage : ℕ) → stage_after slow ≡ Some stage → stage ≤ 4096) → IsLowSlow slow
-low_slow Carried f = tt
-low_slow Server f = tt
 low_slow (Post stage) f = f stage refl
+low_slow _ f = tt
 
 pub low_of : (split : List Part) → HasFewStages split → AreLow split
 low_of [] h = tt
@@ -37,9 +37,8 @@ pre_low None stage low e = cc
 pre_low (Some own) stage low e = subst (λ n. n ≤ 4096) (same_Some own stage e) low
 
 slow_low : (slow : Slow) (stage : ℕ) → IsLowSlow slow → stage_after slow ≡ Some stage → stage ≤ 4096
-slow_low Carried stage low e = cc
-slow_low Server stage low e = cc
 slow_low (Post own) stage low e = subst (λ n. n ≤ 4096) (same_Some own stage e) low
+slow_low _ stage low e = cc
 
 pre_few : (split : List Part) → AreLow split → (i stage : ℕ) → pre_stage split i ≡ Some stage → stage ≤ 4096
 pre_few [] low i stage e = cc
@@ -57,12 +56,11 @@ few_of split low = record { pre = pre_few split low; post = post_few split low }
 -- ## Lines
 
 number_plain : (n : ℕ) (rest : List ℕ) → n < 2 ^ 64 → list_all plain rest ≡ true → list_all plain (decimal n ++ rest) ≡ true
-number_plain n rest small h = both plain (decimal n) rest (digits_plain (decimal n) (decimal_digits n small)) h
+number_plain n rest small h = list_all_append plain (decimal n) rest (digits_plain (decimal n) (decimal_digits n small)) h
 
 slow_plain : (slow : Slow) → IsLowSlow slow → list_all plain (slow_text slow) ≡ true
-slow_plain Carried low = refl
-slow_plain Server low = refl
 slow_plain (Post stage) low = digits_plain (decimal stage) (decimal_digits stage (omega (arith, low)))
+slow_plain _ low = refl
 
 pre_plain : (pre : Option ℕ) (rest : List ℕ) → IsLowPre pre → list_all plain rest ≡ true → list_all plain (pre_text pre ++ rest) ≡ true
 pre_plain None rest low h = h

@@ -5,6 +5,7 @@ use Rattle.std.proofs.lemmas.Bool.{and_parts, eqb-true, ltb-true}
 use Rattle.std.proofs.lemmas.Bool.Decides.{nat_tests}
 use Rattle.std.proofs.lemmas.List.Sums.{passes_at_first, split_at_first}
 use Rattle.split_validate.specs.SplitSteps.{is_space}
+use Rattle.lemmas.proofs.Lists.{drop_front, take_front}
 
 -- a line has a space exactly where the first one stands before its end
 pub any_space : (line : List ℕ) → list_any is_space line ≡ ltb (position_or_len is_space line) (length line)
@@ -38,14 +39,6 @@ space_place (byte ∷ front) back h =
     let parts = and_parts (unspaced byte) (list_all unspaced front) h in
     let rest = space_place front back parts.1 in
     rw parts.0 (omega arith)
-
-take_front : {X : Type 0} (front back : List X) → take (length front) (front ++ back) ≡ front
-take_front [] back = refl
-take_front (x ∷ front) back = ap (λ l. x ∷ l) (take_front front back)
-
-drop_front : {X : Type 0} (front : List X) (x : X) (back : List X) → drop (suc (length front)) (front ++ (x ∷ back)) ≡ back
-drop_front [] x back = refl
-drop_front (y ∷ front) x back = drop_front front x back
 
 pub before_space : (front back : List ℕ) → list_all unspaced front ≡ true → before_first is_space (front ++ (32 ∷ back)) ≡ front
 before_space front back h = ap (λ n. take n (front ++ (32 ∷ back))) (space_place front back h) ∙ take_front front (32 ∷ back)

@@ -98,6 +98,5 @@ line_read count line progress parts = if is_skipped line then Some (progress, pa
 
 -- the parts, where all lines were read
 abbrev pub ended : Progress → List Part → Option (List Part)
-ended Nothing parts = None
-ended Title parts = None
 ended All parts = Some parts
+ended _ parts = None

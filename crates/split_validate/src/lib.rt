@@ -2,7 +2,6 @@
 #![tactic(auto)]
 
 mod counts_text;
-mod laws;
 mod operand;
 mod part_line;
 mod reading;
@@ -11,7 +10,6 @@ mod split_text;
 mod validating;
 
 pub use counts_text::print_counts;
-pub use laws::{a_text_is_of_one_split, one_line_is_first_wrong};
 pub use reading::{SplitTextError, read_split};
 pub use split_text::print_split;
 pub use validating::{Illegal, validate};

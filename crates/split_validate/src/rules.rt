@@ -10,7 +10,7 @@ ghost use Rattle.split_model.specs.Legal.{rule_5, rule_6, rule_7, rule_8, rule_9
 ghost use Rattle.split_validate.specs.Flaws.{ArePostGuarded, stage_in};
 
 use crate::operand::{Flaw, Pass};
-use flat_ir::{Flat, Instr, InstrKind, lines_of_blocks};
+use flat_ir::{Flat, Instr, InstrKind};
 use gal_io::NoMemory;
 use split_model::Split;
 use std::alloc::Global;
@@ -23,7 +23,6 @@ fn is_guarded(f: &Flat, s: &Split, marks: &[bool], k: usize) -> bool
     requires marks { ArePostGuarded (program_of f.now) s.now k marks.now }
     ensures { result ≡ list_any (is_post_condition (program_of f.now) s.now) (line f.now.blocks (k + 1)) }
 {
-    lines_of_blocks();
     let block = f.blocks.as_slice()[k];
     let own = s.is_post(block.cond.instruction as usize);
     let above = marks[block.parent as usize];

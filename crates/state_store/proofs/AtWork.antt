@@ -2,13 +2,12 @@
 use Rattle.std.proofs.Common.{◌≡◌, ℕ, ◌<◌, ◌≤◌, Bool, true, false, cond, not, ◌&&◌, nat_le, List, [], length, get_or, Some, None, is_some, unwrap_or, Result, Ok, Err, is_ok, IfOk, IfErr, refl, sym, ap, ◌∙◌, subst, arith}
 use Rattle.std.proofs.lemmas.Option.{slice_get_past}
 use Rattle.std.proofs.lemmas.Bool.Decides.{nat_tests}
-use Rattle.std.specs.List.{remove as remove_at}
-use Rattle.std.specs.FinMap.{insert, from_sorted, len, entries, get-empty, len-empty, entries-from_sorted}
+use Rattle.std.specs.FinMap.{from_sorted, len, entries, get-empty, len-empty, entries-from_sorted}
 use Rattle.state_store.specs.declared.object.Kind.{Kind}
 use Rattle.state_store.specs.declared.store.Put.TheVariants.{Stored, Full}
-use Rattle.state_store.specs.Store.{key_cmp, Contents, Object, look, looked_up, is_out, is_full, put_answer, put_row, del_row, rows_of, rows_from, Store, object_at, no_object}
+use Rattle.state_store.specs.Store.{key_cmp, Object, look, looked_up, is_out, is_full, put_answer, rows_of, rows_from, Store, object_at, no_object}
 use Rattle.state_store.specs.Places.{Entries, IsSorted, IsPlaceOf, IsGapFor, with_entry}
-use Rattle.state_store.proofs.Entries.{find_here, find_gap, sorted_with, remove_here, map_empty, map_get, map_len, map_with, map_without, map_absent}
+use Rattle.state_store.proofs.Entries.{find_here, find_gap, sorted_with, map_empty, map_get, map_len}
 
 abbrev pub object_of : Kind → ℕ → ℕ → Entries → Object
 object_of kind size count es = record { kind = kind; size = size; count = count; contents = from_sorted es }
@@ -35,38 +34,15 @@ full_is kind size count es k r rows full sorted p g all e =
 pub answer_is : (o : Object) (k : List ℕ) (full : Bool) → is_out o.kind o.size k ≡ false → is_full o k ≡ full → put_answer o k ≡ cond full Full Stored
 answer_is o k full out e = rw (out, e) refl
 
-pub full_row : (o : Object) (k v : List ℕ) → is_out o.kind o.size k ≡ false → is_full o k ≡ true → put_row o k v ≡ o
-full_row o k v out full = rw (out, full) refl
-
-pub stored_row : (kind : Kind) (size count : ℕ) (es fs : Entries) (k v : List ℕ) → IsSorted es → is_out kind size k ≡ false → is_full (object_of kind size count es) k ≡ false → fs ≡ with_entry es k v → object_of kind size count fs ≡ put_row (object_of kind size count es) k v
-stored_row kind size count es fs k v sorted out full e =
-    ap (object_of kind size count) e ∙ ap (λ (m : Contents). record { kind = kind; size = size; count = count; contents = m }) (map_with es k v sorted) ∙ rw (out, full) refl
-
 -- entries that were set, or are as before where that failed
 pub sorted_either : (es fs : Entries) (k v : List ℕ) (b : Bool) → IsSorted es → fs ≡ cond b (with_entry es k v) es → IsSorted fs
 sorted_either es fs k v true sorted e = subst IsSorted (sym e) (sorted_with es k v sorted)
 sorted_either es fs k v false sorted e = subst IsSorted (sym e) sorted
 
-pub set_gives : {X E : Type 0} (r : Result X E) (kind : Kind) (size count : ℕ) (es fs : Entries) (k v : List ℕ) → IsSorted es → fs ≡ cond (is_ok r) (with_entry es k v) es → IfOk r (λ x. object_of kind size count fs ≡ record { kind = kind; size = size; count = count; contents = insert (from_sorted es) k v })
-set_gives (Ok x) kind size count es fs k v sorted e = ap (object_of kind size count) e ∙ ap (λ (m : Contents). record { kind = kind; size = size; count = count; contents = m }) (map_with es k v sorted)
-set_gives (Err x) kind size count es fs k v sorted e = tt
-
 -- where there is no lack of room, an entry is stored in the memory that is there
 pub in_memory : {P : Type 0} (has_place : Bool) (size rows len capacity : ℕ) → (has_place ≡ true → P) → (len < capacity → P) → (not has_place && nat_le size rows) ≡ false → size ≤ capacity → rows ≡ len → P
 in_memory true size rows len capacity here room full le e = here refl
 in_memory false size rows len capacity here room full le e = room (grind (arith, nat_tests))
-
--- a row removed at the place of its key, or none where there is a gap
-pub removed_row : (kind : Kind) (size count : ℕ) (es fs : Entries) (k : List ℕ) (i : ℕ) → IsSorted es → IsPlaceOf es k i → fs ≡ remove_at es i → object_of kind size count fs ≡ del_row (object_of kind size count es) k
-removed_row kind size count es fs k i sorted p e =
-    ap (object_of kind size count) (e ∙ remove_here es k i sorted p) ∙ ap (λ (m : Contents). record { kind = kind; size = size; count = count; contents = m }) (map_without es k sorted)
-
-pub removed_none : (kind : Kind) (size count : ℕ) (es : Entries) (k : List ℕ) (i : ℕ) → IsSorted es → IsGapFor es k i → del_row (object_of kind size count es) k ≡ object_of kind size count es
-removed_none kind size count es k i sorted p =
-    ap (λ (m : Contents). record { kind = kind; size = size; count = count; contents = m }) (map_absent (from_sorted es) k (map_get es k sorted ∙ find_gap es k i sorted p))
-
-pub rows_are : (kind : Kind) (size count : ℕ) (es : Entries) → IsSorted es → rows_of (object_of kind size count es) ≡ rows_from es
-rows_are kind size count es sorted = ap rows_from (entries-from_sorted key_cmp es sorted)
 
 -- ---- a number of no object
 pub past_objects : (s : Store) (n : ℕ) → length s ≤ n → object_at s n ≡ no_object

@@ -1,7 +1,6 @@
 -- Constant tables, by their place.
-use Rattle.std.proofs.Common.{◌≡◌, ◌<◌, ℕ, zero, suc, true, false, List, [], ◌∷◌, refl, arith}
-use Rattle.std.specs.Prelude.{slice_get, Some, None, nat_lt}
-use Rattle.std.proofs.lemmas.Bool.Decides.{nat_tests}
+use Rattle.std.proofs.Common.{◌≡◌, ℕ, zero, suc, false, List, [], ◌∷◌, refl}
+use Rattle.std.specs.Prelude.{slice_get, Some, None}
 use Rattle.state_store.specs.Kinds.{is_table, is_constant}
 use Rattle.state_store.specs.declared.object.ObjectDecl.{ObjectDecl}
 
@@ -14,9 +13,3 @@ pub constant_at : (ds : List ObjectDecl) (o : ℕ) (d : ObjectDecl) → slice_ge
 constant_at [] o d e = cc
 constant_at (x ∷ ds) zero d e = cc
 constant_at (x ∷ ds) (suc o) d e = constant_at ds o d e
-
-pub lt_true : (i k : ℕ) → nat_lt i k ≡ true → i < k
-lt_true i k h = grind (arith, nat_tests)
-
-pub true_lt : (i k : ℕ) → i < k → nat_lt i k ≡ true
-true_lt i k h = grind (arith, nat_tests)

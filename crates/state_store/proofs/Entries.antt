@@ -1,9 +1,8 @@
 -- What an edit at a place of sorted entries does, and what their finite map then has.
-use Rattle.std.proofs.Common.{◌≡◌, ℕ, zero, suc, ◌+◌, Bool, true, false, cond, not, ◌&&◌, T, List, [], ◌∷◌, length, get_or, set, Option, Some, None, is_some, refl, sym, ap, ◌∙◌, arith, true≢false}
-use Rattle.std.specs.declared.cmp.Ordering.{Ordering}
-use Rattle.std.specs.declared.cmp.Ordering.TheVariants.{Less, Equal, Greater}
+use Rattle.std.proofs.Common.{◌≡◌, ℕ, zero, suc, ◌+◌, Bool, true, false, cond, not, T, List, [], ◌∷◌, length, get_or, set, Option, Some, None, is_some, refl, sym, ap, ◌∙◌, arith, true≢false}
+use Rattle.std.specs.declared.cmp.Ordering.TheVariants.{Less, Equal}
 use Rattle.std.specs.List.{insert as insert_at, remove as remove_at}
-use Rattle.std.specs.Ordering.{eq_by_cmp, is_eq, is_lt}
+use Rattle.std.specs.Ordering.{eq_by_cmp, is_eq}
 use Rattle.std.specs.Cmp.{eq_by_cmp_equiv, alike_right}
 use Rattle.std.specs.FinMap.{find, put, get, len, empty, entries, insert, remove, from_sorted, same_entries_map, entries-from_sorted, entries-insert, get-from_sorted, len-entries, get-remove, same_map, empty_of_len}
 use Rattle.std.specs.FinMap.Entries.{where_key, below_all, is_sorted-put, is_sorted-where_key, find-where_key, length-put}
@@ -12,6 +11,7 @@ use Rattle.std.proofs.lemmas.Map.Lookups.{exact_bytes}
 use Rattle.std.proofs.lemmas.List.Edits.{length-insert}
 use Rattle.state_store.specs.Store.{key_cmp, Contents}
 use Rattle.state_store.specs.Places.{Entries, key_at, IsSorted, IsPlaceOf, IsGapFor, with_entry}
+use Rattle.lemmas.proofs.Tests.{T_first, T_second, eq_equal, lt_less}
 
 -- a place of a key beyond the first is a place of it in the rest
 place_tail : (e : List ℕ × List ℕ) (es : Entries) (k : List ℕ) (i : ℕ) → IsPlaceOf (e ∷ es) k (suc i) → IsPlaceOf es k i
@@ -19,19 +19,6 @@ place_tail e es k i p = record { in_range = omega (arith, p.in_range); before = 
 
 gap_tail : (e : List ℕ × List ℕ) (es : Entries) (k : List ℕ) (i : ℕ) → IsGapFor (e ∷ es) k (suc i) → IsGapFor es k i
 gap_tail e es k i p = record { in_range = omega (arith, p.in_range); before = λ j lt. p.before (suc j) (omega arith); next = λ lt. p.next (omega arith) }
-
-pub left : (a b : Bool) → T (a && b) → T a
-left true b h = tt
-left false b h = absurd h
-
-pub right : (a b : Bool) → T (a && b) → T b
-right true b h = h
-right false b h = absurd h
-
-pub is_less : (o : Ordering) → T (is_lt o) → o ≡ Less
-is_less Less p = refl
-is_less Equal p = absurd p
-is_less Greater p = absurd p
 
 -- new values at the place of a key
 pub with_entry_here : (es : Entries) (k v : List ℕ) (i : ℕ) → IsPlaceOf es k i → set es i (key_at es i, v) ≡ with_entry es k v
@@ -67,14 +54,14 @@ others k es = where_key key_cmp (λ x. not (eq_by_cmp key_cmp k x)) es
 all_others : (k x : List ℕ) (es : Entries) → key_cmp k x ≡ Equal → T (below_all key_cmp x es) → others k es ≡ es
 all_others k x [] t h = refl
 all_others k x (e ∷ es) t h =
-    let less : key_cmp k e.0 ≡ Less = nat_list_cmp_total.congr k x e.0 t ∙ is_less (key_cmp x e.0) (left _ _ h) in
-    rw less (ap (λ l. e ∷ l) (all_others k x es t (right _ _ h)))
+    let less : key_cmp k e.0 ≡ Less = nat_list_cmp_total.congr k x e.0 t ∙ lt_less (key_cmp x e.0) (T_first _ _ h) in
+    rw less (ap (λ l. e ∷ l) (all_others k x es t (T_second _ _ h)))
 
 -- the entries without that of a key
 pub remove_here : (es : Entries) (k : List ℕ) (i : ℕ) → IsSorted es → IsPlaceOf es k i → remove_at es i ≡ others k es
 remove_here [] k i sorted p = absurd (omega (arith, p.in_range))
-remove_here (e ∷ es) k zero sorted p = rw p.here (sym (all_others k e.0 es p.here (left _ _ sorted)))
-remove_here (e ∷ es) k (suc i) sorted p = rw (p.before 0 (omega arith)) (ap (λ l. e ∷ l) (remove_here es k i (right _ _ sorted) (place_tail e es k i p)))
+remove_here (e ∷ es) k zero sorted p = rw p.here (sym (all_others k e.0 es p.here (T_first _ _ sorted)))
+remove_here (e ∷ es) k (suc i) sorted p = rw (p.before 0 (omega arith)) (ap (λ l. e ∷ l) (remove_here es k i (T_second _ _ sorted) (place_tail e es k i p)))
 
 pub others_sorted : (es : Entries) (k : List ℕ) → IsSorted es → IsSorted (others k es)
 others_sorted es k sorted = is_sorted-where_key key_cmp _ es sorted
@@ -109,17 +96,12 @@ map_without es k sorted = same_map nat_list_cmp_total exact_bytes _ _ (λ q.
     ∙ ap (λ b. cond b None (find key_cmp q es)) ((eq_by_cmp_equiv nat_list_cmp_total).symm k q)
     ∙ sym (get-remove nat_list_cmp_total (from_sorted es) k q ∙ ap (cond (eq_by_cmp key_cmp q k) None) (map_get es q sorted)))
 
-pub is_equal : (o : Ordering) → is_eq o ≡ true → o ≡ Equal
-is_equal Less e = absurd (true≢false (sym e))
-is_equal Equal e = refl
-is_equal Greater e = absurd (true≢false (sym e))
-
 -- a map without a key that it doesn't have is itself
 pub map_absent : (m : Contents) (k : List ℕ) → get m k ≡ None → remove m k ≡ m
 map_absent m k none = same_map nat_list_cmp_total exact_bytes (remove m k) m (λ q. get-remove nat_list_cmp_total m k q ∙ at q (eq_by_cmp key_cmp q k) refl)
   where
     at : (q : List ℕ) (b : Bool) → eq_by_cmp key_cmp q k ≡ b → cond b None (get m q) ≡ get m q
-    at q true e = sym (ap (get m) (exact_bytes q k (is_equal (key_cmp q k) e)) ∙ none)
+    at q true e = sym (ap (get m) (exact_bytes q k (eq_equal (key_cmp q k) e)) ∙ none)
     at q false e = refl
 
 pub no_entries : entries (empty {X = List ℕ} {R = key_cmp}) ≡ []

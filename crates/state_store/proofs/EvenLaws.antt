@@ -1,5 +1,5 @@
 -- Lists that all have one length.
-use Rattle.std.proofs.Common.{◌≡◌, ℕ, zero, suc, ◌+◌, ◌-◌, ◌*◌, ◌<◌, ◌≤◌, List, [], ◌∷◌, ◌++◌, length, take, drop, set, replicate, Some, None, slice_get, refl, sym, ap, ap₂, subst, ◌∙◌, arith}
+use Rattle.std.proofs.Common.{◌≡◌, ℕ, zero, suc, ◌+◌, ◌-◌, ◌*◌, ◌<◌, ◌≤◌, List, [], ◌∷◌, ◌++◌, length, take, drop, set, replicate, Some, slice_get, refl, sym, ap, ap₂, subst, ◌∙◌, arith}
 use Rattle.std.proofs.Math.Nat.{mul-le-mul_left}
 use Rattle.std.proofs.lemmas.List.{take-take, drop-take, length-take-le, length-drop, length-append, drop-drop, take_at, drop_at, take-append-le, drop-append-le, take_all, take-replicate, drop-replicate}
 use Rattle.state_store.specs.Even.{Even, cut}
@@ -22,12 +22,6 @@ cut_at w (suc n) ns (suc i) lt =
     let at : w + i * w ≡ suc i * w = omega arith in
     cut_at w n (drop w ns) i (omega arith)
     ∙ ap (λ l. Some (take w l)) (drop-drop (i * w) w ns ∙ ap (λ k. drop k ns) at)
-
-pub cut_past : (w n : ℕ) (ns : List ℕ) (i : ℕ) → n ≤ i → slice_get (cut w n ns) i ≡ None
-unfolding cut
-cut_past w zero ns i le = refl
-cut_past w (suc n) ns zero le = absurd (omega arith)
-cut_past w (suc n) ns (suc i) le = cut_past w n (drop w ns) i (omega arith)
 
 -- a list more, behind the others
 pub cut_push : (w n : ℕ) (ns l : List ℕ) → length ns ≡ n * w → length l ≡ w → cut w (suc n) (ns ++ l) ≡ cut w n ns ++ l ∷ []

@@ -1,6 +1,6 @@
 -- What the calls of a table say of the rows that are packed in it.
-use Rattle.std.proofs.Common.{◌≡◌, ℕ, ◌+◌, ◌*◌, ◌^◌, ◌<◌, Bool, true, false, cond, not, ◌&&◌, nat_le, List, [], ◌∷◌, Option, Some, None, is_some, option_map, refl, sym, ap, ap₂, subst, ◌∙◌, true≢false}
-use Rattle.std.specs.FinMap.{get, len, empty, insert, remove, entries, contains_key}
+use Rattle.std.proofs.Common.{◌≡◌, ℕ, ◌*◌, Bool, true, false, cond, not, ◌&&◌, nat_le, List, Option, Some, None, is_some, option_map, refl, sym, ap, ap₂, subst, ◌∙◌}
+use Rattle.std.specs.FinMap.{get, empty, insert, remove, contains_key}
 use Rattle.slot_table.specs.Table.{Contents, Table, is_table_full}
 use Rattle.slot_table.specs.declared.table.Slot.{Slot}
 use Rattle.slot_table.specs.declared.table.Slot.TheVariants as slot
@@ -13,6 +13,7 @@ use Rattle.state_store.specs.declared.packed_rows.Kept.{Kept}
 use Rattle.state_store.specs.declared.packed_rows.Kept.TheVariants.{Stored, Full, Misfit}
 use Rattle.state_store.proofs.Entries.{map_empty, map_absent, no_entries}
 use Rattle.state_store.proofs.RowLaws.{get_of, get_misfit, len_of, insert_packed, insert_of, remove_packed, remove_of}
+use Rattle.std.proofs.lemmas.Bool.{and_from}
 
 -- numbers that were packed have the widths
 pub some_packed : (fit : Bool) (x y : ℕ) → Some y ≡ cond fit (Some x) None → (fit ≡ true) × (y ≡ x)
@@ -92,16 +93,6 @@ put_misfit_answer f key values misfit = rw misfit refl
 pub put_misfit_after : (f : Fitted) (key values : List ℕ) → fits_row f key values ≡ false → f ≡ kept_row f key values
 put_misfit_after f key values misfit = rw misfit refl
 
-pub no_key : (a b : Bool) → a ≡ false → (a && b) ≡ false
-no_key a b e = rw e refl
-
-pub no_values : (a b : Bool) → b ≡ false → (a && b) ≡ false
-no_values true b e = e
-no_values false b e = refl
-
-pub both : (a b : Bool) → a ≡ true → b ≡ true → (a && b) ≡ true
-both a b e f = rw (e, f) refl
-
 answered : (full : Bool) → kept_by (cond full slot.Full slot.Stored) ≡ cond full Full Stored
 answered true = refl
 answered false = refl
@@ -111,7 +102,7 @@ pub put_answer : (p : Packing) (table : Table) (key values : List ℕ) (s : Slot
 put_answer p table key values s r held fit fit' e is =
     let full = full_same p table key held fit in
     is ∙ ap kept_by e ∙ answered (is_table_full table (packed_list p.key_words p.keys key)) ∙ ap (λ b. cond b Full Stored) (sym full)
-    ∙ ap (λ b. cond b (cond (is_full_at table.capacity (contents_of p table.rows) key) Full Stored) Misfit) (sym (both _ _ fit fit'))
+    ∙ ap (λ b. cond b (cond (is_full_at table.capacity (contents_of p table.rows) key) Full Stored) Misfit) (sym (and_from _ _ fit fit'))
 
 either_holds : (p : Packing) (full : Bool) (rows : Contents) (key values : List ℕ) → HoldsPacked p rows → have_widths p.keys key ≡ true → have_widths p.values values ≡ true
     → HoldsPacked p (cond full rows (insert rows (packed_list p.key_words p.keys key) (packed_list p.value_words p.values values)))
@@ -140,7 +131,7 @@ put_after p p' table capacity' rows' key values held fit fit' same room e =
     ap (λ n. fitted_of n p' rows') room ∙ ap (λ q. fitted_of table.capacity q rows') same ∙ ap (λ m. fitted_of table.capacity p m) e
     ∙ either_after p (is_table_full table (packed_list p.key_words p.keys key)) table.capacity table.rows key values held fit fit'
     ∙ ap (λ b. cond b f more) (sym (full_same p table key held fit))
-    ∙ ap (λ b. cond b (cond (is_full_at table.capacity (contents_of p table.rows) key) f more) f) (sym (both _ _ fit fit'))
+    ∙ ap (λ b. cond b (cond (is_full_at table.capacity (contents_of p table.rows) key) f more) f) (sym (and_from _ _ fit fit'))
 
 -- ---- no rows
 pub none_hold : (p : Packing) (rows : Contents) → rows ≡ empty → IsRoomy p → HoldsPacked p rows

@@ -11,19 +11,19 @@ use Rattle.std.proofs.lemmas.Cmp.{nat_list_cmp_total}
 use Rattle.std.proofs.lemmas.List.Sorted.{IsNonDecreasingBy-from_default}
 use Rattle.state_store.specs.Store.{key_cmp}
 use Rattle.state_store.specs.Places.{Entries, key_at, IsSorted, IsPlaceOf, IsGapFor}
-use Rattle.state_store.proofs.Entries.{left, right, is_less}
+use Rattle.lemmas.proofs.Tests.{T_first, T_second, lt_less}
 
 below_at : (x : List ℕ) (es : Entries) (j : ℕ) → T (below_all key_cmp x es) → j < length es → key_cmp x (key_at es j) ≡ Less
 below_at x [] j below lt = absurd (omega arith)
-below_at x (e ∷ es) zero below lt = is_less _ (left _ _ below)
-below_at x (e ∷ es) (suc j) below lt = below_at x es j (right _ _ below) (omega arith)
+below_at x (e ∷ es) zero below lt = lt_less _ (T_first _ _ below)
+below_at x (e ∷ es) (suc j) below lt = below_at x es j (T_second _ _ below) (omega arith)
 
 -- of two entries the earlier one has the lower key
 lower_at : (es : Entries) (i j : ℕ) → IsSorted es → i < j → j < length es → key_cmp (key_at es i) (key_at es j) ≡ Less
 lower_at [] i j sorted lt within = absurd (omega arith)
 lower_at (e ∷ es) i zero sorted lt within = absurd (omega arith)
-lower_at (e ∷ es) zero (suc j) sorted lt within = below_at e.0 es j (left _ _ sorted) (omega arith)
-lower_at (e ∷ es) (suc i) (suc j) sorted lt within = lower_at es i j (right _ _ sorted) (omega arith) (omega arith)
+lower_at (e ∷ es) zero (suc j) sorted lt within = below_at e.0 es j (T_first _ _ sorted) (omega arith)
+lower_at (e ∷ es) (suc i) (suc j) sorted lt within = lower_at es i j (T_second _ _ sorted) (omega arith) (omega arith)
 
 -- a lower key doesn't compare higher with a third
 no_higher : (x y k : List ℕ) (r : Ordering) → key_cmp x y ≡ Less → key_cmp y k ≡ r → ordering_index (key_cmp x k) ≤ ordering_index r

@@ -2,7 +2,7 @@
 use Rattle.std.proofs.Common.{◌≡◌, ◌⊎◌, inl, inr, ℕ, ◌≤◌, Bool, true, false, cond, not, List, [], Option, Some, None, IfSome, IsSome, refl, sym, ap, ap₂, subst, ◌∙◌, Result, Ok, Err, IfOk, is_ok, true≢false}
 use Rattle.std.specs.FinMap.{empty, contains_key, insert, remove, entries, from_sorted, entries_sorted, same_entries_map, entries-from_sorted}
 use Rattle.state_store.specs.Bounded.{Bounded, IsKeptIn, HasSize, contents_in, unpacked_entries, packed_answer, packed_after, packed_without, is_full_in, stored_row}
-use Rattle.state_store.specs.Fitted.{Fitted, fits_row, is_full_at, kept_row}
+use Rattle.state_store.specs.Fitted.{Fitted, fits_row, is_full_at}
 use Rattle.state_store.specs.Places.{Entries, IsSorted, with_entry, without_entry}
 use Rattle.state_store.specs.Store.{key_cmp, Contents}
 use Rattle.state_store.specs.declared.packed_rows.Kept.{Kept}
@@ -12,15 +12,6 @@ use Rattle.state_store.proofs.Entries.{map_empty, map_with, map_without, sorted_
 abbrev pub bounded_of : ℕ → Option Fitted → Entries → Bounded
 bounded_of size o es = record { size = size; contents = contents_in o es }
 
-with_contents : ℕ → Contents → Bounded
-with_contents size m = record { size = size; contents = m }
-
-pub in_packed : (o : Option Fitted) (f : Fitted) (es : Entries) → o ≡ Some f → f.contents ≡ contents_in o es
-in_packed o f es e = ap (λ q. contents_in q es) (sym e)
-
-pub in_order : (o : Option Fitted) (es : Entries) → o ≡ None → from_sorted es ≡ contents_in o es
-in_order o es e = ap (λ q. contents_in q es) (sym e)
-
 -- ---- rows that leave the table
 pub unpacked_sorted : (o : Option Fitted) (es : Entries) → IsSorted es → IsSorted (unpacked_entries o es)
 unpacked_sorted None es sorted = sorted
@@ -29,40 +20,6 @@ unpacked_sorted (Some f) es sorted = entries_sorted f.contents
 pub unpacked_same : (o : Option Fitted) (es : Entries) → from_sorted (unpacked_entries o es) ≡ contents_in o es
 unpacked_same None es = refl
 unpacked_same (Some f) es = same_entries_map _ f.contents (entries-from_sorted key_cmp (entries f.contents) (entries_sorted f.contents))
-
--- ---- a put among packed rows
-kept_capacity : (f : Fitted) (k v : List ℕ) → (kept_row f k v).capacity ≡ f.capacity
-kept_capacity f k v = go (fits_row f k v) (is_full_at f.capacity f.contents k)
-  where
-    go : (a b : Bool) → (cond a (cond b f (record f { contents = insert f.contents k v })) f).capacity ≡ f.capacity
-    go true true = refl
-    go true false = refl
-    go false b = refl
-
-pub still_kept : (o : Option Fitted) (es : Entries) (size capacity : ℕ) (k v : List ℕ) → IsKeptIn o es size capacity → IsKeptIn (packed_after o k v) es size capacity
-still_kept None es size capacity k v kept = kept
-still_kept (Some f) es size capacity k v kept = record {
-  sorted = kept.sorted;
-  room = kept.room;
-  reserve = (kept.reserve.0, subst (λ n. n ≤ capacity) (sym (kept_capacity f k v)) kept.reserve.1);
-  bound = kept_capacity f k v ∙ kept.bound;
-}
-
-pub record IsStored (o : Option Fitted) (es : Entries) (size : ℕ) (k v : List ℕ) : Type 0 where
-  pub room : is_full_in (bounded_of size o es) k ≡ false
-  pub after : contents_in (packed_after o k v) es ≡ insert (contents_in o es) k v
-
-pub was_stored : (o : Option Fitted) (es : Entries) (size : ℕ) (k v : List ℕ) → HasSize o size → Stored ≡ packed_answer o k v → IsStored o es size k v
-was_stored None es size k v bound e = absurd (cc)
-was_stored (Some f) es size k v bound e = go (fits_row f k v) (is_full_at f.capacity f.contents k) refl refl e
-  where
-    go : (a b : Bool) → fits_row f k v ≡ a → is_full_at f.capacity f.contents k ≡ b → Stored ≡ cond a (cond b Full Stored) Misfit → IsStored (Some f) es size k v
-    go true true p q h = absurd (cc)
-    go true false p q h = record {
-      room = ap (λ n. is_full_at n f.contents k) (sym bound) ∙ q;
-      after = ap₂ (λ a b. (cond a (cond b f (record f { contents = insert f.contents k v })) f).contents) p q;
-    }
-    go false b p q h = absurd (cc)
 
 pub record IsRefused (o : Option Fitted) (es : Entries) (size : ℕ) (k v : List ℕ) : Type 0 where
   pub full : is_full_in (bounded_of size o es) k ≡ true
@@ -89,26 +46,6 @@ was_misfit (Some f) k v e = go (fits_row f k v) (is_full_at f.capacity f.content
     go true false p h = absurd (cc)
     go false b p h = ap (λ a. Some (cond a (cond (is_full_at f.capacity f.contents k) f (record f { contents = insert f.contents k v })) f)) p
 
--- the answers of a put
-pub stored_answer : (o : Option Fitted) (es : Entries) (size : ℕ) (k v : List ℕ) → IsStored o es size k v → true ≡ not (is_full_in (bounded_of size o es) k)
-stored_answer o es size k v is = ap not (sym is.room)
-
-pub stored_after : (o o' : Option Fitted) (es : Entries) (size : ℕ) (k v : List ℕ) → IsStored o es size k v → o' ≡ packed_after o k v → bounded_of size o' es ≡ stored_row (bounded_of size o es) k v
-unfolding with_contents
-stored_after o o' es size k v is e = ap (λ q. bounded_of size q es) e ∙ ap (with_contents size) is.after
-
-pub put_after : (o o' : Option Fitted) (es : Entries) (size : ℕ) (k v : List ℕ) → IsStored o es size k v → o' ≡ packed_after o k v
-    → bounded_of size o' es ≡ cond (is_full_in (bounded_of size o es) k) (bounded_of size o es) (stored_row (bounded_of size o es) k v)
-put_after o o' es size k v is e = stored_after o o' es size k v is e ∙ ap (λ b. cond b (bounded_of size o es) (stored_row (bounded_of size o es) k v)) (sym is.room)
-
-pub full_answer : (o : Option Fitted) (es : Entries) (size : ℕ) (k v : List ℕ) → IsRefused o es size k v → false ≡ not (is_full_in (bounded_of size o es) k)
-full_answer o es size k v is = ap not (sym is.full)
-
-pub full_after : (o o' : Option Fitted) (es : Entries) (size : ℕ) (k v : List ℕ) → IsRefused o es size k v → o' ≡ packed_after o k v
-    → bounded_of size o' es ≡ cond (is_full_in (bounded_of size o es) k) (bounded_of size o es) (stored_row (bounded_of size o es) k v)
-full_after o o' es size k v is e =
-    ap (λ q. bounded_of size q es) (e ∙ is.after) ∙ ap (λ b. cond b (bounded_of size o es) (stored_row (bounded_of size o es) k v)) (sym is.full)
-
 -- ---- a put among rows that left the table
 -- the same contents lie in order now
 pub now_sorted : (o o' : Option Fitted) (es fs : Entries) → o' ≡ o → fs ≡ unpacked_entries o' es → from_sorted fs ≡ contents_in o es
@@ -132,11 +69,6 @@ late_after m fs gs size k v sorted same e =
 pub sorted_either : (fs gs : Entries) (k v : List ℕ) (b : Bool) → IsSorted fs → gs ≡ cond b fs (with_entry fs k v) → IsSorted gs
 sorted_either fs gs k v true sorted e = subst IsSorted (sym e) sorted
 sorted_either fs gs k v false sorted e = subst IsSorted (sym e) (sorted_with fs k v sorted)
-
-pub late_set : {X E : Type 0} (r : Result X E) (m : Contents) (fs gs : Entries) (size : ℕ) (k v : List ℕ) → IsSorted fs → from_sorted fs ≡ m → gs ≡ cond (is_ok r) (with_entry fs k v) fs
-    → IfOk r (λ x. ◌≡◌ {A = Bounded} (record { size = size; contents = from_sorted gs }) (record { size = size; contents = insert m k v }))
-late_set (Ok x) m fs gs size k v sorted same e = ap (λ (z : Contents). record { size = size; contents = z }) (ap (λ l. from_sorted l) e ∙ map_with fs k v sorted ∙ ap (λ z. insert z k v) same)
-late_set (Err x) m fs gs size k v sorted same e = tt
 
 -- ---- rows in order alone
 pub none_kept : (es : Entries) (size capacity : ℕ) → IsSorted es → size ≤ capacity → IsKeptIn None es size capacity

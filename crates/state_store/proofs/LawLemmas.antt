@@ -11,13 +11,14 @@ use Rattle.state_store.specs.declared.object.ObjectDecl.{ObjectDecl}
 use Rattle.state_store.specs.Kept.{IsWhole, IsKeptObject, IsKept}
 use Rattle.state_store.specs.Laws.{IsStoredAlone, IsRemovedAlone, IsChangedAlone, IsNeverFull}
 use Rattle.state_store.specs.Store.{key_cmp, Contents, Object, Store, look, is_out, is_full, put_answer, put_row, object_at}
-use Rattle.state_store.proofs.Entries.{is_equal}
+use Rattle.lemmas.proofs.Tests.{eq_equal}
+use Rattle.state_store.specs.Keeping.{more}
 
 apart : (q k : List ℕ) (b : Bool) → eq_by_cmp key_cmp q k ≡ b → q ≢ k → b ≡ false
-apart q k true e differs = absurd (differs (exact_bytes q k (is_equal (key_cmp q k) e)))
+apart q k true e differs = absurd (differs (exact_bytes q k (eq_equal (key_cmp q k) e)))
 apart q k false e differs = refl
 
-itself : (k : List ℕ) → eq_by_cmp key_cmp k k ≡ true
+pub itself : (k : List ℕ) → eq_by_cmp key_cmp k k ≡ true
 itself k = ap is_eq (tied_itself nat_list_cmp_total k)
 
 insert_here : (m : Contents) (k v : List ℕ) → get (insert m k v) k ≡ Some v
@@ -36,10 +37,6 @@ found_here : (o : Object) (k v : List ℕ) (out full : Bool) → is_out o.kind o
 found_here o k v true full e f stored = absurd (let same : OutOfRange ≡ Stored = rw e at stored in cc)
 found_here o k v false true e f stored = absurd (let same : Full ≡ Stored = rw (e, f) at stored in cc)
 found_here o k v false false e f stored = rw (e, f) (insert_here o.contents k v)
-
-more : (known : Bool) (n size : ℕ) → (not known && nat_le size n) ≡ false → n ≤ size → cond known n (n + 1) ≤ size
-more true n size room le = le
-more false n size room le = grind (arith, nat_tests)
 
 pub put_alone : (o : Object) (k v : List ℕ) → IsStoredAlone o k v
 put_alone o k v = record {

@@ -1,11 +1,11 @@
-mod AtWork
-mod Constants
-mod Entries
+pub mod AtWork
+pub mod Constants
+pub mod Entries
 mod EvenLaws
-mod FittedLaws
+pub mod FittedLaws
 mod Halves
 mod KeptLaws
-mod LawLemmas
+pub mod LawLemmas
 mod NumberLaws
 mod PackLaws
 mod PackSteps
@@ -15,3 +15,4 @@ mod RowLaws
 mod ShapeLaws
 mod SlotRows
 mod SortLaws
+pub mod Laws

@@ -46,9 +46,6 @@ gaps_passed s from at next =
     let there : from + (at - from) ≡ at = omega (arith, next.behind) in
     passed (at - from) s from (omega (arith, next.within, there)) (λ i lower upper. next.gaps i lower (omega (arith, there))) ∙ ap (λ n. slot_rows (drop n s)) there
 
-pub slots_pushed : (s : Slots) (i : ℕ) (l w : Numbers) → length s ≤ i → l ++ map row_numbers (slot_rows (drop i s)) ≡ w → l ≡ w
-slots_pushed s i l w le e = sym (append-nil l) ∙ ap (λ x. l ++ map row_numbers (slot_rows x)) (sym (drop_all i s le)) ∙ e
-
 -- a list that is as long as all is all
 as_long : (l m w : Numbers) → length w ≤ length l → l ++ m ≡ w → l ≡ w
 as_long l [] w le e = sym (append-nil l) ∙ e

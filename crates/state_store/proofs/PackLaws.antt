@@ -3,13 +3,13 @@ use Rattle.std.proofs.Common.{◌≡◌, inl, inr, ℕ, ◌+◌, ◌-◌, ◌*�
 use Rattle.std.specs.Prelude.{nat_le, nat_lt, ◌==◌}
 use Rattle.std.specs.Ordering.{nat_cmp, ordering_then}
 use Rattle.std.specs.declared.cmp.Ordering.{Ordering}
-use Rattle.std.specs.declared.cmp.Ordering.TheVariants.{Less, Equal, Greater}
+use Rattle.std.specs.declared.cmp.Ordering.TheVariants.{Less, Equal}
 use Rattle.std.proofs.lemmas.Bool.{and_parts, ltb-true, leb-true, cases_order}
-use Rattle.std.proofs.lemmas.Bool.Decides.{nat_tests}
 use Rattle.std.proofs.lemmas.Nat.{pow_pos, pow-add, mul-add-lt, mul-le, shr_high, mod_low}
 use Rattle.state_store.specs.Kept.{have_widths}
 use Rattle.state_store.specs.Store.{key_cmp}
 use Rattle.state_store.specs.Packing.{have_room, packed, parts, words, number, packed_list, unpacked_list}
+use Rattle.lemmas.proofs.Numbers.{cmp_equal, cmp_greater, cmp_less}
 
 -- a width that has room
 pub record HasRoom (bits w : ℕ) (ws : List ℕ) : Type 0 where
@@ -63,26 +63,16 @@ parts_packed bits (w ∷ ws) (n ∷ ns) room fit =
     let below : rest < 2 ^ k = packed_below k ws ns r.rest f.rest in
     ap₂ (λ x xs. x ∷ xs) (shr_high n k rest below) (ap (parts k ws) (mod_low n k rest below) ∙ parts_packed k ws ns r.rest f.rest)
 
--- ---- order
-less : (x y : ℕ) → x < y → nat_cmp x y ≡ Less
-less x y h = grind (arith, nat_tests)
-
-equal : (x : ℕ) → nat_cmp x x ≡ Equal
-equal x = grind (arith, nat_tests)
-
-greater : (x y : ℕ) → y < x → nat_cmp x y ≡ Greater
-greater x y h = grind (arith, nat_tests)
-
 -- the first digit decides, and then the second
 pub digits : (b x r y s : ℕ) → r < b → s < b → nat_cmp (x * b + r) (y * b + s) ≡ ordering_then (nat_cmp x y) (nat_cmp r s)
 digits b x r y s p q = elim (cases_order x y) [
-  | inl same ↦ rw (same, equal y) (elim (cases_order r s) [
-    | inl e ↦ rw (e, equal s) (equal (y * b + s))
-    | inr (inl lt) ↦ rw (less r s lt) (less (y * b + r) (y * b + s) (omega arith))
-    | inr (inr gt) ↦ rw (greater r s gt) (greater (y * b + r) (y * b + s) (omega arith))
+  | inl same ↦ rw (same, cmp_equal y) (elim (cases_order r s) [
+    | inl e ↦ rw (e, cmp_equal s) (cmp_equal (y * b + s))
+    | inr (inl lt) ↦ rw (cmp_less r s lt) (cmp_less (y * b + r) (y * b + s) (omega arith))
+    | inr (inr gt) ↦ rw (cmp_greater r s gt) (cmp_greater (y * b + r) (y * b + s) (omega arith))
   ])
-  | inr (inl lt) ↦ rw (less x y lt) (less (x * b + r) (y * b + s) (let h = row x y lt p in omega arith))
-  | inr (inr gt) ↦ rw (greater x y gt) (greater (x * b + r) (y * b + s) (let h = row y x gt q in omega arith))
+  | inr (inl lt) ↦ rw (cmp_less x y lt) (cmp_less (x * b + r) (y * b + s) (let h = row x y lt p in omega arith))
+  | inr (inr gt) ↦ rw (cmp_greater x y gt) (cmp_greater (x * b + r) (y * b + s) (let h = row y x gt q in omega arith))
 ]
   where
     row : (u v : ℕ) {t : ℕ} → u < v → t < b → u * b + t < v * b
@@ -113,8 +103,7 @@ number_words count x = elim (count == 1) as (λ b. number (cond b (x ∷ []) (x 
 
 then_equal : (o : Ordering) → ordering_then o Equal ≡ o
 then_equal Less = refl
-then_equal Equal = refl
-then_equal Greater = refl
+then_equal _ = refl
 
 pub words_cmp : (count x y : ℕ) → key_cmp (words count x) (words count y) ≡ nat_cmp x y
 unfolding words

@@ -1,29 +1,13 @@
 -- One number more, while numbers are packed or unpacked.
 use Rattle.std.proofs.Common.{◌≡◌, ◌≢◌, inl, inr, ℕ, suc, ◌+◌, ◌-◌, ◌*◌, ◌/◌, ◌%◌, ◌^◌, ◌<◌, ◌≤◌, Bool, true, false, cond, List, [], ◌∷◌, ◌++◌, length, drop, get_or, replicate, Some, None, refl, sym, ap, ap₂, subst, ◌∙◌, arith, pow_mono, add-one, append-nil}
-use Rattle.std.specs.Prelude.{nat_eq, nat_lt, slice_set}
-use Rattle.std.proofs.Math.Nat.{div-lt_iff_lt-mul}
+use Rattle.std.specs.Prelude.{nat_eq, slice_set}
 use Rattle.std.proofs.Math.Seq.{drop-cons}
-use Rattle.std.proofs.lemmas.Bool.{ltb_from_iff, lt-ltb, eqb-true, eq-eqb}
 use Rattle.std.proofs.lemmas.List.{drop_all}
 use Rattle.std.proofs.lemmas.Nat.{pow_pos, pow-add, shl_whole, shr_below, mod_below, mul-add-lt, one_shl}
 use Rattle.slot_table.specs.Table.{IsWords}
 use Rattle.state_store.specs.Kept.{have_widths}
 use Rattle.state_store.specs.Packing.{have_room, packed, parts, words, number}
 use Rattle.state_store.proofs.PackLaws.{with_room, with_width}
-
--- nothing is left behind a division exactly where the number is below the divisor
-pub quotient_zero : (v n : ℕ) → 0 < n → nat_eq (v / n) 0 ≡ nat_lt v n
-quotient_zero v n some =
-    let below = div-lt_iff_lt-mul {k = n} {x = v} {y = 1} some in
-    ltb_from_iff (
-      λ e. let z : v / n ≡ 0 = eqb-true (v / n) 0 e in let m : v < 1 * n = below.0 (omega arith) in omega arith,
-      λ h. eq-eqb (v / n) 0
-          (let m : v / n < 1 = below.1 (omega arith) in omega arith),
-    )
-
--- a number of 64 bits has no more bits than 64, and no more than any larger number of them
-pub fits_all : (v bits : ℕ) → v < 2 ^ 64 → 64 ≤ bits → nat_lt v (2 ^ bits) ≡ true
-fits_all v bits small many = let more : 2 ^ 64 ≤ 2 ^ bits = pow_mono many in lt-ltb v (2 ^ bits) (omega arith)
 
 -- ---- lists
 pub next_of : (xs : List ℕ) (i : ℕ) → i < length xs → drop i xs ≡ get_or xs i 0 ∷ drop (i + 1) xs

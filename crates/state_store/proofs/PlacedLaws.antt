@@ -14,10 +14,11 @@ use Rattle.std.proofs.lemmas.List.{length-set}
 use Rattle.state_store.specs.Fitted.{Fitted, fits_row, is_full_at, keep_answer, kept_row}
 use Rattle.state_store.specs.declared.object.Row.{Row}
 use Rattle.state_store.specs.declared.packed_rows.Kept.TheVariants.{Stored, Full, Misfit}
-use Rattle.state_store.proofs.Entries.{is_equal, map_get, map_len, map_with, map_empty, with_entry_here, with_entry_new}
+use Rattle.state_store.proofs.Entries.{map_get, map_len, map_with, map_empty, with_entry_here, with_entry_new}
 use Rattle.state_store.specs.Store.{key_cmp, Contents, zeros_from, row_of, rows_from}
 use Rattle.state_store.specs.Places.{Entries, IsSorted, IsPlaceOf, IsGapFor, key_at}
 use Rattle.state_store.specs.Placed.{placed, placed_contents, placed_rows}
+use Rattle.lemmas.proofs.Tests.{eq_equal}
 
 one_less : (i j : ℕ) → i < j → key_cmp (i ∷ []) (j ∷ []) ≡ Less
 one_less i j lt = grind (arith, nat_tests)
@@ -80,7 +81,7 @@ at_key (k ∷ []) rows = slice_get rows k
 at_key (k ∷ m ∷ ks) rows = None
 
 exact : (k : List ℕ) (i : ℕ) → eq_by_cmp key_cmp k (i ∷ []) ≡ true → k ≡ i ∷ []
-exact k i e = exact_bytes k (i ∷ []) (is_equal (key_cmp k (i ∷ [])) e)
+exact k i e = exact_bytes k (i ∷ []) (eq_equal (key_cmp k (i ∷ [])) e)
 
 apart : (k : List ℕ) (i : ℕ) → (k ≡ i ∷ [] → ⊥) → eq_by_cmp key_cmp k (i ∷ []) ≡ false
 apart k i other = go (eq_by_cmp key_cmp k (i ∷ [])) refl
@@ -94,12 +95,6 @@ find_none : (k : List ℕ) (i : ℕ) (rows : List (List ℕ)) → ((j : ℕ) →
 unfolding placed
 find_none k i [] other = refl
 find_none k i (r ∷ rows) other = rw (apart k i (other i)) (find_none k (suc i) rows other)
-
--- nor one below the first
-find_below : (k i : ℕ) (rows : List (List ℕ)) → k < i → find key_cmp (k ∷ []) (placed i rows) ≡ None
-unfolding placed
-find_below k i [] lt = refl
-find_below k i (r ∷ rows) lt = rw (apart (k ∷ []) i (λ e. absurd (let s = one_number k i e in omega arith))) (find_below k (suc i) rows (omega arith))
 
 find_at : (n i : ℕ) (rows : List (List ℕ)) → find key_cmp ((i + n) ∷ []) (placed i rows) ≡ slice_get rows n
 unfolding placed
@@ -183,14 +178,6 @@ some_there : (rows : List (List ℕ)) (p : ℕ) → p < length rows → slice_ge
 some_there [] p lt = absurd (omega arith)
 some_there (r ∷ rows) zero lt = refl
 some_there (r ∷ rows) (suc p) lt = some_there rows p (omega arith)
-
--- a row that hasn't the widths
-pub misfit_answer : (f : Fitted) (key v : List ℕ) → fits_row f key v ≡ false → Misfit ≡ keep_answer f key v
-misfit_answer f key v no_fit = ap (λ b. cond b (cond (is_full_at f.capacity f.contents key) Full Stored) Misfit) (sym no_fit)
-
-pub misfit_after : (f : Fitted) (key v : List ℕ) → fits_row f key v ≡ false → f ≡ kept_row f key v
-misfit_after f key v no_fit =
-    ap (λ b. cond b (cond (is_full_at f.capacity f.contents key) f (record f { contents = insert f.contents key v })) f) (sym no_fit)
 
 module _ (keys values : List ℕ) (rows : List (List ℕ)) (key v : List ℕ) where
   abbrev before : Fitted

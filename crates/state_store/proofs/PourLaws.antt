@@ -1,7 +1,6 @@
 -- What slots hold, one by one and then in order, are the entries.
-use Rattle.std.proofs.Common.{◌≡◌, ℕ, suc, ◌+◌, ◌*◌, ◌<◌, ◌≤◌, [], ◌∷◌, ◌++◌, length, map, drop, Option, Some, None, option_map, refl, sym, ap, ap₂, subst, ◌∙◌, arith, append_assoc, append-nil, IsPermutation, IsSorted}
+use Rattle.std.proofs.Common.{◌≡◌, ℕ, ◌+◌, ◌*◌, ◌<◌, [], ◌∷◌, ◌++◌, length, map, drop, Option, Some, None, option_map, refl, sym, ap, ap₂, subst, ◌∙◌, append_assoc, append-nil, IsPermutation, IsSorted}
 use Rattle.std.specs.FinMap.{entries, len}
-use Rattle.std.proofs.lemmas.List.{drop_all}
 use Rattle.std.proofs.lemmas.List.Sorted.{IsPermutation-map, IsPermutation-trans, IsPermutation-sym}
 use Rattle.slot_table.specs.Table.{Entry, Contents, Slots, held, IsLaidOut}
 use Rattle.state_store.specs.Fitted.{HoldsPacked, contents_of, unpacked_row}
@@ -35,27 +34,6 @@ slot_listed p s i o l l' w lt e is so_far = go (held s i) o refl e is
         ap (λ x. x ++ map (unpacked_row p) (slot_rows (drop (i + 1) s))) (is ∙ ap (λ x. l ++ x) (as_listed p row n e))
         ∙ append_assoc l (unpacked_row p row ∷ []) (map (unpacked_row p) (slot_rows (drop (i + 1) s)))
         ∙ ap (λ x. l ++ map (unpacked_row p) x) (sym (row_at s i row lt h)) ∙ so_far
-
--- all slots are listed
-pub slots_listed : (p : Packing) (s : Slots) (i : ℕ) (l w : Entries) → length s ≤ i → l ++ map (unpacked_row p) (slot_rows (drop i s)) ≡ w → l ≡ w
-slots_listed p s i l w le e = sym (append-nil l) ∙ ap (λ x. l ++ map (unpacked_row p) (slot_rows x)) (sym (drop_all i s le)) ∙ e
-
-length_mapped : (p : Packing) (es : Entries) → length (map (unpacked_row p) es) ≡ length es
-length_mapped p [] = refl
-length_mapped p (e ∷ es) = ap suc (length_mapped p es)
-
-longer : (l m : Entries) → length (l ++ m) ≡ length l + length m
-longer [] m = omega arith
-longer (x ∷ l) m = let rest = longer l m in omega arith
-
--- a row that is to be listed is one of all
-pub one_left : (p : Packing) (s : Slots) (i : ℕ) (r : Entry) (l : Entries) → i < length s → held s i ≡ Some r → l ++ map (unpacked_row p) (slot_rows (drop i s)) ≡ map (unpacked_row p) (slot_rows s) → length l < length (slot_rows s)
-one_left p s i r l lt h e =
-    let all = ap length e ∙ length_mapped p (slot_rows s) in
-    let split = longer l (map (unpacked_row p) (slot_rows (drop i s))) in
-    let left = length_mapped p (slot_rows (drop i s)) in
-    let next : length (slot_rows (drop i s)) ≡ suc (length (slot_rows (drop (i + 1) s))) = ap length (row_at s i r lt h) in
-    omega arith
 
 -- the listed rows in order
 pub poured : (p : Packing) (rows : Contents) (s : Slots) (l sorted : Entries) → HoldsPacked p rows → IsLaidOut rows s → l ≡ map (unpacked_row p) (slot_rows s) → IsPermutation l sorted → IsSorted entry_cmp sorted → sorted ≡ entries (contents_of p rows)

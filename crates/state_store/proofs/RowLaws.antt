@@ -11,9 +11,10 @@ use Rattle.state_store.specs.Kept.{have_widths}
 use Rattle.state_store.specs.Packing.{Packing, packed_list, unpacked_list}
 use Rattle.state_store.specs.Places.{Entries, IsSorted, with_entry}
 use Rattle.state_store.specs.Store.{key_cmp}
-use Rattle.state_store.proofs.Entries.{map_with, map_without, map_get, others, is_equal, others_sorted}
+use Rattle.state_store.proofs.Entries.{map_with, map_without, map_get, others, others_sorted}
 use Rattle.state_store.proofs.PackLaws.{unpacked_packed, packed_list_cmp}
 use Rattle.std.proofs.lemmas.Map.Lookups.{exact_bytes}
+use Rattle.lemmas.proofs.Tests.{eq_equal}
 
 module _ (p : Packing) (roomy : IsRoomy p) where
   abbrev pub key_of : List ℕ → List ℕ
@@ -69,7 +70,7 @@ module _ (p : Packing) (roomy : IsRoomy p) where
   find_misfit k (e ∷ es) fit all = go (eq_by_cmp key_cmp k (unpacked_row p e).0) refl (find_misfit k es fit all.1)
     where
       go : (b : Bool) → eq_by_cmp key_cmp k (unpacked_row p e).0 ≡ b → find key_cmp k (unpacked es) ≡ None → cond b (Some (unpacked_row p e).1) (find key_cmp k (unpacked es)) ≡ None
-      go true is rest = absurd (true≢false (sym all.0.key_fits ∙ ap (have_widths p.keys) (sym (exact_bytes k (unpacked_row p e).0 (is_equal (key_cmp k (unpacked_row p e).0) is))) ∙ fit))
+      go true is rest = absurd (true≢false (sym all.0.key_fits ∙ ap (have_widths p.keys) (sym (exact_bytes k (unpacked_row p e).0 (eq_equal (key_cmp k (unpacked_row p e).0) is))) ∙ fit))
       go false is rest = rest
 
   put_same : (k v : List ℕ) (es : Entries) → have_widths p.keys k ≡ true → have_widths p.values v ≡ true → ArePacked p es → unpacked (with_entry es (key_of k) (values_of v)) ≡ with_entry (unpacked es) k v

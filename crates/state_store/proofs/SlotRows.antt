@@ -2,11 +2,10 @@
 use Rattle.std.proofs.Common.{◌≡◌, ℕ, zero, suc, ◌+◌, ◌<◌, ◌≤◌, Bool, true, false, cond, List, [], ◌∷◌, ◌++◌, length, take, drop, Option, Some, None, IfSome, refl, sym, ap, ap₂, subst, ◌∙◌, arith}
 use Rattle.std.specs.Prelude.{⊤}
 use Rattle.std.specs.List.Sorted.{IsPermutation}
-use Rattle.std.specs.Cmp.{tied_itself}
 use Rattle.std.specs.Ordering.{eq_by_cmp, is_eq}
 use Rattle.std.specs.declared.cmp.Ordering.{Ordering}
 use Rattle.std.specs.declared.cmp.Ordering.TheVariants.{Less, Equal, Greater}
-use Rattle.std.specs.FinMap.{find, get, empty, entries, insert, from_entries, get-from_entries, entries-insert, get-entries, same_map, len, len-entries, from_entries_push}
+use Rattle.std.specs.FinMap.{find, get, entries, insert, from_entries, get-from_entries, entries-insert, get-entries, same_map, len, len-entries, from_entries_push}
 use Rattle.std.specs.FinMap.Entries.{by_order}
 use Rattle.std.proofs.lemmas.Cmp.{nat_list_cmp_total}
 use Rattle.std.proofs.lemmas.List.{take_all}
@@ -16,7 +15,9 @@ use Rattle.slot_table.specs.Table.{Entry, Contents, Slots, held, IsLaidOut}
 use Rattle.state_store.specs.Places.{Entries, with_entry}
 use Rattle.state_store.specs.Sizes.{slot_rows, with_slot}
 use Rattle.state_store.specs.Store.{key_cmp}
-use Rattle.state_store.proofs.Entries.{is_equal, no_entries}
+use Rattle.state_store.proofs.Entries.{no_entries}
+use Rattle.lemmas.proofs.Tests.{eq_equal}
+use Rattle.state_store.proofs.LawLemmas.{itself}
 
 -- no key stands in two slots
 abbrev pub IsOnce : Slots → Type 0
@@ -26,10 +27,7 @@ tail_once : (x : Option Entry) (s : Slots) → IsOnce (x ∷ s) → IsOnce s
 tail_once x s once i j k v w a b = let e = once (suc i) (suc j) k v w a b in omega arith
 
 same_key : (k q : List ℕ) → eq_by_cmp key_cmp k q ≡ true → k ≡ q
-same_key k q e = exact_bytes k q (is_equal (key_cmp k q) e)
-
-itself : (k : List ℕ) → eq_by_cmp key_cmp k k ≡ true
-itself k = ap is_eq (tied_itself nat_list_cmp_total k)
+same_key k q e = exact_bytes k q (eq_equal (key_cmp k q) e)
 
 -- what is found stands in a slot
 pub found : (s : Slots) (k v : List ℕ) → find key_cmp k (slot_rows s) ≡ Some v → (i : ℕ) × (held s i ≡ Some (k, v))
@@ -58,9 +56,6 @@ stands (Some row ∷ s) (suc i) k v once e = go (eq_by_cmp key_cmp k row.0) refl
         let first : held (Some row ∷ s) 0 ≡ Some (k, row.1) = ap (λ (x : List ℕ). Some (x, row.1)) (sym (same_key k row.0 is)) in
         let twice : 0 ≡ suc i = once 0 (suc i) k row.1 v first e in absurd (omega arith)
     go false is rest = rest
-
-pub once_of : (rows : Contents) (s : Slots) → IsLaidOut rows s → IsOnce s
-once_of rows s laid = laid.once
 
 pub find_is : (rows : Contents) (s : Slots) (k : List ℕ) → IsLaidOut rows s → find key_cmp k (slot_rows s) ≡ get rows k
 find_is rows s k laid = go (get rows k) (find key_cmp k (slot_rows s)) refl refl
@@ -207,10 +202,6 @@ copied_fewer rows m s i row laid lt e is =
 
 pub copied_all : (rows m : Contents) (s : Slots) (i : ℕ) → IsLaidOut rows s → length s ≤ i → m ≡ from_entries (slot_rows (take i s)) → m ≡ rows
 copied_all rows m s i laid le is = is ∙ ap (λ l. from_entries (slot_rows l)) (take_all i s le) ∙ map_is rows s laid
-
-pub none_copied : (m : Contents) (s : Slots) → m ≡ empty → m ≡ from_entries (slot_rows (take 0 s))
-none_copied m [] e = e
-none_copied m (x ∷ s) e = e
 
 pub slot_copied : (rows m m' : Contents) (s : Slots) (i : ℕ) (o : Option Entry) → IsLaidOut rows s → i < length s → o ≡ held s i → m ≡ from_entries (slot_rows (take i s)) → m' ≡ with_slot m o → m' ≡ from_entries (slot_rows (take (i + 1) s))
 slot_copied rows m m' s i None laid lt e is w = w ∙ is ∙ ap (λ l. from_entries l) (sym (taken_gap s i lt (sym e)))

@@ -5,7 +5,7 @@ use Rattle.std.specs.Cmp.{tied_itself}
 use Rattle.std.specs.List.{sum_by}
 use Rattle.std.specs.Ordering.{eq_by_cmp, is_eq, is_lt, is_gt, ordering_then, ordering_reverse}
 use Rattle.std.specs.declared.cmp.Ordering.{Ordering}
-use Rattle.std.specs.declared.cmp.Ordering.TheVariants.{Less, Equal, Greater}
+use Rattle.std.specs.declared.cmp.Ordering.TheVariants.{Less}
 use Rattle.std.specs.FinMap.{is_sorted}
 use Rattle.std.specs.FinMap.Entries.{below_all}
 use Rattle.std.proofs.lemmas.Bool.{cases_Bool, and_parts}
@@ -16,7 +16,7 @@ use Rattle.std.proofs.lemmas.Map.Lookups.{exact_bytes}
 use Rattle.slot_table.specs.Table.{Entry}
 use Rattle.state_store.specs.Places.{Entries}
 use Rattle.state_store.specs.Store.{key_cmp}
-use Rattle.state_store.proofs.Entries.{is_equal, is_less, left, right}
+use Rattle.lemmas.proofs.Tests.{T_first, T_second, eq_equal, lt_less}
 
 -- the order of pairs
 abbrev pub entry_cmp : Entry → Entry → Ordering
@@ -40,7 +40,7 @@ count_sum d (x ∷ xs) = sum_by-cons (once d) x xs ∙ ap (λ n. once d x + n) (
 same_is : (x y : Entry) → same x y ≡ true → x ≡ y
 same_is x y h =
     let parts = and_parts (eq_by_cmp key_cmp x.0 y.0) (eq_by_cmp key_cmp x.1 y.1) h in
-    ap₂ (λ (k v : List ℕ). (k, v)) (exact_bytes x.0 y.0 (is_equal (key_cmp x.0 y.0) parts.0)) (exact_bytes x.1 y.1 (is_equal (key_cmp x.1 y.1) parts.1))
+    ap₂ (λ (k v : List ℕ). (k, v)) (exact_bytes x.0 y.0 (eq_equal (key_cmp x.0 y.0) parts.0)) (exact_bytes x.1 y.1 (eq_equal (key_cmp x.1 y.1) parts.1))
 
 once_self : (x : Entry) → once x x ≡ 1
 once_self x = ap₂ (λ a b. cond (is_eq a && is_eq b) 1 0) (tied_itself nat_list_cmp_total x.0) (tied_itself nat_list_cmp_total x.1)
@@ -61,8 +61,7 @@ Ascends (x ∷ xs) = ((d : Entry) → 0 < count d xs → AtMost x d) × Ascends 
 
 turned : (a b : Ordering) → is_lt (ordering_then a b) ≡ false → is_gt (ordering_reverse a) ≡ false
 turned Less b h = absurd (true≢false h)
-turned Equal b h = refl
-turned Greater b h = refl
+turned _ b h = refl
 
 pub neighbours : (x y : Entry) → is_lt (entry_cmp y x) ≡ false → AtMost x y
 neighbours x y h = ap is_gt (nat_list_cmp_total.antisymm x.0 y.0) ∙ turned (key_cmp y.0 x.0) (key_cmp y.1 x.1) h
@@ -84,8 +83,8 @@ ascends (x ∷ y ∷ ys) sorted =
 above : (e d : Entry) (es : Entries) → T (below_all key_cmp e.0 es) → 0 < count d es → key_cmp e.0 d.0 ≡ Less
 above e d [] below some = absurd (omega arith)
 above e d (f ∷ es) below some = elim (first_or_behind d f es some) [
-  | inl is ↦ ap (λ (z : Entry). key_cmp e.0 z.0) is ∙ is_less (key_cmp e.0 f.0) (left _ _ below)
-  | inr behind ↦ above e d es (right _ _ below) behind
+  | inl is ↦ ap (λ (z : Entry). key_cmp e.0 z.0) is ∙ lt_less (key_cmp e.0 f.0) (T_first _ _ below)
+  | inr behind ↦ above e d es (T_second _ _ below) behind
 ]
 
 contrary : (o : Ordering) → o ≡ Less → is_gt (ordering_reverse o) ≡ true
@@ -104,7 +103,7 @@ heads e y es ys up rise alike =
       | inr behind ↦ elim (first_or_behind e y ys some_e) [
         | inl is ↦ sym is
         | inr late ↦
-            let less = above e y es (left _ _ up) behind in
+            let less = above e y es (T_first _ _ up) behind in
             absurd (true≢false (sym (ap is_gt (nat_list_cmp_total.antisymm y.0 e.0) ∙ contrary (key_cmp e.0 y.0) less) ∙ rise.0 e late))
       ]
     ]
@@ -116,7 +115,7 @@ one_order (e ∷ es) [] up rise alike = absurd (let own = once_self e in let at 
 one_order (e ∷ es) (y ∷ ys) up rise alike =
     let head = heads e y es ys up rise alike in
     let tail : (d : Entry) → count d ys ≡ count d es = λ d. (let at = alike d in let same_once : once d y ≡ once d e = ap (once d) head in omega arith) in
-    ap₂ (λ (z : Entry) zs. z ∷ zs) head (one_order es ys (right _ _ up) rise.1 tail)
+    ap₂ (λ (z : Entry) zs. z ∷ zs) head (one_order es ys (T_second _ _ up) rise.1 tail)
 
 pub ascending_is : (es ys : Entries) → T (is_sorted key_cmp es) → IsPermutation ys es → Ascends ys → ys ≡ es
 ascending_is es ys up moved rise =

@@ -21,9 +21,7 @@ bits_kind (true, true) = Int
 
 pub kind_back : (kind : Kind) → bits_kind (kind_bits kind) ≡ kind
 kind_back Table = refl
-kind_back Map = refl
-kind_back Vector = refl
-kind_back Int = refl
+kind_back _ = refl
 
 abbrev pub kind_code : Coded Kind
 kind_code = code_by (Bool × Bool) (coded× coded_bool coded_bool) kind_bits bits_kind kind_back

@@ -15,9 +15,6 @@ use Rattle.state_store.specs.declared.any_table.AnyTable.{AnyTable}
 use Rattle.state_store.specs.declared.packed_rows.Kept.{Kept}
 use Rattle.state_store.specs.declared.packed_rows.Kept.TheVariants.{Stored, Full, Misfit}
 
-abbrev pub packed_row : Packing → Entry → Entry
-packed_row p row = (packed_list p.key_words p.keys row.0, packed_list p.value_words p.values row.1)
-
 abbrev pub unpacked_row : Packing → Entry → Entry
 unpacked_row p row = (unpacked_list p.key_words p.keys row.0, unpacked_list p.value_words p.values row.1)
 

@@ -4,8 +4,6 @@ use Rattle.std.proofs.Common.{◌≡◌, ◌<◌, ◌≤◌, ◌+◌, ◌-◌, �
 use Rattle.std.proofs.Common.{◌∷◌, length, replicate, nat_le, Option, Some, None, is_some, slice_get, refl, sym, ap}
 use Rattle.std.proofs.Common.{◌∙◌, subst, arith, true≢false}
 use Rattle.std.specs.Ordering.{eq_by_cmp, is_eq}
-use Rattle.std.specs.declared.cmp.Ordering.{Ordering}
-use Rattle.std.specs.declared.cmp.Ordering.TheVariants.{Less, Equal, Greater}
 use Rattle.std.specs.Cmp.{tied_itself}
 use Rattle.std.specs.FinMap.{empty, get, insert, remove, len, contains_key, get-insert, get-remove, len-insert}
 use Rattle.std.specs.FinMap.{len-remove}
@@ -16,23 +14,19 @@ use Rattle.std.proofs.lemmas.List.{length-set}
 use Rattle.std.proofs.lemmas.Map.Lookups.{exact_bytes}
 use Rattle.std.proofs.lemmas.Option.{none-some, same_Some}
 use Rattle.state_store.specs.declared.object.Kind.{Kind}
-use Rattle.state_store.specs.declared.object.Kind.TheVariants.{Table, Map, Vector, Int}
+use Rattle.state_store.specs.declared.object.Kind.TheVariants.{Table}
 use Rattle.state_store.specs.declared.object.ObjectDecl.{ObjectDecl}
 use Rattle.state_store.specs.Kept.{have_widths, IsWhole, IsKeptObject, IsKept}
 use Rattle.state_store.specs.Kinds.{is_table, is_map}
 use Rattle.state_store.specs.Store.{key_cmp, Contents, Object, Store, is_out, is_full, put_row, del_row, object_at}
 use Rattle.state_store.specs.Store.{zeros_from, start_contents, start_object, with_object}
+use Rattle.lemmas.proofs.Tests.{eq_equal}
 
 -- ## rows of widths
 -- every key and every value has these widths
 abbrev pub HaveRowWidths : List ℕ → List ℕ → Contents → Type 0
 HaveRowWidths keys values contents =
     (key there : List ℕ) → get contents key ≡ Some there → (have_widths keys key && have_widths values there) ≡ true
-
-pub is_equal : (o : Ordering) → is_eq o ≡ true → o ≡ Equal
-is_equal Less e = absurd (true≢false (sym e))
-is_equal Equal e = refl
-is_equal Greater e = absurd (true≢false (sym e))
 
 -- a row behind an insertion is the new one, or was there before
 row_kept : (keys values key row found there : List ℕ) (before : Option (List ℕ)) (same : Bool)
@@ -41,7 +35,7 @@ row_kept : (keys values key row found there : List ℕ) (before : Option (List �
     → (before ≡ Some there → (have_widths keys found && have_widths values there) ≡ true)
     → cond same (Some row) before ≡ Some there → (have_widths keys found && have_widths values there) ≡ true
 row_kept keys values key row found there before true e key_fits row_fits old is =
-    let one : key ≡ found = sym (exact_bytes found key (is_equal (key_cmp found key) e)) in
+    let one : key ≡ found = sym (exact_bytes found key (eq_equal (key_cmp found key) e)) in
     let other : row ≡ there = same_Some row there is in
     subst (λ vs. (have_widths keys found && have_widths values vs) ≡ true) other
     (subst (λ k. (have_widths keys k && have_widths values row) ≡ true) one (rw (key_fits, row_fits) refl))
@@ -117,7 +111,7 @@ map_whole d o h = record {
 }
 
 -- ## a put
-more : (known : Bool) (n size : ℕ) → (not known && nat_le size n) ≡ false → n ≤ size → cond known n (n + 1) ≤ size
+pub more : (known : Bool) (n size : ℕ) → (not known && nat_le size n) ≡ false → n ≤ size → cond known n (n + 1) ≤ size
 more true n size room le = le
 more false n size room le = grind (arith, nat_tests)
 
@@ -178,11 +172,9 @@ del_keeps d o key free kept = record {
   table = λ is. absurd (no_table d free is);
 }
 
-map_is_free : (kind : Kind) → is_map kind ≡ true → is_table kind ≡ false
+pub map_is_free : (kind : Kind) → is_map kind ≡ true → is_table kind ≡ false
 map_is_free Table h = sym h
-map_is_free Map h = refl
-map_is_free Vector h = refl
-map_is_free Int h = refl
+map_is_free _ h = refl
 
 -- ## an object of a store in which one is another
 at_number : (P : Object → Type 0) (store : Store) (n : ℕ) (o : Object) (number : ℕ) → P (object_at store number)

@@ -15,17 +15,15 @@ table_of (TwoTwo table) = table
 
 -- how many words a key has
 abbrev pub key_words : AnyTable → ℕ
-key_words (OneOne table) = 1
-key_words (OneTwo table) = 1
 key_words (TwoOne table) = 2
 key_words (TwoTwo table) = 2
+key_words _ = 1
 
 -- how many words a value has
 abbrev pub value_words : AnyTable → ℕ
-value_words (OneOne table) = 1
 value_words (OneTwo table) = 2
-value_words (TwoOne table) = 1
 value_words (TwoTwo table) = 2
+value_words _ = 1
 
 -- the words of a row as two numbers
 abbrev pub row_numbers : Entry → ℕ × ℕ
@@ -41,11 +39,6 @@ slot_rows (Some row ∷ slots) = row ∷ slot_rows slots
 abbrev pub with_slot : Contents → Option Entry → Contents
 with_slot rows None = rows
 with_slot rows (Some row) = map.insert rows row.0 row.1
-
--- what is there as a list
-abbrev pub option_list : Option (ℕ × ℕ) → List (ℕ × ℕ)
-option_list None = []
-option_list (Some row) = row ∷ []
 
 -- the lists that were packed into the two numbers of a slot
 abbrev pub unpacked_entries : ℕ → ℕ → List ℕ → List ℕ → Option (ℕ × ℕ) → Entries

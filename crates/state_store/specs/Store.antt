@@ -63,9 +63,7 @@ looked_up object key = unwrap_or (look object key) (replicate object.count 0)
 -- a vector has no such index
 abbrev pub is_out : Kind → ℕ → List ℕ → Bool
 is_out Vector size key = nat_le size (slice_index key 0)
-is_out Table size key = false
-is_out Map size key = false
-is_out Int size key = false
+is_out _ size key = false
 
 -- the key is new, and there is no room for one more
 abbrev pub is_full : Object → List ℕ → Bool
@@ -79,8 +77,7 @@ put_answer object key = if is_out object.kind object.size key then OutOfRange
 -- whether a put had a place for its row
 abbrev pub is_stored : Put → Bool
 is_stored Stored = true
-is_stored Full = false
-is_stored OutOfRange = false
+is_stored _ = false
 
 -- a put sets one row, and changes nothing where the key has no place
 abbrev pub put_row : Object → List ℕ → List ℕ → Object

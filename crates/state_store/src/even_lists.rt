@@ -136,13 +136,14 @@ fn append(numbers: &mut Vec<u64>, width: usize, front: &[u64], back: &[u64]) -> 
     ensures err { OnErr result (numbers.new.items ≡ numbers.old.items) }
 {
     numbers.reserve(width)?;
-    put_all(numbers, front);
-    put_all(numbers, back);
+    put_numbers(numbers, front);
+    put_numbers(numbers, back);
     Ok(())
 }
 
-// Puts a list last, for which there is room.
-fn put_all(numbers: &mut Vec<u64>, list: &[u64])
+/// Puts numbers last, for which there is room. This takes no memory.
+#[inline]
+pub fn put_numbers(numbers: &mut Vec<u64>, list: &[u64])
     requires { vec_len numbers.old + length list.now ≤ vec_capacity numbers.old }
     ensures items { numbers.new.items ≡ numbers.old.items ++ list.now }
     ensures len { vec_len numbers.new ≡ vec_len numbers.old + length list.now }

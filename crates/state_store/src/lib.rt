@@ -5,7 +5,6 @@ mod any_table;
 mod even_lists;
 mod fitted_rows;
 mod kept_rows;
-mod laws;
 mod listing;
 mod object;
 mod packed_list;
@@ -18,7 +17,7 @@ mod sorted_rows;
 mod store;
 mod stored;
 
-pub use laws::{rows_change_alone, rows_that_stay_are_never_full};
+pub use even_lists::put_numbers;
 pub use listing::Listing;
 pub use object::{Kind, ObjectDecl, Objects, Row};
 pub use rows::Rows;

@@ -1,6 +1,6 @@
 -- Postprocessing hangs on the values that it reads alone.
-use Rattle.std.proofs.Common.{◌≡◌, ℕ, zero, suc, ◌==◌, ◌<◌, ◌≤◌, Bool, true, false, not, ◌&&◌, ◌||◌, List, [], ◌∷◌, length, nat_lt, Option, Some, None, is_some, refl, sym, ap, ◌∙◌, arith, ⊎_elim, slice_index, if◌then◌else◌}
-use Rattle.std.proofs.lemmas.Bool.{cases_Bool, cases_lt, cond-true, cond-false, and_from, or_left, or_right, or_parts, or_cases, eq-eqb, eqb-true, ltb-true, false≢true, true≢false}
+use Rattle.std.proofs.Common.{◌≡◌, ℕ, zero, suc, ◌==◌, ◌<◌, ◌≤◌, Bool, true, false, not, ◌&&◌, ◌||◌, List, [], ◌∷◌, length, nat_lt, Option, Some, None, is_some, refl, sym, ap, ◌∙◌, arith, ⊎_elim, slice_index}
+use Rattle.std.proofs.lemmas.Bool.{cases_Bool, cases_lt, cond-true, cond-false, and_from, or_left, or_right, or_parts, or_cases, eq-eqb, eqb-true, ltb-true, false≢true, true≢false, not-false}
 use Rattle.std.proofs.Math.Nat.{eq-or-lt_of_le}
 use Rattle.std.specs.List.{AllByRecursion as Each, list_any}
 use Rattle.std.proofs.lemmas.Option.{none-some}
@@ -11,8 +11,8 @@ use Rattle.flat_ir.specs.declared.program.FieldValue.{FieldValue}
 use Rattle.flat_ir.specs.declared.program.ValueId.{ValueId}
 use Rattle.flat_ir.specs.Blocks.{Reading, same}
 use Rattle.flat_ir.specs.Kinds.{is_input}
-use Rattle.flat_ir.specs.Laws.{Same, SameFor}
-use Rattle.flat_ir.specs.Program.{Program, Work, step_at, operands}
+use Rattle.flat_ir.specs.Laws.{Same}
+use Rattle.flat_ir.specs.Program.{Program, step_at, operands}
 use Rattle.flat_ir.specs.Run.{results, with_writes}
 use Rattle.split_model.specs.declared.split.Part.{Part}
 use Rattle.split_model.specs.Crossing.{is_value, is_among, is_read_by}
@@ -20,14 +20,11 @@ use Rattle.split_model.specs.Legal.{IsLegal, is_misplaced, is_not_lower}
 use Rattle.split_model.specs.Passes.{is_stage, done_below, pass, post_fields, value_from}
 use Rattle.split_model.specs.Split.{is_post, pre_stage, post_stage}
 use Rattle.switch_ir.specs.Emitted.{is_read_after, is_used_after}
-use Rattle.switch_ir.proofs.Handing.{same_value, value_same}
+use Rattle.switch_ir.proofs.Handing.{value_same}
 use Rattle.switch_ir.proofs.Places.{any_at}
-use Rattle.switch_ir.proofs.Soundness.{each_filter, each_of}
-
--- readings that agree on what an instruction reads give it the same results
-pub record Agreements : Type 0 where
-  pub operands : (r r' : Reading) (work : Work) → Each (Same r r') (operands work) → SameFor r r' work
-  pub results : (r r' : Reading) (live : Bool) (st : Store) (packet : Packet) (work : Work) → SameFor r r' work → results r live st packet work ≡ results r' live st packet work
+use Rattle.flat_ir.proofs.Exact.{value_same as same_value}
+use Rattle.flat_ir.proofs.Laws.{readings_that_agree-operands, readings_that_agree-results}
+use Rattle.lemmas.proofs.Lists.{each_all, each_filter}
 
 -- ## Tests
 
@@ -48,16 +45,12 @@ not_any test (x ∷ xs) none v e =
     (λ later. not_any test xs parts.1 v later)
     (or_cases (is_value v x) (is_among v xs) e)
 
-not_false : (b : Bool) → not b ≡ false → b ≡ true
-not_false true e = refl
-not_false false e = absurd (true≢false e)
-
 writes_alike : (r r' : Reading) (ws : List FieldValue) (bytes : List ℕ) → Each (λ (w : FieldValue). r w.value ≡ r' w.value) ws → with_writes ws r bytes ≡ with_writes ws r' bytes
 writes_alike r r' [] bytes h = refl
 writes_alike r r' (w ∷ ws) bytes h =
     ap (λ n. with_writes ws r (with_field bytes w.field n)) h.0 ∙ writes_alike r r' ws (with_field bytes w.field (r' w.value)) h.1
 
-module _ (agree : Agreements) (f : Program) (split : List Part) (legal : IsLegal f split) (within : (i : ℕ) → length f.code ≤ i → post_stage split i ≡ None) where
+module _ (f : Program) (split : List Part) (legal : IsLegal f split) (within : (i : ℕ) → length f.code ≤ i → post_stage split i ≡ None) where
   abbrev stage : ℕ → Option ℕ
   stage = post_stage split
 
@@ -71,7 +64,7 @@ module _ (agree : Agreements) (f : Program) (split : List Part) (legal : IsLegal
       let rules = or_parts (is_misplaced f (pre_stage split) i (pre_stage split i)) (is_misplaced f stage i (stage i)) (legal.kept 9 i lt) in
       let placed = or_parts (not (same (is_input work) (own == 0))) (list_any (λ (w : ValueId). is_not_lower (stage w.instruction) own) (operands work)) (ap (is_misplaced f stage i) (sym is) ∙ rules.1) in
       let one = not_any (λ (w : ValueId). is_not_lower (stage w.instruction) own) (operands work) placed.1 v e in
-      ltb-true other own (not_false (nat_lt other own) (ap (λ o. is_not_lower o own) (sym at) ∙ one))
+      ltb-true other own (not-false (nat_lt other own) (ap (λ o. is_not_lower o own) (sym at) ∙ one))
 
   -- and is read
   read : (i own : ℕ) → i < length f.code → stage i ≡ Some own → (v : ValueId) → is_among v (operands (step_at f i).work) ≡ true → is_read_after f split v ≡ true
@@ -100,8 +93,8 @@ module _ (agree : Agreements) (f : Program) (split : List Part) (legal : IsLegal
         let work = (step_at f v.instruction).work in
         let lt = there v.instruction t is in
         ap (λ rs. slice_index rs v.result)
-        (agree.results (G t) (H t) false tables packet work
-        (agree.operands (G t) (H t) work
+        (readings_that_agree-results (G t) (H t) false tables packet work
+        (readings_that_agree-operands (G t) (H t) work
         (each_among (Same (G t) (H t)) (operands work) (λ w e. before w (read v.instruction t lt is w e) (lower v.instruction t lt is w e)))))
 
     first_alike : (v : ValueId) (o : Option ℕ) → stage v.instruction ≡ o → is_read_after f split v ≡ true → IsBelow zero v → g v ≡ h v
@@ -167,4 +160,4 @@ module _ (f : Program) (split : List Part) where
   fields_alike r r' bytes same =
       writes_alike r r' (post_fields f split) bytes
       (each_filter (λ (w : FieldValue). r w.value ≡ r' w.value) (λ (w : FieldValue). is_post split w.value.instruction) f.fields
-      (each_of (λ (w : FieldValue). is_post split w.value.instruction ≡ true → r w.value ≡ r' w.value) (λ w is. same w.value (or_left (is_post split w.value.instruction) (is_read_after f split w.value) is)) f.fields))
+      (each_all (λ (w : FieldValue). is_post split w.value.instruction ≡ true → r w.value ≡ r' w.value) (λ w is. same w.value (or_left (is_post split w.value.instruction) (is_read_after f split w.value) is)) f.fields))

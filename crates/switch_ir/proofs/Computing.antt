@@ -17,12 +17,12 @@ use Rattle.transfer_header.specs.Values.{value_by}
 use Rattle.switch_ir.specs.Code.{Code}
 use Rattle.switch_ir.specs.Emitted.{emitted, is_used_after, Computes}
 use Rattle.switch_ir.specs.Meaning.{up_values, goes_up, leaves, down_end, down_given, down_values}
-use Rattle.switch_ir.proofs.Alike.{Agreements, fields_alike, pass_alike, port_used, send_used}
-use Rattle.switch_ir.proofs.Passes.{DoneByStages, IsWithin, computes}
+use Rattle.switch_ir.proofs.Alike.{fields_alike, pass_alike, port_used, send_used}
+use Rattle.switch_ir.proofs.Passes.{IsWithin, computes}
 use Rattle.switch_ir.proofs.Rests.{rest_passes}
-use Rattle.switch_ir.proofs.Handing.{HasNumbers, given_same}
+use Rattle.switch_ir.proofs.Handing.{given_same}
 
-module _ (done : DoneByStages) (agree : Agreements) (numbers : HasNumbers) (f : Program) (split : List Part) (writeback : ℕ) (legal : IsLegal f split) where
+module _ (f : Program) (split : List Part) (writeback : ℕ) (legal : IsLegal f split) where
   abbrev code : Code
   code = emitted f split writeback
 
@@ -36,7 +36,7 @@ module _ (done : DoneByStages) (agree : Agreements) (numbers : HasNumbers) (f : 
   post_within i le = ap (λ (p : Part). stage_after p.slow) (no_part i le)
 
   up_same : (tables : Store) (packet : Packet) (v : ValueId) → up_values code tables packet v ≡ pre_values f split tables packet v
-  up_same tables packet v = computes f (pre_stage split) pre_within nothing tables packet done v
+  up_same tables packet v = computes f (pre_stage split) pre_within nothing tables packet v
 
   up_is : (tables : Store) (packet : Packet) → up_values code tables packet ≡ pre_values f split tables packet
   up_is tables packet = λ i. λ v. up_same tables packet v i
@@ -47,9 +47,9 @@ module _ (done : DoneByStages) (agree : Agreements) (numbers : HasNumbers) (f : 
   down_same : (down : Reading) (tables : Store) (packet : Packet) (v : ValueId) → is_used_after f split v ≡ true
       → down_values code (value_by down) tables packet v ≡ post_values f split down tables packet v
   down_same down tables packet v used =
-      computes f (post_stage split) post_within (down_given code (value_by down) packet) tables packet done v
-      ∙ pass_alike agree f split legal post_within tables packet (down_given code (value_by down) packet) (given_down f split down packet)
-      (λ w post read. given_same f split packet w numbers writeback down post read) v used
+      computes f (post_stage split) post_within (down_given code (value_by down) packet) tables packet v
+      ∙ pass_alike f split legal post_within tables packet (down_given code (value_by down) packet) (given_down f split down packet)
+      (λ w post read. given_same f split packet w writeback down post read) v used
 
   verdict_same : (down : Reading) (tables : Store) (packet : Packet)
       → down_end code (value_by down) tables packet ≡ down_verdict f split down tables packet
@@ -60,8 +60,9 @@ module _ (done : DoneByStages) (agree : Agreements) (numbers : HasNumbers) (f : 
       ∙ ap (λ n. if Q f.send == 0 then Drop else Send (n % 2 ^ 8) (with_writes (post_fields f split) R packet.bytes)) (down_same down tables packet f.port (port_used f split))
       ∙ ap (λ bytes. if Q f.send == 0 then Drop else Send (Q f.port % 2 ^ 8) bytes) (fields_alike f split R Q packet.bytes (down_same down tables packet))
 
-  pub all_computed : Computes f split code
-  all_computed = record {
+  -- The code of a legally split program computes what its parts on the switch are to compute, over any tables.
+  pub what_is_emitted_computes_the_split : Computes f split code
+  what_is_emitted_computes_the_split = record {
     up = up_same;
     rest = rest_same;
     finished = λ tables packet.

@@ -1,7 +1,6 @@
 -- Which consts and fields postprocessing is given.
-use Rattle.std.proofs.Common.{◌≡◌, ◌<◌, ℕ, ◌==◌, Bool, true, false, not, ◌&&◌, ◌||◌, List, [], ◌∷◌, length, nat_lt, refl, sym, ap, ◌∙◌, ⊎_elim, arith, if◌then◌else◌}
-use Rattle.std.proofs.lemmas.Bool.{cases_Bool, and_from, and_parts, eqb-true, false≢true, true≢false}
-use Rattle.std.proofs.lemmas.Bool.Decides.{nat_tests}
+use Rattle.std.proofs.Common.{◌≡◌, ◌<◌, ℕ, ◌==◌, Bool, true, false, not, ◌&&◌, ◌||◌, List, [], ◌∷◌, length, nat_lt, refl, sym, ap, ◌∙◌, ⊎_elim, arith}
+use Rattle.std.proofs.lemmas.Bool.{cases_Bool, and_from, and_parts, eqb-true, false≢true, true≢false, lt-ltb}
 use Rattle.std.specs.List.{AllByRecursion as Each, list_any}
 use Rattle.flat_ir.specs.declared.program.FieldValue.{FieldValue}
 use Rattle.flat_ir.specs.declared.program.ValueId.{ValueId}
@@ -12,15 +11,12 @@ use Rattle.split_model.specs.Crossing.{crosses_down, is_among, is_at_hand, is_re
 use Rattle.split_model.specs.Passes.{post_fields}
 use Rattle.split_model.specs.Split.{is_post}
 use Rattle.switch_ir.specs.Emitted.{is_given, only_value}
-use Rattle.switch_ir.proofs.Rests.{or_nothing}
-use Rattle.switch_ir.proofs.Soundness.{each_filter, each_of}
-
-true_lt : (i k : ℕ) → i < k → nat_lt i k ≡ true
-true_lt i k h = grind (arith, nat_tests)
+use Rattle.lemmas.proofs.Lists.{each_all, each_filter}
+use Rattle.lemmas.proofs.Tests.{or_false}
 
 settle : (out read : Bool) → (not out && (read || (out || false))) ≡ (not out && read)
 settle true read = refl
-settle false read = or_nothing read
+settle false read = or_false read
 
 none_any : {X : Type 0} (test : X → Bool) (xs : List X) → Each (λ x. test x ≡ false) xs → list_any test xs ≡ false
 none_any test [] none = refl
@@ -47,7 +43,7 @@ module _ (f : Program) (split : List Part) (i : ℕ) where
   no_field other =
       none_any (λ (w : FieldValue). is_value v w.value) (post_fields f split)
       (each_filter (λ (w : FieldValue). is_value v w.value ≡ false) (λ (w : FieldValue). is_post split w.value.instruction) f.fields
-      (each_of (λ (w : FieldValue). is_post split w.value.instruction ≡ true → is_value v w.value ≡ false) apart f.fields))
+      (each_all (λ (w : FieldValue). is_post split w.value.instruction ≡ true → is_value v w.value ≡ false) apart f.fields))
     where
       apart : (w : FieldValue) → is_post split w.value.instruction ≡ true → is_value v w.value ≡ false
       apart w post =
@@ -60,11 +56,11 @@ module _ (f : Program) (split : List Part) (i : ℕ) where
   crosses_by : i < length f.code → is_at_hand f split (step_at f i).work ≡ true → is_post split i ≡ false → crosses_down f split v ≡ out
   crosses_by within hand other =
       let named : is_named f v ≡ true =
-      and_from (nat_lt i (length f.code)) (nat_lt 0 (result_count f.objects (step_at f i).work)) (true_lt i (length f.code) within) (ap (nat_lt 0) (one_result f split (step_at f i).work hand)) in
+      and_from (nat_lt i (length f.code)) (nat_lt 0 (result_count f.objects (step_at f i).work)) (lt-ltb i (length f.code) within) (ap (nat_lt 0) (one_result f split (step_at f i).work hand)) in
       ap (λ n. (n && not (is_post split i)) && (out || (not (is_at_hand f split (step_at f i).work) && read))) named
       ∙ ap (λ p. not p && (out || (not (is_at_hand f split (step_at f i).work) && read))) other
       ∙ ap (λ h. out || (not h && read)) hand
-      ∙ or_nothing out
+      ∙ or_false out
 
   pub given_simply : i < length f.code
       → is_given f split i ≡ (is_at_hand f split (step_at f i).work && (not (is_post split i) && (not out && read)))

@@ -1,6 +1,6 @@
 -- What postprocessing begins with.
 use Rattle.std.proofs.Common.{◌≡◌, ◌<◌, ℕ, zero, suc, ◌==◌, Bool, true, false, not, ◌&&◌, ◌||◌, List, [], ◌∷◌, map, length, Some, None, refl, sym, ap, ◌∙◌, ⊎_elim, slice_get, slice_index, if◌then◌else◌}
-use Rattle.std.proofs.lemmas.Bool.{cond-true, cond-false, cases_Bool, cases_lt, eq-eqb, eqb-true, and_parts, and_from, or_cases, or_left, or_right, false≢true}
+use Rattle.std.proofs.lemmas.Bool.{cond-true, cond-false, cases_Bool, cases_lt, eq-eqb, and_parts, and_from, or_cases, or_left, or_right, false≢true}
 use Rattle.std.proofs.lemmas.List.{get_or_past}
 use Rattle.std.specs.List.{filter}
 use Rattle.packet_fields.specs.declared.packet.Packet.{Packet}
@@ -19,25 +19,14 @@ use Rattle.transfer_header.specs.Values.{value_by}
 use Rattle.switch_ir.specs.Emitted.{given_stage, is_given, is_read_after, only_value, steps_of, emitted}
 use Rattle.switch_ir.specs.Meaning.{after_stage, crosses, handed, down_given}
 use Rattle.switch_ir.proofs.Passes.{one_stage, past_stage}
-
--- each value stands among all of them at its number
-abbrev pub HasNumbers : Type 0
-HasNumbers = (f : Program) (v : ValueId) → is_named f v ≡ true → slice_get (values_of f) (number_of f v) ≡ Some v
-
-pub same_value : (a b : ValueId) → is_value a b ≡ true → a ≡ b
-same_value a b e =
-    let both = and_parts (a.instruction == b.instruction) (a.result == b.result) e in
-    λ i. record { instruction = eqb-true a.instruction b.instruction both.0 i; result = eqb-true a.result b.result both.1 i }
+use Rattle.flat_ir.proofs.Exact.{value_same as same_value}
+use Rattle.transfer_header.proofs.Laws.{values_have_their_numbers}
+use Rattle.lemmas.proofs.Tests.{same_tests}
 
 pub value_same : (a b : ValueId) → a ≡ b → is_value a b ≡ true
 value_same a b e =
     and_from (a.instruction == b.instruction) (a.result == b.result)
     (eq-eqb a.instruction b.instruction (ap (λ (v : ValueId). v.instruction) e)) (eq-eqb a.result b.result (ap (λ (v : ValueId). v.result) e))
-
-both_or_neither : (a b : Bool) → (a ≡ true → b ≡ true) → (b ≡ true → a ≡ true) → a ≡ b
-both_or_neither true b there back = sym (there refl)
-both_or_neither false true there back = back refl
-both_or_neither false false there back = refl
 
 -- ## The values of a layout
 
@@ -75,11 +64,11 @@ crossing_parts f split v e =
     and_parts (is_named f v) later ((and_parts (is_named f v && later) read e).0)
 
 -- the layout has the values that cross
-layout_exact : HasNumbers → (f : Program) (split : List Part) (v : ValueId) → crosses (down_layout f split) v ≡ crosses_down f split v
-layout_exact numbers f split v =
-    both_or_neither (crosses (down_layout f split) v) (crosses_down f split v)
+layout_exact : (f : Program) (split : List Part) (v : ValueId) → crosses (down_layout f split) v ≡ crosses_down f split v
+layout_exact f split v =
+    same_tests (crosses (down_layout f split) v) (crosses_down f split v)
     (passed f (crosses_down f split) v (values_of f))
-    (λ e. found f (crosses_down f split) v (values_of f) (number_of f v) e (numbers f v (crossing_parts f split v e).0))
+    (λ e. found f (crosses_down f split) v (values_of f) (number_of f v) e (values_have_their_numbers f v (crossing_parts f split v e).0))
 
 handed_is : (layout : List Crossing) (down : Reading) (v : ValueId) → crosses layout v ≡ true → handed layout (value_by down) v ≡ down v
 handed_is [] down v e = absurd (false≢true e)
@@ -156,13 +145,13 @@ module _ (f : Program) (split : List Part) (packet : Packet) (v : ValueId) where
       (cases_lt v.instruction (length f.code))
 
   -- the code gives postprocessing what the split gives it, of the values that it reads and doesn't compute
-  pub given_same : HasNumbers → (writeback : ℕ) (down : Reading) → is_post split v.instruction ≡ false → is_read_after f split v ≡ true
+  pub given_same : (writeback : ℕ) (down : Reading) → is_post split v.instruction ≡ false → is_read_after f split v ≡ true
       → down_given (emitted f split writeback) (value_by down) packet v ≡ given_down f split down packet v
-  given_same numbers writeback down post read =
+  given_same writeback down post read =
       let inside = handed (down_layout f split) (value_by down) v in
       let outside = after_stage (steps_of f (given_stage f split)) 0 nothing [] packet v in
       let own = at_hand (step_at f v.instruction).work in
-      let exact = layout_exact numbers f split v in
+      let exact = layout_exact f split v in
       ⊎_elim
       (λ yes. cond-true (crosses (down_layout f split) v) inside outside (exact ∙ yes)
       ∙ handed_is (down_layout f split) down v (exact ∙ yes)

@@ -1,19 +1,20 @@
 mod Alike
-mod Soundness
+pub mod Soundness
 mod Passes
 mod Rests
-mod Givens
-mod Handing
-mod Computing
-mod Places
+pub mod Givens
+pub mod Handing
+pub mod Computing
+pub mod Places
 mod Marks
 mod Codes
 mod Noting
 mod Tested
-mod Spanned
-mod Staging
-mod Going
+pub mod Spanned
+pub mod Staging
+pub mod Going
 mod Needing
-mod Planning
+pub mod Planning
 mod Listing
 pub mod Journals
+pub mod Laws

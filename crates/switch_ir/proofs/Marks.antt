@@ -9,10 +9,10 @@ use Rattle.split_model.specs.declared.split.Part.{Part}
 use Rattle.split_model.specs.Split.{is_pre}
 use Rattle.switch_ir.specs.Emitted.{is_among, rest_below}
 use Rattle.switch_ir.specs.Emitting.{AreMarks}
-use Rattle.switch_ir.proofs.Rests.{or_nothing}
+use Rattle.lemmas.proofs.Tests.{or_false}
 
 among_push : (c b : ℕ) (bs : List ℕ) → is_among c (bs ++ b ∷ []) ≡ (is_among c bs || b == c)
-among_push c b bs = list_any-append (λ x. x == c) bs (b ∷ []) ∙ ap (λ x. is_among c bs || x) (or_nothing (b == c))
+among_push c b bs = list_any-append (λ x. x == c) bs (b ∷ []) ∙ ap (λ x. is_among c bs || x) (or_false (b == c))
 
 -- one block more, with its mark
 pub more_marked : (n : ℕ) (blocks : List ℕ) (marks : List Bool) (b : ℕ) → AreMarks n blocks marks → b < n → AreMarks n (blocks ++ b ∷ []) (slice_set marks b true)
@@ -26,7 +26,7 @@ more_marked n blocks marks b so_far within = record { count = length-set marks b
         ∙ sym (among_push c b blocks ∙ or_right (is_among c blocks) (b == c) (eq-eqb b c same)))
         (λ other. get_or-set_other marks b c true false (λ e. other (sym e))
         ∙ so_far.exact c below
-        ∙ sym (among_push c b blocks ∙ ap (λ x. is_among c blocks || x) (ne_eqb b c other) ∙ or_nothing (is_among c blocks)))
+        ∙ sym (among_push c b blocks ∙ ap (λ x. is_among c blocks || x) (ne_eqb b c other) ∙ or_false (is_among c blocks)))
         (cases_eq b c)
 
 -- a block is put behind the others where its instruction is outside `pre` and it has no mark

@@ -30,8 +30,9 @@ use Rattle.switch_ir.specs.Tables.{declared_at}
 use Rattle.switch_ir.proofs.Handing.{value_same}
 use Rattle.switch_ir.proofs.Passes.{highest_is}
 use Rattle.switch_ir.proofs.Places.{any_at}
-use Rattle.switch_ir.proofs.Soundness.{each_get, crossing_among}
+use Rattle.switch_ir.proofs.Soundness.{crossing_among}
 use Rattle.switch_ir.proofs.Staging.{written_append}
+use Rattle.lemmas.proofs.Lists.{each_or}
 
 any_map : {X Y : Type 0} (p : Y → Bool) (g : X → Y) (xs : List X) → list_any p (map g xs) ≡ list_any (λ x. p (g x)) xs
 any_map p g [] = refl
@@ -170,7 +171,7 @@ module _ (f : Program) (split : List Part) (legal : IsLegal f split) (writeback 
   pub up_needed : All (λ (c : Crossing). IsNeeded (pre_spans (emitted f split writeback)) pass.highest c.number) up
   up_needed k d lt =
       let c = get_or up k d in
-      let is = each_get (λ (q : Crossing). (crosses_up f split q.value ≡ true) × (q.number ≡ number_of f q.value)) up k d (crossing_among f (crosses_up f split) (values_of f)) lt in
+      let is = each_or (λ (q : Crossing). (crosses_up f split q.value ≡ true) × (q.number ≡ number_of f q.value)) up k d (crossing_among f (crosses_up f split) (values_of f)) lt in
       subst (λ n. IsNeeded (pre_spans (emitted f split writeback)) pass.highest n) (sym is.1)
       (up_one c.value is.0 (list_any_at (λ (q : Crossing). is_value c.value q.value) up k d lt (value_same c.value c.value refl)))
 

@@ -11,6 +11,7 @@ use Rattle.flat_ir.specs.Blocks.{Reading}
 use Rattle.flat_ir.specs.Run.{results}
 use Rattle.split_model.specs.Counts.{stage_or_zero}
 use Rattle.split_model.specs.Passes.{is_stage, done_below, pass}
+use Rattle.split_model.proofs.Laws.{a_pass_is_done_by_stages}
 use Rattle.switch_ir.specs.Code.{Step}
 use Rattle.switch_ir.specs.Emitted.{placed, steps_below, steps_of, highest_of}
 use Rattle.switch_ir.specs.Meaning.{after_stage, after_stages}
@@ -88,12 +89,6 @@ module _ (f : Program) (stage : ℕ → Option ℕ) (t : ℕ) (reads : Reading) 
 abbrev pub IsWithin : Program → (ℕ → Option ℕ) → Type 0
 IsWithin f stage = (i : ℕ) → length f.code ≤ i → stage i ≡ None
 
--- what is done of a pass once its stages up to that of a value are done
-abbrev pub DoneByStages : Type 0
-DoneByStages = (f : Program) (stage : ℕ → Option ℕ) (given : Reading) (tables : Store) (packet : Packet) (t : ℕ) (v : ValueId)
-    → ((own : ℕ) → stage v.instruction ≡ Some own → own < t)
-    → done_below f stage given tables packet t v ≡ pass f stage given tables packet v
-
 pub highest_is : (stage : ℕ → Option ℕ) (n i own : ℕ) → i < n → stage i ≡ Some own → own ≤ highest_of stage n
 highest_is stage zero i own lt at = absurd (omega (arith, lt))
 highest_is stage (suc n) i own lt at =
@@ -127,8 +122,8 @@ module _ (f : Program) (stage : ℕ → Option ℕ) (within : IsWithin f stage) 
       (cases_lt v.instruction (length f.code))
 
   -- once all stages are done, so is the pass
-  pub computes : DoneByStages → (v : ValueId)
+  pub computes : (v : ValueId)
       → after_stages (steps_of f stage) given tables packet (suc (highest_of stage (length f.code))) v ≡ pass f stage given tables packet v
-  computes done v =
+  computes v =
       let t : ℕ = suc (highest_of stage (length f.code)) in
-      stages_so t v ∙ done f stage given tables packet t v (is_below v)
+      stages_so t v ∙ a_pass_is_done_by_stages f stage given tables packet t v (is_below v)

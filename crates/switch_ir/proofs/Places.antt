@@ -1,10 +1,10 @@
 -- Instructions, fields and blocks, by their place.
-use Rattle.std.proofs.Common.{◌≡◌, ℕ, zero, suc, ◌+◌, ◌<◌, ◌≤◌, Bool, true, false, List, [], ◌∷◌, ◌++◌, refl, ap, sym, ◌∙◌, arith, length, get_or, map, take, subst, ⊎_elim, add-one, if◌then◌else◌}
+use Rattle.std.proofs.Common.{◌≡◌, ℕ, zero, suc, ◌+◌, ◌<◌, ◌≤◌, Bool, true, false, List, [], ◌∷◌, ◌++◌, refl, ap, sym, ◌∙◌, arith, length, get_or, take, subst, ⊎_elim, add-one, if◌then◌else◌}
 use Rattle.std.proofs.lemmas.Bool.{or_left, or_right}
 use Rattle.std.proofs.lemmas.List.{append-nil, length-append, length-map}
 use Rattle.std.proofs.lemmas.List.Elements.{filter_more}
 use Rattle.std.proofs.Math.Nat.{eq-or-lt_of_le}
-use Rattle.std.specs.Prelude.{slice_index_or, IsTrue}
+use Rattle.std.specs.Prelude.{IsTrue}
 use Rattle.std.specs.List.{filter}
 use Rattle.flat_ir.specs.declared.program.FieldValue.{FieldValue}
 use Rattle.flat_ir.specs.declared.program.Instr.{Instr}
@@ -16,15 +16,8 @@ use Rattle.flat_ir.specs.WellFormed.{IsWellFormed}
 use Rattle.split_model.specs.declared.split.Part.{Part}
 use Rattle.split_model.specs.Layouts.{first_results, values_below}
 use Rattle.split_model.specs.Split.{is_post, any_below}
-
-step_in : (code : List Instr) (i : ℕ) (d : Step) (one : Instr) → i < length code → one ≡ get_or code i one → slice_index_or (map step_of code) i d ≡ step_of one
-step_in [] i d one within e = absurd (omega (arith, within))
-step_in (x ∷ xs) zero d one within e = ap step_of (sym e)
-step_in (x ∷ xs) (suc i) d one within e = step_in xs i d one (omega (arith, within)) e
-
--- the instruction at a place in the code
-pub step_is : (f : Flat) (code : List Instr) (i : ℕ) (one : Instr) → code ≡ f.code → i < length code → one ≡ get_or code i one → step_at (program_of f) i ≡ step_of one
-step_is f code i one same within e = step_in f.code i _ one (rw same at within) (rw same at e)
+use Rattle.split_model.proofs.Numbering.{count_results}
+use Rattle.split_model.proofs.Steps.{step_is}
 
 -- ## Instructions that can be run
 
@@ -59,11 +52,6 @@ work_is f code i one same within e =
     sym (ap (λ (s : Step). s.work) (step_is f code i one same (omega (arith, within, ap length same)) e) ∙ ap (λ (x : Instr). work_of x.kind) e)
 
 -- ## Numbers of values
-
-count_results : (i n : ℕ) → length (first_results i n) ≡ n
-count_results i zero = refl
-count_results i (suc n) =
-    length-append (first_results i n) (record { instruction = i; result = n } ∷ []) ∙ omega (arith, count_results i n)
 
 pub values_more : (f : Program) (i number count : ℕ) → number ≡ length (values_below f i) → count ≡ result_count f.objects (step_at f i).work
     → number + count ≡ length (values_below f (i + 1))

@@ -1,11 +1,11 @@
 -- The passes of the code of a legally split program can be planned.
-use Rattle.std.proofs.Common.{◌≡◌, ◌≢◌, ℕ, zero, suc, ◌<◌, ◌≤◌, ◌^◌, true, List, [], ◌∷◌, ◌++◌, length, map, Option, Some, None, refl, sym, inl, inr, arith, slice_get}
+use Rattle.std.proofs.Common.{◌≡◌, ◌≢◌, ℕ, zero, suc, ◌<◌, ◌≤◌, ◌*◌, ◌^◌, true, List, [], ◌∷◌, ◌++◌, length, map, Option, Some, None, refl, sym, inl, inr, arith, slice_get}
 use Rattle.std.specs.Prelude.{◌==◌, unwrap_or}
 use Rattle.std.specs.List.{AllPairs, list_any}
 use Rattle.std.specs.Option.{option_map}
 use Rattle.std.proofs.lemmas.Bool.{or_cases, eqb-true, true≢false}
 use Rattle.std.proofs.lemmas.Bool.Decides.{Decides-eqb}
-use Rattle.std.proofs.lemmas.List.{length-map}
+use Rattle.std.proofs.lemmas.List.{length-append, length-map}
 use Rattle.std.proofs.lemmas.List.Elements.{All-map}
 use Rattle.std.proofs.lemmas.List.Kept.{AllPairs-cons}
 use Rattle.std.proofs.lemmas.Map.Made.{IsDistinct-from_AllPairs}
@@ -17,17 +17,19 @@ use Rattle.split_model.specs.declared.layout.Crossing.{Crossing}
 use Rattle.split_model.specs.declared.split.Part.{Part}
 use Rattle.split_model.specs.Bounds.{IsBounded, HasFewStages}
 use Rattle.split_model.specs.Counts.{stage_or_zero}
-use Rattle.split_model.specs.Layouts.{values_of, down_layout}
+use Rattle.split_model.specs.Layouts.{first_results, values_below, values_of, down_layout}
+use Rattle.split_model.specs.Legal.{IsLegal}
+use Rattle.split_model.proofs.Numbering.{count_results}
 use Rattle.split_model.specs.Split.{pre_stage, post_stage}
 use Rattle.switch_ir.specs.declared.code.Table.{Table}
 use Rattle.switch_ir.specs.Emitted.{steps_of, given_stage, highest_of, tables_from, pre_code, post_code, emitted}
 use Rattle.switch_ir.specs.LastReads.{AreInside, IsInside, HaveFewValues, CanBePlanned}
 use Rattle.switch_ir.specs.Passes.{PassCode}
 use Rattle.switch_ir.specs.Spans.{Written, written_by, written_in, handed_in, AreNumbered, GoByStages}
-use Rattle.switch_ir.proofs.Going.{handed_inside}
-use Rattle.switch_ir.proofs.Handing.{HasNumbers}
-use Rattle.switch_ir.proofs.Soundness.{each_append, each_weaker, rest_there}
+use Rattle.switch_ir.proofs.Going.{handed_inside, what_is_emitted_goes_by_stages}
+use Rattle.switch_ir.proofs.Soundness.{rest_there}
 use Rattle.switch_ir.proofs.Staging.{IsValueOf, values_are}
+use Rattle.lemmas.proofs.Lists.{each_append, each_weaker}
 
 -- ---- there are no more values than numbers
 numbers_apart : (had : List Written) → AllPairs (λ (a b : Written). a.number ≢ b.number) had → AllPairs (λ x y. x ≢ y) (map (λ (w : Written). w.number) had)
@@ -64,8 +66,14 @@ few_results f few (look object keys) = by_case f.objects object few
     by_case (d ∷ ds) (suc o) few = by_case ds o (λ k x lt. few (suc k) x (omega (arith, lt)))
 few_results f few work = omega arith
 
+few_values : (f : Program) → HaveFewValues f.objects → (n : ℕ) → length (values_below f n) ≤ 9 * n
+few_values f few zero = omega arith
+few_values f few (suc n) =
+    let count = result_count f.objects (step_at f n).work in
+    omega (arith, few_values f few n, few_results f few (step_at f n).work, length-append (values_below f n) (first_results n count), count_results n count)
+
 -- ---- few stages
-low_highest : (stage : ℕ → Option ℕ) (most : ℕ) → ((i t : ℕ) → stage i ≡ Some t → t ≤ most) → (n : ℕ) → highest_of stage n ≤ most
+pub low_highest : (stage : ℕ → Option ℕ) (most : ℕ) → ((i t : ℕ) → stage i ≡ Some t → t ≤ most) → (n : ℕ) → highest_of stage n ≤ most
 low_highest stage most low zero = omega arith
 low_highest stage most low (suc n) = omega (arith, low_highest stage most low n, one (stage n) refl)
   where
@@ -74,10 +82,15 @@ low_highest stage most low (suc n) = omega (arith, low_highest stage most low n,
     one (Some t) e = low n t e
 
 -- ---- both passes
-module _ (numbers : HasNumbers) (f : Program) (split : List Part) (writeback : ℕ) (bounded : IsBounded f) (stages : HasFewStages split) (values : HaveFewValues f.objects)
-    (go : GoByStages (emitted f split writeback)) (few : length (values_of f) < 2 ^ 32) where
+module _ (f : Program) (split : List Part) (bounded : IsBounded f) (legal : IsLegal f split) (stages : HasFewStages split) (values : HaveFewValues f.objects) where
   abbrev tables : List Table
   tables = tables_from f split 0 f.objects
+
+  go : GoByStages (emitted f split 0)
+  go = what_is_emitted_goes_by_stages f split 0 bounded legal
+
+  few : length (values_of f) < 2 ^ 32
+  few = omega (arith, few_values f values (length f.code), bounded.few)
 
   inside_of : (stage : ℕ → Option ℕ) (w : Written) → IsValueOf f split stage w → IsInside (length f.code) w
   inside_of stage w is = (is.1, omega (arith, is.2, few_results f values (step_at f w.value.instruction).work))
@@ -86,10 +99,11 @@ module _ (numbers : HasNumbers) (f : Program) (split : List Part) (writeback : �
   inside_by stage =
       each_weaker (IsValueOf f split stage) (IsInside (length f.code)) (inside_of stage) (written_by tables (steps_of f stage)) (values_are f split stage (length f.code) (omega arith))
 
-  pub pre_planned : CanBePlanned tables [] (pre_code f split) (length f.code)
-  pre_planned =
+  pub pre_planned : (known : List Table) (handed : List Crossing) (pass : PassCode) (n : ℕ) → known ≡ tables → handed ≡ [] → pass ≡ pre_code f split → n ≡ length f.code
+      → CanBePlanned known handed pass n
+  pre_planned known handed pass n same_tables same_handed same_pass same_n =
       let had = written_in tables [] (pre_code f split) in
-      record {
+      let can : CanBePlanned tables [] (pre_code f split) (length f.code) = record {
         stages = go.pre;
         inside = inside_by (pre_stage split);
         numbers = each_weaker (λ (w : Written). w.number < length (values_of f)) (λ w. w.number < 2 ^ 32) (λ w lt. omega (arith, lt, few)) had go.pre_numbers;
@@ -98,17 +112,19 @@ module _ (numbers : HasNumbers) (f : Program) (split : List Part) (writeback : �
         rest = rest_there f split bounded.formed (length f.code) (omega arith);
         instructions = omega (arith, bounded.few);
         highest = omega (arith, low_highest (pre_stage split) 4096 stages.pre (length f.code));
-      }
+      } in
+      rw (same_tables, same_handed, same_pass, same_n) can
 
-  pub post_planned : CanBePlanned tables (down_layout f split) (post_code f split) (length f.code)
-  post_planned =
+  pub post_planned : (known : List Table) (handed : List Crossing) (pass : PassCode) (n : ℕ) → known ≡ tables → handed ≡ down_layout f split → pass ≡ post_code f split
+      → n ≡ length f.code → CanBePlanned known handed pass n
+  post_planned known handed pass n same_tables same_handed same_pass same_n =
       let had = written_in tables (down_layout f split) (post_code f split) in
       let given = written_by tables (steps_of f (given_stage f split)) in
       let steps = written_by tables (steps_of f (post_stage split)) in
-      record {
+      let can : CanBePlanned tables (down_layout f split) (post_code f split) (length f.code) = record {
         stages = go.post;
         inside = each_append (IsInside (length f.code)) (handed_in (down_layout f split)) (given ++ steps)
-            (handed_inside numbers f split (few_results f values))
+            (handed_inside f split (few_results f values))
             (each_append (IsInside (length f.code)) given steps (inside_by (given_stage f split)) (inside_by (post_stage split)));
         numbers = each_weaker (λ (w : Written). w.number < length (values_of f)) (λ w. w.number < 2 ^ 32) (λ w lt. omega (arith, lt, few)) had go.post_numbers;
         few = omega (arith, no_more had (length (values_of f)) go.post.apart go.post_numbers, few);
@@ -116,10 +132,5 @@ module _ (numbers : HasNumbers) (f : Program) (split : List Part) (writeback : �
         rest = tt;
         instructions = omega (arith, bounded.few);
         highest = omega (arith, low_highest (post_stage split) 4096 stages.post (length f.code));
-      }
-
--- the same by other words for the same
-pub same_planned : (known known' : List Table) (handed handed' : List Crossing) (pass pass' : PassCode) (n n' : ℕ) → known' ≡ known → handed' ≡ handed → pass' ≡ pass → n' ≡ n
-    → CanBePlanned known handed pass n → CanBePlanned known' handed' pass' n'
-same_planned known known' handed handed' pass pass' n n' same_tables same_handed same_pass same_n can =
-    rw (same_tables, same_handed, same_pass, same_n) can
+      } in
+      rw (same_tables, same_handed, same_pass, same_n) can

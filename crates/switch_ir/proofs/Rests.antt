@@ -7,14 +7,11 @@ use Rattle.flat_ir.specs.Program.{Program, step_at}
 use Rattle.split_model.specs.declared.split.Part.{Part}
 use Rattle.split_model.specs.Split.{is_pre, any_below, any_step}
 use Rattle.switch_ir.specs.Emitted.{is_among, rest_below}
-
-pub or_nothing : (x : Bool) → (x || false) ≡ x
-or_nothing true = refl
-or_nothing false = refl
+use Rattle.lemmas.proofs.Tests.{or_false}
 
 settled : (x y : Bool) → (y ≡ true → x ≡ true) → x ≡ (x || y)
 settled x true so = so refl ∙ sym (or_right x true refl)
-settled x false so = sym (or_nothing x)
+settled x false so = sym (or_false x)
 
 module _ (test : ℕ → Bool) where
   among_some : (b : ℕ) (bs : List ℕ) → is_among b bs ≡ true → test b ≡ true → list_any test bs ≡ true
@@ -27,8 +24,8 @@ module _ (test : ℕ → Bool) where
 
   one_more : (b : ℕ) (bs : List ℕ) (outside among : Bool) → is_among b bs ≡ among
       → list_any test (if outside && not among then bs ++ b ∷ [] else bs) ≡ (list_any test bs || (outside && test b))
-  one_more b bs false among e = sym (or_nothing (list_any test bs))
-  one_more b bs true false e = list_any-append test bs (b ∷ []) ∙ ap (λ x. list_any test bs || x) (or_nothing (test b))
+  one_more b bs false among e = sym (or_false (list_any test bs))
+  one_more b bs true false e = list_any-append test bs (b ∷ []) ∙ ap (λ x. list_any test bs || x) (or_false (test b))
   one_more b bs true true e = settled (list_any test bs) (test b) (among_some b bs e)
 
   abbrev is_left : Program → List Part → ℕ → Bool

@@ -1,7 +1,7 @@
 -- The spans of a pass that goes by stages.
-use Rattle.std.proofs.Common.{◌≡◌, ◌≢◌, ℕ, zero, suc, ◌+◌, ◌<◌, ◌≤◌, ◌&&◌, Bool, true, false, cond, List, [], ◌∷◌, ◌++◌, length, map, get_or, refl, sym, ap, subst, ◌∙◌, inl, inr, arith}
+use Rattle.std.proofs.Common.{◌≡◌, ◌≢◌, ℕ, zero, suc, ◌<◌, ◌≤◌, ◌&&◌, Bool, true, false, cond, List, [], ◌∷◌, ◌++◌, length, map, get_or, refl, sym, ap, subst, ◌∙◌, inl, inr, arith}
 use Rattle.std.specs.Prelude.{◌==◌, Contains}
-use Rattle.std.specs.List.{AllByRecursion as Each, AllPairs, list_any, filter}
+use Rattle.std.specs.List.{AllByRecursion as Each, list_any, filter}
 use Rattle.std.proofs.lemmas.Bool.{cases_eq, cases_lt, eq-eqb, ne_eqb, eqb-true, or_left, or_right, or_cases, and_parts, true≢false}
 use Rattle.std.proofs.lemmas.List.{get_or_default}
 use Rattle.std.proofs.lemmas.List.Elements.{All-map, All-contains_itself}
@@ -16,11 +16,12 @@ use Rattle.transfer_header.specs.Steps.{Steps, Contents, is_among, IsSpanOf, Are
 use Rattle.switch_ir.specs.declared.code.Table.{Table}
 use Rattle.switch_ir.specs.Passes.{Step, PassCode}
 use Rattle.switch_ir.specs.Spans.{Written, results_in, results_of, written_by, handed_in, written_in, is_read_last, last_stage, last_read, span_of, pass_spans, is_read_at, reads_at, writes_at, steps_of, GoesByStages}
-use Rattle.switch_ir.proofs.Soundness.{each_append, each_get, each_weaker}
+use Rattle.switch_ir.proofs.Staging.{AreApart}
+use Rattle.lemmas.proofs.Lists.{each_append, each_or, each_weaker}
 
 -- ---- elements
 each_contains : {X : Type 0} (P : X → Type 0) → (xs : List X) (x : X) → Each P xs → Contains xs x → P x
-each_contains P xs x each there = subst P there.2 (each_get P xs there.0 x each there.1)
+each_contains P xs x each there = subst P there.2 (each_or P xs there.0 x each there.1)
 
 -- ---- no stage is above the highest
 module _ (highest : ℕ) where
@@ -50,9 +51,6 @@ module _ (highest : ℕ) where
 -- ---- no value has two spans
 abbrev one_if : Bool → ℕ
 one_if b = cond b 1 0
-
-abbrev AreApart : List Written → Type 0
-AreApart had = AllPairs (λ (a b : Written). a.number ≢ b.number) had
 
 no_span : (last : ValueId → ℕ) (had : List Written) (n : ℕ) → ((k : ℕ) (d : Written) → k < length had → (get_or had k d).number ≢ n) → spans_of (map (span_of last) had) n ≡ 0
 no_span last [] n none = refl
@@ -115,16 +113,16 @@ unique had a b apart there here same = elim (cases_eq there.0 here.0) [
 ]
 
 -- ---- what a step writes
-record IsWrittenAt (had : List Written) (step number : ℕ) : Type 0 where
-  w : Written
-  there : Contains had w
-  same : w.number ≡ number
-  at : w.stage ≡ step
+pub record IsWrittenAt (had : List Written) (step number : ℕ) : Type 0 where
+  pub w : Written
+  pub there : Contains had w
+  pub same : w.number ≡ number
+  pub at : w.stage ≡ step
 
 written_later : (x : Written) (xs : List Written) (step number : ℕ) → IsWrittenAt xs step number → IsWrittenAt (x ∷ xs) step number
 written_later x xs step number is = record { w = is.w; there = (suc is.there.0, omega (arith, is.there.1), is.there.2); same = is.same; at = is.at }
 
-written_at : (had : List Written) (step number : ℕ) → is_among number (writes_at had step) ≡ true → IsWrittenAt had step number
+pub written_at : (had : List Written) (step number : ℕ) → is_among number (writes_at had step) ≡ true → IsWrittenAt had step number
 written_at [] step number e = absurd (true≢false (sym e))
 written_at (x ∷ xs) step number e = by_test (x.stage == step) refl (written_at xs step number) e
   where
@@ -246,7 +244,8 @@ module _ (had : List Written) (up : List Crossing) (pass : PassCode) (number : �
     each = All-map (IsSpanOf steps) (span_of last) had (λ k d lt. span_is (get_or had k d) (All-contains_itself had k d lt));
   }
 
-pub pass_is_spanned : (tables : List Table) (handed up : List Crossing) (pass : PassCode) (number : ℕ → Contents → Contents) → GoesByStages (written_in tables handed pass) pass
+-- The spans of a pass that goes by stages are those of what its steps read and write.
+pub passes_have_spans : (tables : List Table) (handed up : List Crossing) (pass : PassCode) (number : ℕ → Contents → Contents) → GoesByStages (written_in tables handed pass) pass
     → AreSpansOf (steps_of tables handed up pass number) (pass_spans tables handed up pass)
-pass_is_spanned tables handed up pass number by =
+passes_have_spans tables handed up pass number by =
     are_spans (written_in tables handed pass) up pass number by (low_in pass.highest tables handed pass.given pass.steps by.given by.low)

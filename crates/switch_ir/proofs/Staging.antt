@@ -22,10 +22,11 @@ use Rattle.switch_ir.specs.Passes.{Step}
 use Rattle.switch_ir.specs.Spans.{Written, results_in, results_of, written_by}
 use Rattle.switch_ir.specs.Tables.{declared_at}
 use Rattle.switch_ir.proofs.Places.{values_more}
-use Rattle.switch_ir.proofs.Soundness.{each_append, each_get, each_weaker, declared_among}
+use Rattle.switch_ir.proofs.Soundness.{declared_among}
+use Rattle.lemmas.proofs.Lists.{each_append, each_or, each_weaker}
 
 -- ---- pairs
-abbrev AreApart : List Written → Type 0
+abbrev pub AreApart : List Written → Type 0
 AreApart had = AllPairs (λ (a b : Written). a.number ≢ b.number) had
 
 pub apart_append : (P Q : Written → Type 0) → ((a b : Written) → P a → Q b → a.number ≢ b.number) → (xs ys : List Written) → Each P xs → Each Q ys → AreApart xs → AreApart ys
@@ -35,7 +36,7 @@ apart_append P Q differ (x ∷ xs) ys ps qs ax ay =
     AllPairs-cons (λ (a b : Written). a.number ≢ b.number) x (xs ++ ys)
     (All-append (λ (b : Written). x.number ≢ b.number) xs ys
     (λ k d lt. ax 0 (suc k) d (omega arith) (omega (arith, lt)))
-    (λ k d lt. differ x (get_or ys k d) ps.0 (each_get Q ys k d qs lt)))
+    (λ k d lt. differ x (get_or ys k d) ps.0 (each_or Q ys k d qs lt)))
     (apart_append P Q differ xs ys ps.1 qs (λ i j d lt within. ax (suc i) (suc j) d (omega (arith, lt)) (omega (arith, within))) ay)
 
 -- numbers that rise, from one that is at least this, to one below that

@@ -1,5 +1,5 @@
 -- The conditions of so many blocks.
-use Rattle.std.proofs.Common.{◌≡◌, ℕ, suc, ◌+◌, List, max, get_or, arith}
+use Rattle.std.proofs.Common.{◌≡◌, ℕ, suc, List, max, get_or, arith}
 use Rattle.flat_ir.specs.declared.program.Block.{Block}
 use Rattle.flat_ir.specs.Blocks.{block_at}
 use Rattle.split_model.specs.Crossing.{is_value}

@@ -53,10 +53,9 @@ up_in end.NoMemory bytes = up.NoMemory
 abbrev pub down_in : End → List ℕ → DownEnd
 down_in end.Drop bytes = down.Verdict verdict.Drop
 down_in (end.Send port) bytes = down.Verdict (verdict.Send port bytes)
-down_in end.Up bytes = down.Going
-down_in end.Going bytes = down.Going
 down_in end.Failed bytes = down.Failed
 down_in end.NoMemory bytes = down.NoMemory
+down_in _ bytes = down.Going
 
 -- the command of an object, with these numbers of its key and of its values
 abbrev pub command_in : Form → ℕ → List ℕ → List ℕ → Command

@@ -17,6 +17,7 @@ use Rattle.transfer_header.specs.Steps.{IsNeeded}
 use Rattle.switch_ir.specs.Passes.{Step, PassCode, Code}
 use Rattle.switch_ir.specs.Spans.{written_in, pre_spans, post_spans, GoesByStages, GoByStages, Written}
 use Rattle.switch_ir.specs.Sound.{CanStep, IsWritable, IsSound, CanBeRun}
+use Rattle.lemmas.proofs.Tests.{never_prop}
 
 can_run_prop : (work : Work) → IsProp (CanRun work)
 can_run_prop (apply op width args) = ×_prop (Coded-set coded_ℕ _ _) le_prop
@@ -35,9 +36,6 @@ sound_prop d a b = λ i. record {
   start = kept_object_prop d (start_object d) a.start b.start i;
   size = le_prop a.size b.size i;
 }
-
-never_prop : IsProp ⊥
-never_prop a b = absurd a
 
 stages_prop : (had : List Written) (pass : PassCode) → IsProp (GoesByStages had pass)
 stages_prop had pass a b = λ i. record {

@@ -14,7 +14,7 @@ use Rattle.state_store.specs.Places.{IsSorted}
 use Rattle.split_model.specs.declared.layout.Crossing.{Crossing}
 use Rattle.transfer_header.specs.Frames.{up_frame, IsFrame, IsFrameOf}
 use Rattle.writeback_table.specs.declared.command.Command.{Command}
-use Rattle.writeback_table.specs.declared.command.Command.TheVariants.{Stage, On, Main, Off, Clear}
+use Rattle.writeback_table.specs.declared.command.Command.TheVariants.{Stage, Main, Clear}
 use Rattle.writeback_table.specs.declared.command.Update.{Update}
 use Rattle.writeback_table.specs.Widths.{fits_update}
 use Rattle.writeback_table.specs.Pair.{visible_rows}
@@ -69,8 +69,7 @@ pub record KeepsTables (old new : PortState) : Type 0 where
 
 abbrev pub has_failed : PortEnd → Bool
 has_failed port.Failed = true
-has_failed port.Done = false
-has_failed port.NoMemory = false
+has_failed _ = false
 
 -- the start tables are told after a load where tables were told before it
 abbrev pub StartsTold : Code → Option Told → Option Told → Type 0
@@ -92,8 +91,7 @@ pub record IsAsBefore (old new : PortState) : Type 0 where
 
 abbrev pub LoadsBy : PortEnd → Code → PortState → PortState → Type 0
 LoadsBy port.Done code old new = IsLoadedWith code old new
-LoadsBy port.Failed code old new = IsAsBefore old new
-LoadsBy port.NoMemory code old new = IsAsBefore old new
+LoadsBy _ code old new = IsAsBefore old new
 
 pub record Loads (end : PortEnd) (code : Code) (old new : PortState) : Type 0 where
   pub state : LoadsBy end code old new
@@ -103,8 +101,7 @@ pub record Loads (end : PortEnd) (code : Code) (old new : PortState) : Type 0 wh
 
 abbrev pub RoomBy : PortEnd → ℕ → PortState → PortState → Type 0
 RoomBy port.Done commands old new = (commands ≤ new.spare) × (new.journal ≡ old.journal ++ entry.Room commands ∷ [])
-RoomBy port.Failed commands old new = new.journal ≡ old.journal
-RoomBy port.NoMemory commands old new = new.journal ≡ old.journal
+RoomBy _ commands old new = new.journal ≡ old.journal
 
 pub record MakesRoom (end : PortEnd) (commands : ℕ) (old new : PortState) : Type 0 where
   pub kept : Keeps old new
@@ -115,10 +112,7 @@ pub record MakesRoom (end : PortEnd) (commands : ℕ) (old new : PortState) : Ty
 
 abbrev pub up_failed : UpEnd → Bool
 up_failed up.Failed = true
-up_failed (up.Finished verdict) = false
-up_failed (up.Up frame) = false
-up_failed up.Going = false
-up_failed up.NoMemory = false
+up_failed _ = false
 
 -- the entry of a call with its end; one without memory leaves none
 abbrev pub noted_up : (UpEnd → Entry) → UpEnd → List Entry
@@ -135,10 +129,7 @@ up_entry number port packet end = noted_up (λ answer. entry.Up number port pack
 abbrev pub IsUpFrame : Code → ℕ → ℕ → List ℕ → UpEnd → Type 0
 IsUpFrame code number port packet (up.Up frame) =
     (values : Crossing → ℕ) × IsFrameOf 1 code.up number port values packet frame
-IsUpFrame code number port packet (up.Finished verdict) = ⊤
-IsUpFrame code number port packet up.Going = ⊤
-IsUpFrame code number port packet up.Failed = ⊤
-IsUpFrame code number port packet up.NoMemory = ⊤
+IsUpFrame code number port packet _ = ⊤
 
 -- What a packet comes to over tables: it is finished exactly where the code sends nothing up, with the code's verdict,
 -- and else goes up with the code's values.
@@ -147,9 +138,7 @@ EndsUp code told number packet (up.Finished verdict) = up_verdict code (seen_tab
 EndsUp code told number packet (up.Up frame) =
     (goes_up code (up_values code (seen_tables told) packet) ≡ true)
     × (frame ≡ up_frame code.up number packet.port (up_values code (seen_tables told) packet) packet.bytes)
-EndsUp code told number packet up.Going = ⊤
-EndsUp code told number packet up.Failed = ⊤
-EndsUp code told number packet up.NoMemory = ⊤
+EndsUp code told number packet _ = ⊤
 
 pub record PassesUp (end : UpEnd) (number port : ℕ) (packet : List ℕ) (old new : PortState) : Type 0 where
   pub kept : Keeps old new
@@ -199,9 +188,7 @@ pub record StagesUp (end : UpEnd) (number : ℕ) (old new : PortState) : Type 0 
 
 abbrev pub down_failed : DownEnd → Bool
 down_failed down.Failed = true
-down_failed (down.Verdict verdict) = false
-down_failed down.Going = false
-down_failed down.NoMemory = false
+down_failed _ = false
 
 abbrev pub noted_down : (DownEnd → Entry) → DownEnd → List Entry
 noted_down call down.NoMemory = []
@@ -217,9 +204,7 @@ abbrev pub EndsDown : Code → Told → List ℕ → DownEnd → Type 0
 EndsDown code told frame (down.Verdict verdict) =
     (number port : ℕ) (values : Crossing → ℕ) (packet : List ℕ) → IsFrameOf 2 code.down number port values packet frame
     → verdict ≡ down_end code values (seen_tables told) (record { port = port; bytes = packet })
-EndsDown code told frame down.Going = ⊤
-EndsDown code told frame down.Failed = ⊤
-EndsDown code told frame down.NoMemory = ⊤
+EndsDown code told frame _ = ⊤
 
 pub record PassesDown (end : DownEnd) (frame : List ℕ) (old new : PortState) : Type 0 where
   pub kept : Keeps old new
@@ -305,22 +290,19 @@ IsUpdateOf code u = (d : ObjectDecl) × IsReplicatedIn code u.object d × IsTrue
 -- a command names a replicated object of the code, or none
 abbrev pub IsCommandOf : Code → Command → Type 0
 IsCommandOf code (Stage update) = IsUpdateOf code update
-IsCommandOf code On = Unit {0}
 IsCommandOf code (Main update) = IsUpdateOf code update
-IsCommandOf code Off = Unit {0}
 IsCommandOf code (Clear object key) = IsKeyOf code object key
+IsCommandOf code _ = Unit {0}
 
 -- ## Rows
 
 abbrev pub rows_failed : RowsEnd → Bool
 rows_failed rows.Failed = true
-rows_failed (rows.Rows r) = false
-rows_failed rows.NoMemory = false
+rows_failed _ = false
 
 abbrev pub rows_entry : ℕ → RowsEnd → List Entry
 rows_entry o (rows.Rows r) = entry.Visible o ∷ []
-rows_entry o rows.Failed = []
-rows_entry o rows.NoMemory = []
+rows_entry o _ = []
 
 abbrev pub fits_row : ObjectDecl → Row → Bool
 fits_row d r = have_widths d.keys r.keys && have_widths d.values r.values
@@ -336,14 +318,12 @@ pub record AreRowsOf (d : ObjectDecl) (list : List Row) : Type 0 where
 
 abbrev pub GivesRowsOf : ObjectDecl → RowsEnd → Type 0
 GivesRowsOf d (rows.Rows list) = AreRowsOf d list
-GivesRowsOf d rows.Failed = ⊤
-GivesRowsOf d rows.NoMemory = ⊤
+GivesRowsOf d _ = ⊤
 
 -- the rows are those that lookups see
 abbrev pub EndsSeen : Told → ℕ → RowsEnd → Type 0
 EndsSeen told o (rows.Rows list) = list ≡ visible_rows told.bit (pair_at told.pairs o)
-EndsSeen told o rows.Failed = ⊤
-EndsSeen told o rows.NoMemory = ⊤
+EndsSeen told o _ = ⊤
 
 pub record ShowsRows (end : RowsEnd) (o : ℕ) (old new : PortState) : Type 0 where
   pub kept : Keeps old new

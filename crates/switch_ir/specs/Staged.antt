@@ -113,13 +113,9 @@ EndsBy code reads number packet (up.Finished verdict) =
     (goes_up code reads ≡ false) × (verdict ≡ leaves code.pre reads packet)
 EndsBy code reads number packet (up.Up frame) =
     (goes_up code reads ≡ true) × (frame ≡ up_frame code.up number packet.port reads packet.bytes)
-EndsBy code reads number packet up.Going = ⊤
-EndsBy code reads number packet up.Failed = ⊤
-EndsBy code reads number packet up.NoMemory = ⊤
+EndsBy code reads number packet _ = ⊤
 
 -- what becomes of a packet that comes down
 abbrev pub EndsDownBy : Code → Reading → Packet → DownEnd → Type 0
 EndsDownBy code reads packet (down.Verdict verdict) = verdict ≡ leaves code.post reads packet
-EndsDownBy code reads packet down.Going = ⊤
-EndsDownBy code reads packet down.Failed = ⊤
-EndsDownBy code reads packet down.NoMemory = ⊤
+EndsDownBy code reads packet _ = ⊤

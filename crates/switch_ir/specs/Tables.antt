@@ -6,7 +6,7 @@ use Rattle.state_store.specs.Kinds.{is_table}
 use Rattle.state_store.specs.Store.{Object, Store, start_object, no_object}
 use Rattle.state_store.specs.declared.object.ObjectDecl.{ObjectDecl}
 use Rattle.writeback_table.specs.declared.command.Command.{Command}
-use Rattle.writeback_table.specs.declared.command.Command.TheVariants.{Stage, On, Main, Off, Clear}
+use Rattle.writeback_table.specs.declared.command.Command.TheVariants.{Stage, Main, Clear}
 use Rattle.writeback_table.specs.Pair.{Pair, visible, applied, has_room}
 use Rattle.writeback_table.specs.Commands.{bit_after}
 use Rattle.switch_ir.specs.Passes.{Code}
@@ -69,10 +69,9 @@ with_command pairs o command = slice_set pairs o (applied (pair_at pairs o) comm
 
 abbrev pub pairs_after : List Pair → Command → List Pair
 pairs_after pairs (Stage update) = with_command pairs update.object (Stage update)
-pairs_after pairs On = pairs
 pairs_after pairs (Main update) = with_command pairs update.object (Main update)
-pairs_after pairs Off = pairs
 pairs_after pairs (Clear object key) = with_command pairs object (Clear object key)
+pairs_after pairs _ = pairs
 
 abbrev pub told_after : Command → Told → Told
 told_after command told = record { pairs = pairs_after told.pairs command; bit = bit_after told.bit command }
@@ -80,7 +79,5 @@ told_after command told = record { pairs = pairs_after told.pairs command; bit =
 -- the table that a command touches has room for it
 abbrev pub has_room_in : List Pair → Command → Bool
 has_room_in pairs (Stage update) = has_room (pair_at pairs update.object) (Stage update)
-has_room_in pairs On = true
 has_room_in pairs (Main update) = has_room (pair_at pairs update.object) (Main update)
-has_room_in pairs Off = true
-has_room_in pairs (Clear object key) = true
+has_room_in pairs _ = true

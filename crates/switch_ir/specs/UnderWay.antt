@@ -84,31 +84,24 @@ EndsWith p told pass IsAnswer =
 -- a pass has stages left just where it goes on
 abbrev pub GoesUp : Bool → UpEnd → Type 0
 GoesUp left up.Going = left ≡ true
-GoesUp left (up.Finished verdict) = left ≡ false
-GoesUp left (up.Up frame) = left ≡ false
 GoesUp left up.Failed = ⊤
 GoesUp left up.NoMemory = ⊤
+GoesUp left _ = left ≡ false
 
 abbrev pub GoesDown : Bool → DownEnd → Type 0
 GoesDown left down.Going = left ≡ true
 GoesDown left (down.Verdict verdict) = left ≡ false
-GoesDown left down.Failed = ⊤
-GoesDown left down.NoMemory = ⊤
+GoesDown left _ = ⊤
 
 -- What a call that begins a pass leaves of it: where the pass has stages left it is under way, as this says, and else
 -- none is.
 abbrev pub BegunUp : (PassState → Type 0) → UpEnd → Option PassState → Type 0
 BegunUp IsNew up.Going new = (pass : PassState) × (new ≡ Some pass) × IsNew pass
-BegunUp IsNew (up.Finished verdict) new = new ≡ None
-BegunUp IsNew (up.Up frame) new = new ≡ None
-BegunUp IsNew up.Failed new = new ≡ None
-BegunUp IsNew up.NoMemory new = new ≡ None
+BegunUp _ _ new = new ≡ None
 
 abbrev pub BegunDown : (PassState → Type 0) → DownEnd → Option PassState → Type 0
 BegunDown IsNew down.Going new = (pass : PassState) × (new ≡ Some pass) × IsNew pass
-BegunDown IsNew (down.Verdict verdict) new = new ≡ None
-BegunDown IsNew down.Failed new = new ≡ None
-BegunDown IsNew down.NoMemory new = new ≡ None
+BegunDown _ _ new = new ≡ None
 
 -- What a stage leaves of its pass: where the pass goes on it is under way, as this says; where the call didn't come
 -- about it is as before; and else it is under way no longer.
@@ -128,16 +121,11 @@ LeavesDown IsNew down.NoMemory old new = new ≡ Some old
 -- a pass of one event has no stages left
 abbrev pub EndsUpAtOnce : UpEnd → Type 0
 EndsUpAtOnce up.Going = ⊥
-EndsUpAtOnce (up.Finished verdict) = ⊤
-EndsUpAtOnce (up.Up frame) = ⊤
-EndsUpAtOnce up.Failed = ⊤
-EndsUpAtOnce up.NoMemory = ⊤
+EndsUpAtOnce _ = ⊤
 
 abbrev pub EndsDownAtOnce : DownEnd → Type 0
 EndsDownAtOnce down.Going = ⊥
-EndsDownAtOnce (down.Verdict verdict) = ⊤
-EndsDownAtOnce down.Failed = ⊤
-EndsDownAtOnce down.NoMemory = ⊤
+EndsDownAtOnce _ = ⊤
 
 -- ## Commands while passes are under way
 

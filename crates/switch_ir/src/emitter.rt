@@ -12,7 +12,6 @@ ghost use Rattle.switch_ir.specs.Emitted.{emitted, pre_code, post_code, AllRun, 
 ghost use Rattle.switch_ir.specs.Spans.{pre_spans, post_spans};
 
 use crate::code::{Pass, Steps, SwitchCode};
-use crate::laws::{what_is_emitted_computes_the_split, what_is_emitted_goes_by_stages};
 use crate::looked_up::looked_up;
 use crate::rest::rest;
 use crate::spans::{no_plan, plan_of, spans_of, values_are_few};
@@ -21,7 +20,6 @@ use flat_ir::{FieldValue, Flat, Out, Spans, what_fits_can_run};
 use gal_io::NoMemory;
 use split_model::{Layout, Split, down_layout, up_layout};
 use std::alloc::Global;
-use transfer_header::values_have_their_numbers;
 
 /// The code of the switch's part of a split program, with room for `writeback` rows in each write-back table.
 pub fn emit(alloc: Global, f: &Flat, s: &Split, writeback: u32) -> Result<SwitchCode, NoMemory>
@@ -34,10 +32,7 @@ pub fn emit(alloc: Global, f: &Flat, s: &Split, writeback: u32) -> Result<Switch
     ensures emitted { IsKept f.now.objects (start_store f.now.objects)
         → IfOk result (λ code. IsEmitted (code_of code)) }
 {
-    what_is_emitted_computes_the_split();
-    what_is_emitted_goes_by_stages();
     values_are_few(f);
-    values_have_their_numbers();
     all_run(f);
     let count = values(f);
     let mut pre = pre_pass(alloc, f, s)?;
@@ -78,11 +73,7 @@ pub fn spans_of_passes(alloc: Global, f: &Flat, s: &Split) -> Result<PassSpans, 
     ensures post { (writeback : ℕ) → IfOk result (λ spans.
         spans.post ≡ post_spans (emitted (program_of f.now) s.now writeback)) }
 {
-    what_is_emitted_goes_by_stages();
     values_are_few(f);
-    values_have_their_numbers();
-    // There are fewer values than 2^32.
-    let _count = values(f);
     let pre = pre_pass(alloc, f, s)?;
     let post = post_pass(alloc, f, s)?;
     let carried = up_layout(alloc, f, s)?;

@@ -9,6 +9,7 @@ use crate::port::{CommandEnd, DownEnd, UpEnd};
 use gal_bits::Values;
 use gal_io::{Bytes, NoMemory};
 use packet_fields::Verdict;
+use state_store::put_numbers;
 use std::alloc::Global;
 use std::marker::Model;
 use writeback_table::{Command, To, Update};
@@ -302,19 +303,6 @@ fn command_parts(command: &Command, end: CommandEnd) -> (Outline, &[u64], &[u64]
     let (form, object, key, values) = form_parts(command);
     let call = Outline::Command(end, form, object, key.len() as u8, values.len() as u8);
     (call, key, values)
-}
-
-// Puts numbers last, in memory that was taken before.
-#[inline]
-fn put_numbers(numbers: &mut Vec<u64>, more: &[u64])
-    requires { vec_len numbers.old + length more.now ≤ vec_capacity numbers.old }
-    ensures items { numbers.new.items ≡ numbers.old.items ++ more.now }
-    ensures count { vec_len numbers.new ≡ vec_len numbers.old + length more.now }
-    ensures capacity { vec_capacity numbers.new ≡ vec_capacity numbers.old }
-{
-    for number in more {
-        numbers.push_reserved(*number);
-    }
 }
 
 // A list of these numbers.

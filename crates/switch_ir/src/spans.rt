@@ -21,7 +21,7 @@ use flat_ir::{Blocks, Flat, InstrKind, Out, RegPlan, Span, Spans, ValueId};
 use gal_io::NoMemory;
 use split_model::Layout;
 use std::alloc::Global;
-use transfer_header::{BlockSteps, plans_of_spans};
+use transfer_header::BlockSteps;
 
 // Notes what the instructions of a pass read.
 fn note_steps(pass: &Pass, last: &mut LastReads)
@@ -229,7 +229,6 @@ pub(crate) fn plan_of(
     requires { CanBePlanned tables.now handed.now (pass_of pass.now) instructions }
     ensures { IfOk result (IsPlanOf (pass_spans tables.now handed.now up.now (pass_of pass.now))) }
 {
-    plans_of_spans();
     let spans = spans_of(alloc, pass, handed, up, tables, instructions)?;
     RegPlan::of(alloc, &spans)
 }

@@ -6,14 +6,11 @@ use Rattle.std.proofs.lemmas.Bool.{le-ltb, lt-ltb, true≢false}
 use Rattle.packet_fields.specs.declared.packet.Packet.{Packet}
 use Rattle.packet_fields.specs.declared.verdict.Verdict.{Verdict as Verdicts}
 use Rattle.flat_ir.specs.declared.program.Out.{Out}
-use Rattle.flat_ir.specs.Blocks.{Reading, is_live, line}
-use Rattle.flat_ir.specs.Laws.{Same}
-use Rattle.flat_ir.specs.Program.{Program}
+use Rattle.flat_ir.specs.Blocks.{Reading, is_live}
 use Rattle.flat_ir.specs.Run.{sent}
-use Rattle.flat_ir.specs.WellFormed.{EachCondition}
 use Rattle.flat_ir.specs.Writable.{IsWritable}
 use Rattle.transfer_header.specs.Frames.{up_frame}
-use Rattle.transfer_header.specs.Registers.{content_of, FitsLayout, Holds, Registers}
+use Rattle.transfer_header.specs.Registers.{content_of, Holds, Registers}
 use Rattle.switch_ir.specs.declared.code.SwitchCode.{SwitchCode}
 use Rattle.switch_ir.specs.Code.{code_of, Code}
 use Rattle.switch_ir.specs.Meaning.{leaves, pass_values}
@@ -24,26 +21,22 @@ use Rattle.switch_ir.specs.declared.port.UpEnd.{UpEnd}
 use Rattle.switch_ir.specs.declared.port.UpEnd.TheVariants as up
 use Rattle.switch_machine.specs.declared.numbering.ValueRange.{ValueRange}
 use Rattle.switch_machine.specs.declared.sides.Outcome.{Outcome}
-use Rattle.switch_machine.specs.declared.sides.Outcome.TheVariants.{Going, Up, Verdict}
+use Rattle.switch_machine.specs.declared.sides.Outcome.TheVariants.{Going}
 use Rattle.switch_machine.specs.declared.sides.Side.{Side}
 use Rattle.switch_machine.specs.declared.sides.Side.TheVariants.{Before, Behind}
 use Rattle.switch_machine.specs.Keeping.{kept, left_with, lines_of, values_in}
 use Rattle.switch_machine.specs.Numbers.{reads_by, AreHeld}
+use Rattle.switch_machine.specs.Ranges.{AreOrdered}
 use Rattle.switch_machine.specs.Sides.{of_side, staging, up_of, EndsOn, IsOf}
 use Rattle.switch_machine.specs.UnderWay.{leaves_on, Enters, HasEnd}
-use Rattle.switch_machine.specs.Workplaces.{IsReadyFor}
 use Rattle.switch_machine.proofs.GoingUp.{up_holds}
+use Rattle.switch_machine.proofs.PassValues.{IsRanged}
 use Rattle.switch_machine.proofs.SettingUp.{alike_left, alike_right, sent_same, tested_same}
 
 -- only before the server work is left, and packets go up
-pub fits_on : (side : Side) (code : Code) (ranges : List ValueRange) (registers : Registers) (reads : Reading) → IsReadyFor code side ranges registers
-    → leaves_on side code reads ≡ true → (IsReadyFor code Before ranges registers → FitsLayout code.up registers) → FitsLayout code.up registers
-fits_on Before code ranges registers reads ready left fits = fits ready
-fits_on Behind code ranges registers reads ready left fits = absurd (true≢false (sym left))
-
-pub up_is_of : (side : Side) (code : Code) (reads : Reading) (frame : List ℕ) → leaves_on side code reads ≡ true → IsOf side (up.Up frame)
-up_is_of Before code reads frame left = tt
-up_is_of Behind code reads frame left = absurd (true≢false (sym left))
+pub before_of : (side : Side) (code : Code) (reads : Reading) → leaves_on side code reads ≡ true → side ≡ Before
+before_of Before code reads left = refl
+before_of Behind code reads left = absurd (true≢false (sym left))
 
 pub is_of : (side : Side) (end : UpEnd) → IsOf Behind end → IsOf side end
 is_of Before end of = tt
@@ -63,8 +56,7 @@ pub sent_on : (side : Side) (c : SwitchCode) (out : Out) → out ≡ of_side sid
 sent_on Before c out is reads packet = ap (λ (o : Out). sent o.send o.port o.fields.items reads packet) is
 sent_on Behind c out is reads packet = ap (λ (o : Out). sent o.send o.port o.fields.items reads packet) is
 
-module _ (live : (r r' : Reading) (f : Program) (k : ℕ) → Each (EachCondition f (Same r r')) (line f.blocks k) → is_live f.blocks r k ≡ is_live f.blocks r' k)
-    (code : Code) (ranges : List ValueRange) (registers : Registers) where
+module _ (code : Code) (ranges : List ValueRange) (registers : Registers) where
   abbrev now : Reading
   now = reads_by ranges (content_of registers)
 
@@ -72,16 +64,16 @@ module _ (live : (r r' : Reading) (f : Program) (k : ℕ) → Each (EachConditio
       → list_any (is_live code.pre.blocks now) code.pre.rest ≡ list_any (is_live code.pre.blocks reads) code.pre.rest
   tested reads same =
       let lines = lines_of code.pre.blocks code.pre.rest in
-      tested_same now reads code.pre.blocks (live now reads) code.pre.rest
+      tested_same now reads code.pre.blocks code.pre.rest
       (alike_left now reads lines (left_with code.pre) (alike_right now reads (values_in code.up) (lines ++ left_with code.pre) same))
 
-  pub ends_up_on : (side : Side) → IsReadyFor code side ranges registers → leaves_on side code now ≡ true → (number : ℕ) (packet : Packet) (frame : List ℕ)
+  pub ends_up_on : (side : Side) → CanBeRun code → AreOrdered code → IsRanged (staging side code) ranges → leaves_on side code now ≡ true → (number : ℕ) (packet : Packet) (frame : List ℕ)
       → ((reads : Reading) → Holds code.up registers reads → frame ≡ up_frame code.up number packet.port reads packet.bytes)
       → (reads : Reading) → AreHeld ranges registers reads (kept (staging side code)) → EndsOn side code reads number packet (up.Up frame)
-  ends_up_on Behind ready left number packet frame packed reads same = absurd (true≢false (sym left))
-  ends_up_on Before ready left number packet frame packed reads same = (
+  ends_up_on Behind can ordered ranged left number packet frame packed reads same = absurd (true≢false (sym left))
+  ends_up_on Before can ordered ranged left number packet frame packed reads same = (
     sym (tested reads same) ∙ left,
-    packed reads (up_holds code ready.can ready.ordered ready.few ranges ready.are registers reads
+    packed reads (up_holds code can ordered ranges ranged registers reads
         (alike_left now reads (values_in code.up) (lines_of code.pre.blocks code.pre.rest ++ left_with code.pre) same)),
   )
 
@@ -113,7 +105,5 @@ pub at_end : (side : Side) (code : Code) (told : Told) (whole : Bool) (number : 
     → HasEnd side code number packet false (EndsOn side code (pass_values (staging side code).code given (seen_tables told) packet) number packet) (up_of outcome)
     → new ≡ old → (not whole && nat_lt 0 (staging side code).code.highest) ≡ false → Enters side code told whole number packet given (up_of outcome) old new
 at_end side code told whole number packet given Going old new h same none = absurd (true≢false (sym h.goes))
-at_end side code told whole number packet given (Up frame) old new h same none =
-    record { begun = same; ends = record { goes = none; of = h.of; frame = h.frame; told = h.told } }
-at_end side code told whole number packet given (Verdict verdict) old new h same none =
+at_end side code told whole number packet given outcome old new h same none =
     record { begun = same; ends = record { goes = none; of = h.of; frame = h.frame; told = h.told } }

@@ -1,12 +1,12 @@
 -- Passes under way, by their numbers.
 use Rattle.std.proofs.Common.{◌≡◌, ◌∙◌, ◌<◌, ℕ, suc, ◌==◌, Bool, true, false, cond, List, [], length, Option, Some, None, Result, Ok, Err, refl, sym, ap, subst, arith, inl, inr}
-use Rattle.std.specs.Prelude.{nat_lt, IsSome, OnErr, OnOk}
+use Rattle.std.specs.Prelude.{nat_lt, OnErr, OnOk}
 use Rattle.std.specs.BTreeMap.{BTreeMap, get, is_at}
 use Rattle.std.specs.Map.{lookup}
 use Rattle.std.specs.Option.{option_map}
 use Rattle.std.specs.Ordering.{is_eq, nat_cmp}
 use Rattle.std.specs.declared.cmp.Ordering.TheVariants.{Equal, Greater, Less}
-use Rattle.std.proofs.lemmas.Bool.{cases_Bool, cond-false, cond-true, eqb-true, false≢true, ltb-true, ne_eqb}
+use Rattle.std.proofs.lemmas.Bool.{cases_Bool, cond-false, cond-true, eqb-true, ltb-true, ne_eqb}
 use Rattle.std.proofs.lemmas.Option.{same_Some, none-some}
 use Rattle.packet_fields.specs.declared.packet.Packet.{Packet}
 use Rattle.flat_ir.specs.Blocks.{Reading}
@@ -162,10 +162,3 @@ placed_as one other plan count placed =
 -- the pass of a number is one
 pub same_flight : (fs : NumberedFlights) (n : ℕ) (f g : Flight) → fs n ≡ Some f → fs n ≡ Some g → (P : Flight → Type 0) → P f → P g
 same_flight fs n f g there here P h = subst P (same_Some f g (sym there ∙ here)) h
-
-pub found_at : {X : Type 0} (fs : ℕ → Option X) (n : ℕ) → IsSome (fs n) → (f : X) × (fs n ≡ Some f)
-found_at {X} fs n there = go (fs n) refl there
-  where
-    go : (o : Option X) → fs n ≡ o → IsSome o → (f : X) × (fs n ≡ Some f)
-    go None is h = absurd (false≢true h)
-    go (Some f) is h = (f, is)

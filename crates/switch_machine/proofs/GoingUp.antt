@@ -1,5 +1,5 @@
 -- Preprocessing in its registers.
-use Rattle.std.proofs.Common.{◌≡◌, ◌<◌, ◌^◌, ◌==◌, ◌&&◌, ℕ, true, List, [], Some, None, if◌then◌else◌, sym, ap, ◌∙◌, subst}
+use Rattle.std.proofs.Common.{◌≡◌, ◌==◌, ◌&&◌, ℕ, true, List, [], Some, None, if◌then◌else◌, sym, ap, ◌∙◌, subst}
 use Rattle.std.specs.List.{list_any, AllByRecursion as Each}
 use Rattle.std.proofs.lemmas.Bool.{and_parts, eqb-true}
 use Rattle.packet_fields.specs.declared.packet.Packet.{Packet}
@@ -10,7 +10,7 @@ use Rattle.split_model.specs.declared.layout.Crossing.{Crossing}
 use Rattle.split_model.specs.Crossing.{is_value}
 use Rattle.transfer_header.specs.Registers.{Registers, content_of, Holds}
 use Rattle.switch_ir.specs.declared.port.UpEnd.{UpEnd}
-use Rattle.switch_ir.specs.declared.port.UpEnd.TheVariants.{Failed, Finished, Going, NoMemory, Up}
+use Rattle.switch_ir.specs.declared.port.UpEnd.TheVariants.{Finished}
 use Rattle.switch_ir.specs.Meaning.{leaves, up_values}
 use Rattle.switch_ir.specs.Passes.{Code}
 use Rattle.switch_ir.specs.Port.{EndsUp}
@@ -22,15 +22,14 @@ use Rattle.switch_machine.specs.declared.numbering.ValueRange.{ValueRange}
 use Rattle.switch_machine.specs.declared.sides.Side.TheVariants.{Before}
 use Rattle.switch_machine.specs.Keeping.{values_in}
 use Rattle.switch_machine.specs.Numbers.{content_at, number_in, reads_by}
-use Rattle.switch_machine.specs.Ranges.{entries, AreOrdered, AreRanges}
-use Rattle.switch_machine.proofs.Beginning.{value_same}
-use Rattle.switch_machine.proofs.Each.{each_at}
+use Rattle.switch_machine.specs.Ranges.{AreOrdered}
+use Rattle.switch_machine.specs.Sides.{staging}
 use Rattle.switch_machine.proofs.Members.{any_has, each_has, has_each, has_made, made_has, to_contains, Has}
-use Rattle.switch_machine.proofs.OfSides.{small_of}
-use Rattle.switch_machine.proofs.PassValues.{has_its_number}
+use Rattle.switch_machine.proofs.PassValues.{has_its_number, IsRanged}
+use Rattle.flat_ir.proofs.Exact.{value_same}
+use Rattle.lemmas.proofs.Lists.{each_or}
 
-module _ (code : Code) (can : CanBeRun code) (ordered : AreOrdered code) (few : code.values < 2 ^ 32)
-    (ranges : List ValueRange) (are : AreRanges (entries code.tables [] code.pre) ranges) where
+module _ (code : Code) (can : CanBeRun code) (ordered : AreOrdered code) (ranges : List ValueRange) (ranged : IsRanged (staging Before code) ranges) where
   abbrev had : List Written
   had = written_in code.tables [] code.pre
 
@@ -41,7 +40,7 @@ module _ (code : Code) (can : CanBeRun code) (ordered : AreOrdered code) (few : 
       let alike = each_has (λ (w : Written). w.number ≡ c.number → is_value w.value c.value ≡ true) had
       (each_has (λ (x : Crossing). Each (λ (w : Written). w.number ≡ x.number → is_value w.value x.value ≡ true) had) code.up ordered.up c h) m.from m.there number in
       ap (number_in ranges) (sym (value_same m.from.value c.value alike))
-      ∙ has_its_number code.tables [] code.up code.pre ordered.pre (small_of Before code can few) can.stages.pre tt ranges are m.from m.there
+      ∙ has_its_number (staging Before code) ranges ranged m.from m.there
       ∙ ap (λ n. Some n) number
 
   -- what goes up is had under its number
@@ -57,7 +56,7 @@ module _ (code : Code) (can : CanBeRun code) (ordered : AreOrdered code) (few : 
   pub up_holds : (registers : Registers) (reads : Reading) → Each (λ v. reads_by ranges (content_of registers) v ≡ reads v) (values_in code.up)
       → Holds code.up registers reads
   up_holds registers reads same k d lt =
-      each_at (λ (c : Crossing). content_of registers c.number ≡ reads c.value) code.up k d
+      each_or (λ (c : Crossing). content_of registers c.number ≡ reads c.value) code.up k d
       (has_each (λ (c : Crossing). content_of registers c.number ≡ reads c.value) code.up
       (λ c h. sym (ap (content_at (content_of registers)) (up_number c h))
       ∙ each_has (λ v. reads_by ranges (content_of registers) v ≡ reads v) (values_in code.up) same c.value (made_has (λ (x : Crossing). x.value) code.up c h)))
@@ -69,7 +68,4 @@ pub ends_up : (code : Code) (told : Told) (number : ℕ) (packet : Packet) (end 
 ends_up code told number packet (Finished verdict) h =
     let reads = up_values code (seen_tables told) packet in
     ap (λ b. if b then None else Some (leaves code.pre reads packet)) h.0 ∙ ap (λ v. Some v) (sym h.1)
-ends_up code told number packet (Up frame) h = h
-ends_up code told number packet Going h = h
-ends_up code told number packet Failed h = h
-ends_up code told number packet NoMemory h = h
+ends_up code told number packet end h = h

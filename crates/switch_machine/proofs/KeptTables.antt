@@ -1,5 +1,5 @@
 -- The tables of code keep what it declares, from their start on and under each of its commands.
-use Rattle.std.proofs.Common.{◌≡◌, ◌≤◌, ℕ, zero, suc, Bool, true, false, List, [], ◌∷◌, Option, Some, None, refl, sym, ap, ◌∙◌, subst, arith, slice_set, if◌then◌else◌}
+use Rattle.std.proofs.Common.{◌≡◌, ◌≤◌, ℕ, zero, suc, Bool, true, false, List, ◌∷◌, Option, Some, None, refl, sym, ap, ◌∙◌, subst, arith, slice_set, if◌then◌else◌}
 use Rattle.std.proofs.lemmas.Option.{same_Some, none-some}
 use Rattle.state_store.specs.declared.object.ObjectDecl.{ObjectDecl}
 use Rattle.state_store.specs.Kinds.{is_table}
@@ -15,11 +15,9 @@ use Rattle.switch_machine.proofs.KeptRows.{staging, changing, clearing, starting
 
 -- a pair of a list in which one was set
 at_pair : (P : Pair → Type 0) (pairs : List Pair) (k o : ℕ) (p : Pair) → P (pair_at pairs o) → (k ≡ o → P p) → P (pair_at (slice_set pairs k p) o)
-at_pair P [] k o p before after = before
 at_pair P (q ∷ pairs) zero zero p before after = after refl
-at_pair P (q ∷ pairs) zero (suc o) p before after = before
-at_pair P (q ∷ pairs) (suc k) zero p before after = before
 at_pair P (q ∷ pairs) (suc k) (suc o) p before after = at_pair P pairs k o p before (λ same. after (ap suc same))
+at_pair P pairs k o p before after = before
 
 module _ (code : Code) (told : Told) (safe : KeepsTables code told) where
   -- a command that names an object, which is declared as it is

@@ -1,11 +1,9 @@
 mod Beginning
 mod Crossings
-mod Each
 mod EmittedOrder
 mod Ending
 mod Fitting
 mod Flying
-mod GoingDown
 mod GoingUp
 mod HandedDown
 mod InRegisters
@@ -30,5 +28,5 @@ mod TableRows
 mod Telling
 mod VisibleRows
 mod Waiting
-mod Writing
 mod WrittenPlaces
+mod Laws

@@ -6,7 +6,6 @@ use Rattle.std.proofs.lemmas.Bool.{ltb-true}
 use Rattle.std.proofs.lemmas.Option.{same_Some, none-some}
 use Rattle.flat_ir.specs.Plan.{RegisterPlan}
 use Rattle.transfer_header.specs.Plans.{IsPlanOf}
-use Rattle.transfer_header.specs.Registers.{Registers}
 use Rattle.writeback_table.specs.declared.command.Command.{Command}
 use Rattle.switch_ir.specs.Code.{code_of, Code}
 use Rattle.switch_ir.specs.Port.{IsCommandOf}
@@ -25,8 +24,8 @@ use Rattle.switch_machine.specs.Ranges.{entries, AreOrdered, AreRanges}
 use Rattle.switch_machine.specs.Ready.{AreReady}
 use Rattle.switch_machine.specs.Sides.{of_side, staging}
 use Rattle.switch_machine.specs.UnderWay.{passes_on, shown, GoneOn, HasGone, HasStagesLeft, Puts, StaysLoaded}
-use Rattle.switch_machine.specs.Workplaces.{IsMadeBy, IsPassAs, IsPassOf, IsReadyFor, StaysMade}
-use Rattle.switch_machine.proofs.OfSides.{spans_on}
+use Rattle.switch_machine.specs.Workplaces.{IsMadeBy, IsPassAs, IsPassOf, StaysMade}
+use Rattle.switch_machine.proofs.PassValues.{its_spans}
 
 -- it can be run
 pub can_of : (loaded : Option Loaded) (code : Code) → code_in loaded ≡ Some code → CanBeRun code
@@ -40,19 +39,6 @@ command_of (Some one) c h code is = subst (λ (x : Code). IsCommandOf x c) (same
 command_of None c h code is = absurd (none-some code is)
 
 -- ## Its passes
-
--- registers by the plan of a pass
-pub ready_for : (code : Code) (l : LoadedPass) (registers : Registers) → IsPassOf code l → registers.plan ≡ l.registers.plan
-    → IsReadyFor code l.side l.numbering registers
-ready_for code l registers is same = record {
-  can = is.can;
-  ordered = is.ordered;
-  few = is.few;
-  are = is.are;
-  plan = is.plan;
-  of_spans = is.of_spans;
-  planned = same ∙ is.planned_by;
-}
 
 -- a pass that stays is that of the code
 pub pass_stays : (code : Code) (old new : LoadedPass) → StaysMade old new → IsPassOf code old → IsPassOf code new
@@ -75,7 +61,7 @@ made_stays side code plan old new same is =
     }
 
 pass_of : (side : Side) (code : Code) (plan : RegisterPlan) (l : LoadedPass) → CanBeRun code → AreOrdered code → code.values < 2 ^ 32
-    → IsPlanOf (spans_on side code) plan → IsMadeBy side code plan l → IsPassOf code l
+    → IsPlanOf (its_spans (staging side code)) plan → IsMadeBy side code plan l → IsPassOf code l
 pass_of side code plan l can ordered few spans is =
     subst (λ (s : Side). IsPassAs code s l.numbering l.registers.plan l.stages (length l.marks.items)) (sym is.side_is) (record {
       can = can;

@@ -1,6 +1,6 @@
 -- A switch in memory, its code and its passes.
-use Rattle.std.proofs.Common.{◌≡◌, ◌≢◌, ◌∙◌, ◌==◌, ℕ, Option, Some, None, Result, Ok, Err, IfSome, refl, sym, ap, subst}
-use Rattle.std.specs.Prelude.{IsSome, OnErr}
+use Rattle.std.proofs.Common.{◌≡◌, ◌≢◌, ◌∙◌, ◌==◌, ℕ, Option, Some, None, IfSome, refl, sym, ap, subst}
+use Rattle.std.specs.Prelude.{IsSome}
 use Rattle.std.proofs.lemmas.Bool.{cond-false, cond-true, eq-eqb, false≢true, ne_eqb}
 use Rattle.std.proofs.lemmas.Option.{same_Some, none-some}
 use Rattle.switch_ir.specs.Code.{code_of, Code}
@@ -39,7 +39,3 @@ pub loaded_with : (side : Side) (loaded : Option Loaded) (number : ℕ) → IsSo
 loaded_with Before None number some = absurd (false≢true some)
 loaded_with Behind None number some = absurd (false≢true some)
 loaded_with side (Some l) number some = refl
-
-pub err_weaker : {X E : Type 0} (P Q : Type 0) (r : Result X E) → (P → Q) → OnErr r P → OnErr r Q
-err_weaker P Q (Ok x) go h = tt
-err_weaker P Q (Err e) go h = go h

@@ -1,9 +1,9 @@
 -- Members of lists.
 use Rattle.std.proofs.Common.{◌≡◌, ◌⊎◌, ℕ, suc, ◌==◌, Bool, true, List, [], ◌∷◌, ◌++◌, map, refl, sym, ap, ◌∙◌, subst, inl, inr, arith}
 use Rattle.std.specs.Prelude.{Contains}
-use Rattle.std.specs.List.{AllPairs, list_any, filter, AllByRecursion as Each}
+use Rattle.std.specs.List.{AllPairs, list_any, AllByRecursion as Each}
 use Rattle.std.proofs.lemmas.Bool.{or_cases, or_left, or_right, eqb-true, eq-eqb, true≢false}
-use Rattle.std.proofs.lemmas.List.Elements.{All-contains, All-filter, All-from_recursion, filter_passes, recursion_from_All}
+use Rattle.std.proofs.lemmas.List.Elements.{All-contains, All-from_recursion}
 use Rattle.switch_machine.specs.Numbers.{Pairs}
 
 -- it is one of them
@@ -90,14 +90,6 @@ among_has n xs e = let p = any_has (λ x. x == n) xs e in subst (Has xs) (eqb-tr
 
 pub has_among : (n : ℕ) (xs : List ℕ) → Has xs n → list_any (λ x. x == n) xs ≡ true
 has_among n xs h = has_any (λ x. x == n) xs n h (eq-eqb n n refl)
-
--- those of a list that pass a test
-pub filter_has : {X : Type 0} (p : X → Bool) (xs : List X) (x : X) → Has (filter p xs) x → Has xs x × (p x ≡ true)
-filter_has p xs x h = (
-  each_has (Has xs) (filter p xs) (recursion_from_All (Has xs) (filter p xs)
-      (All-filter p (Has xs) xs (All-from_recursion (Has xs) xs (has_each (Has xs) xs (λ y there. there))))) x h,
-  each_has (λ y. p y ≡ true) (filter p xs) (recursion_from_All (λ y. p y ≡ true) (filter p xs) (filter_passes p xs)) x h,
-)
 
 -- ## Pairs
 

@@ -1,8 +1,8 @@
 -- Values by their numbers.
-use Rattle.std.proofs.Common.{◌≡◌, ◌≢◌, ℕ, zero, suc, ◌+◌, ◌-◌, ◌==◌, ◌<◌, ◌≤◌, Bool, true, false, cond, ◌&&◌, ◌||◌, List, [], ◌∷◌, ◌++◌, length, map, Some, None, refl, sym, ap, ◌∙◌, inl, inr, arith, slice_index}
+use Rattle.std.proofs.Common.{◌≡◌, ◌≢◌, ℕ, zero, suc, ◌+◌, ◌-◌, ◌==◌, ◌<◌, ◌≤◌, Bool, true, false, cond, ◌&&◌, ◌||◌, List, [], ◌∷◌, ◌++◌, length, map, Option, Some, None, refl, sym, ap, ◌∙◌, inl, inr, arith, slice_index}
 use Rattle.std.specs.Prelude.{nat_lt}
 use Rattle.std.specs.List.{range_with_len, AllByRecursion as Each}
-use Rattle.std.proofs.lemmas.Bool.{and_parts, cases_Bool, cases_eq, cond-true, cond-false, cond_both, eq-eqb, false_from_ne_true, or_left, or_right, ne_eqb, eqb-true, ltb-true, ltb-false, lt-ltb, true≢false}
+use Rattle.std.proofs.lemmas.Bool.{and_from, and_parts, cases_Bool, cases_eq, cond-true, cond-false, cond_both, eq-eqb, false_from_ne_true, or_left, or_right, ne_eqb, eqb-true, ltb-true, ltb-false, lt-ltb, true≢false}
 use Rattle.std.proofs.lemmas.List.{get_or_past, map-append}
 use Rattle.std.proofs.lemmas.List.Folds.{list_any-append}
 use Rattle.std.proofs.lemmas.Option.{same_Some, none-some}
@@ -11,22 +11,18 @@ use Rattle.state_store.specs.Store.{Store}
 use Rattle.flat_ir.specs.declared.program.ValueId.{ValueId}
 use Rattle.flat_ir.specs.Blocks.{Reading}
 use Rattle.flat_ir.specs.Run.{results}
+use Rattle.split_model.specs.Crossing.{is_value}
 use Rattle.transfer_header.specs.Steps.{is_among}
 use Rattle.switch_ir.specs.Code.{Step}
 use Rattle.switch_ir.specs.Meaning.{after_stage}
 use Rattle.switch_machine.specs.declared.numbering.ValueRange.{ValueRange}
-use Rattle.switch_machine.specs.Numbers.{first_gives, gives, number_in, range_at, stage_gives, stage_number, stage_writes, values, AreOnce}
+use Rattle.switch_machine.specs.Numbers.{first_gives, gives, is_number, number_in, range_at, stage_gives, stage_number, stage_writes, values, AreOnce}
 use Rattle.switch_machine.specs.Planned.{AreNumberedApart}
 use Rattle.switch_machine.specs.Staged.{of_stage}
-use Rattle.switch_machine.proofs.Each.{each_two, each_weaker}
 use Rattle.switch_machine.proofs.Members.{among_has, each_has, has_among, Has}
+use Rattle.lemmas.proofs.Lists.{each_append, each_weaker, range_pushed}
 
 -- ## The values of an instruction
-
--- numbers one after the other
-pub counted_more : (a k n : ℕ) → a + k ≡ n → range_with_len a (suc k) ≡ range_with_len a k ++ n ∷ []
-counted_more a zero n is = ap (λ m. m ∷ []) (omega (arith, is))
-counted_more a (suc k) n is = ap (λ (ms : List ℕ). a ∷ ms) (counted_more (a + 1) k n (omega (arith, is)))
 
 among_counted : (a k n : ℕ) → Has (range_with_len a k) n → (a ≤ n) × (n < a + k)
 among_counted a zero n h = absurd h
@@ -69,6 +65,19 @@ value_of ranges i n inside =
       record { instruction = i; result = n - range.first },
       (refl, numbered ranges i (n - range.first) (omega (arith, h.0, h.1)) ∙ ap (λ m. Some m) (omega (arith, h.0))),
     )
+
+pub same_value : (a b : ValueId) → a.instruction ≡ b.instruction → a.result ≡ b.result → is_value a b ≡ true
+same_value a b i r = and_from (a.instruction == b.instruction) (a.result == b.result) (eq-eqb a.instruction b.instruction i) (eq-eqb a.result b.result r)
+
+pub is_the_number : (o : Option ℕ) (n : ℕ) → is_number o n ≡ true → o ≡ Some n
+is_the_number None n e = absurd (true≢false (sym e))
+is_the_number (Some m) n e = ap (λ k. Some k) (eqb-true m n e)
+
+-- values with the same number are one
+pub same_one : (ranges : List ValueRange) → AreNumberedApart ranges → (v w : ValueId) (n : ℕ) → number_in ranges v ≡ Some n → number_in ranges w ≡ Some n → is_value v w ≡ true
+same_one ranges apart v w n e f =
+    let same = apart v w n e f in
+    same_value v w same (omega (arith, (known ranges v n e).1, (known ranges w n f).1, ap (λ i. (range_at ranges i).first) same))
 
 module _ (ranges : List ValueRange) (apart : AreNumberedApart ranges) (v : ValueId) (n : ℕ) (is : number_in ranges v ≡ Some n) where
   -- the number stands among those of an instruction exactly where the value is of the instruction
@@ -162,7 +171,7 @@ module _ (ranges : List ValueRange) (reads : Reading) (tables : Store) (packet :
   first_values_are range given (suc k) =
       map-append (λ (p : ℕ × ℕ). p.0) (first_gives range given k) ((range.first + k, slice_index given k) ∷ [])
       ∙ ap (λ (rest : List ℕ). rest ++ (range.first + k) ∷ []) (first_values_are range given k)
-      ∙ sym (counted_more range.first k (range.first + k) refl)
+      ∙ sym (range_pushed range.first k)
 
   pub writes_are : (ss : List Step) → map (λ (p : ℕ × ℕ). p.0) (stage_gives ranges ss reads tables packet) ≡ stage_writes ranges ss
   writes_are [] = refl
@@ -189,7 +198,7 @@ module _ (ranges : List ValueRange) (reads : Reading) (tables : Store) (packet :
       let given = results reads false tables packet s.work in
       let n = range.first + k in
       let here = has_among n (values range) (counted_among range.first range.count n (omega arith) (omega (arith, le))) in
-      each_two (IsRight (s ∷ ss)) (first_gives range given k) ((n, slice_index given k) ∷ []) (first_right s ss k (omega (arith, le))) (
+      each_append (IsRight (s ∷ ss)) (first_gives range given k) ((n, slice_index given k) ∷ []) (first_right s ss k (omega (arith, le))) (
         (
           among_parts s ss n ∙ or_left (is_among n (values range)) (is_among n (stage_writes ranges ss)) here,
           ap (slice_index given) (omega arith)
@@ -214,7 +223,7 @@ module _ (ranges : List ValueRange) (reads : Reading) (tables : Store) (packet :
     all_right (s ∷ ss) once =
         let range = range_at ranges s.instruction in
         let given = results reads false tables packet s.work in
-        each_two (IsRight (s ∷ ss)) (gives range given) (stage_gives ranges ss reads tables packet) (first_right s ss range.count (omega arith))
+        each_append (IsRight (s ∷ ss)) (gives range given) (stage_gives ranges ss reads tables packet) (first_right s ss range.count (omega arith))
         (each_weaker (IsRight ss) (IsRight (s ∷ ss))
         (λ p h. (
           among_parts s ss p.0 ∙ or_right (is_among p.0 (values range)) (is_among p.0 (stage_writes ranges ss)) h.0,

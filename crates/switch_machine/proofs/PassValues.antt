@@ -2,7 +2,7 @@
 use Rattle.std.proofs.Common.{◌≡◌, ◌≢◌, ◌⊎◌, ℕ, zero, suc, ◌+◌, ◌-◌, ◌^◌, ◌==◌, ◌<◌, ◌≤◌, ◌&&◌, Bool, true, false, cond, List, [], ◌∷◌, ◌++◌, length, map, append_assoc, Some, refl, sym, ap, ◌∙◌, subst, inl, inr, arith}
 use Rattle.std.specs.Prelude.{nat_le, Contains}
 use Rattle.std.specs.List.{list_any, filter, range_with_len, AllByRecursion as Each}
-use Rattle.std.proofs.lemmas.Bool.{cases_eq, cond_both, eq-eqb, eqb-true, ne_eqb, and_from, and_parts, or_left, or_right, or_cases, false_from_ne_true, le-leb}
+use Rattle.std.proofs.lemmas.Bool.{cases_eq, cond_both, eq-eqb, ne_eqb, and_from, and_parts, or_left, or_right, or_cases, false_from_ne_true, le-leb}
 use Rattle.std.proofs.lemmas.List.{map-append}
 use Rattle.std.proofs.lemmas.List.Elements.{All-weaker, All-contains, filter-append}
 use Rattle.std.proofs.lemmas.List.Folds.{list_any-append}
@@ -12,41 +12,39 @@ use Rattle.flat_ir.specs.declared.program.ValueId.{ValueId}
 use Rattle.flat_ir.specs.declared.spans.Span.{Span}
 use Rattle.flat_ir.specs.Blocks.{Reading}
 use Rattle.flat_ir.specs.Program.{Work, operands}
-use Rattle.flat_ir.specs.Program.Work.{const, field, apply, shift, select, byte, look, put, del}
+use Rattle.flat_ir.specs.Program.Work.{look}
 use Rattle.flat_ir.specs.Run.{results}
 use Rattle.flat_ir.specs.Spans.{covers, last_step, spans_of}
 use Rattle.split_model.specs.declared.layout.Crossing.{Crossing}
 use Rattle.split_model.specs.Crossing.{is_value}
 use Rattle.split_model.specs.Crossing.{is_among as is_among_values}
-use Rattle.transfer_header.specs.Registers.{Registers, place_of, ArePlaced, HasRegister}
+use Rattle.transfer_header.specs.Registers.{Registers, place_of, HasRegister}
 use Rattle.transfer_header.specs.Steps.{Contents, Steps, is_among, AreKeptApart, AreSpansOf, IsSpanOf}
 use Rattle.switch_ir.specs.declared.code.Table.{Table}
-use Rattle.switch_ir.specs.Passes.{Step, PassCode}
-use Rattle.switch_ir.specs.Spans.{handed_in, is_read_at, is_read_last, pass_spans, results_in, results_of, writes_at, written_by, written_in, GoesByStages, Written}
+use Rattle.switch_ir.specs.Passes.{Step}
+use Rattle.switch_ir.specs.Spans.{handed_in, is_read_at, is_read_last, pass_spans, results_in, results_of, writes_at, written_by, GoesByStages, Written}
 use Rattle.switch_ir.specs.Spans.{steps_of as steps_by_values}
+use Rattle.switch_ir.specs.Staged.{all_values, Staging}
 use Rattle.switch_machine.specs.declared.numbering.ValueRange.{ValueRange}
-use Rattle.switch_machine.specs.Keeping.{numbers_in}
+use Rattle.switch_machine.specs.Keeping.{begins, kept, numbers_in}
 use Rattle.switch_machine.specs.Numbers.{is_number, is_read, number_in, range_at, stage_reads, stage_writes, AreOnce, Pairs}
-use Rattle.switch_machine.specs.Planned.{first_writes, steps_of, AreNumberedApart, FitRanges, IsPlanned}
+use Rattle.switch_machine.specs.Planned.{first_writes, steps_of, AreNumberedApart, FitRanges}
 use Rattle.switch_machine.specs.Ranges.{crossing_entry, entries, step_entry, AreInOrder, AreOthers, AreRanges, Entry}
 use Rattle.switch_machine.specs.Staged.{of_stage}
-use Rattle.switch_machine.proofs.Beginning.{is_the_number, same_value, value_same}
-use Rattle.switch_machine.proofs.Each.{each_two, map_each}
-use Rattle.switch_machine.proofs.InRegisters.{has_span, HasSpan}
-use Rattle.switch_machine.proofs.Members.{any_has, among_has, each_has, filter_has, has_any, has_each, has_left, has_made, has_parts, has_right, made_has, of_contains, pairs_between, pairs_left, pairs_right, to_contains, to_pairs, Has, IsMade}
-use Rattle.switch_machine.proofs.Numbered.{counted_more, each_of_stage, known}
+use Rattle.switch_machine.proofs.Members.{any_has, each_has, has_any, has_each, has_left, has_made, has_parts, has_right, made_has, of_contains, pairs_between, pairs_left, pairs_right, to_contains, to_pairs, Has, IsMade}
+use Rattle.switch_machine.proofs.Numbered.{each_of_stage, is_the_number, same_one, same_value}
 use Rattle.switch_machine.proofs.Ordered.{has_entry, has_number, numbered_apart, right_at, IsLast}
+use Rattle.switch_machine.proofs.SettingUp.{last_up}
+use Rattle.flat_ir.proofs.Exact.{value_same}
+use Rattle.lemmas.proofs.Lists.{each_append, each_map, range_pushed}
+use Rattle.switch_ir.proofs.Laws.{passes_have_spans}
+use Rattle.switch_ir.proofs.Spanned.{written_at}
+use Rattle.switch_ir.proofs.Staging.{written_append}
+use Rattle.transfer_header.proofs.Members.{has_span, HasSpan}
 
 some_results : (tables : List Table) (work : Work) → 0 < results_in tables work
 some_results tables (look object keys) = omega arith
-some_results tables (const width number) = omega arith
-some_results tables (field name) = omega arith
-some_results tables (apply op width args) = omega arith
-some_results tables (shift op width arg by) = omega arith
-some_results tables (select width cond first second) = omega arith
-some_results tables (byte index) = omega arith
-some_results tables (put object keys values) = omega arith
-some_results tables (del object keys) = omega arith
+some_results tables work = omega arith
 
 -- ## What instructions write
 
@@ -64,7 +62,7 @@ value_at s k = record { value = record { instruction = s.instruction; result = k
 results_are : (tables : List Table) (s : Step) (k : ℕ) → k ≤ results_in tables s.work → Each (IsOf tables s) (results_of s k)
 results_are tables s zero le = tt
 results_are tables s (suc k) le =
-    each_two (IsOf tables s) (results_of s k) (value_at s k ∷ []) (results_are tables s k (omega (arith, le)))
+    each_append (IsOf tables s) (results_of s k) (value_at s k ∷ []) (results_are tables s k (omega (arith, le)))
     (record { instruction = refl; result = omega (arith, le); number = refl; stage = refl }, tt)
 
 has_result : (s : Step) (n k : ℕ) → k < n → Has (results_of s n) (value_at s k)
@@ -100,12 +98,6 @@ has_written tables (t ∷ ss) s k (inl same) lt =
 has_written tables (t ∷ ss) s k (inr later) lt =
     has_right (results_of t (results_in tables t.work)) (written_by tables ss) (value_at s k) (has_written tables ss s k later lt)
 
-written_append : (tables : List Table) (xs ys : List Step) → written_by tables (xs ++ ys) ≡ written_by tables xs ++ written_by tables ys
-written_append tables [] ys = refl
-written_append tables (x ∷ xs) ys =
-    ap (λ (ws : List Written). results_of x (results_in tables x.work) ++ ws) (written_append tables xs ys)
-    ∙ sym (append_assoc (results_of x (results_in tables x.work)) (written_by tables xs) (written_by tables ys))
-
 -- ## No instruction stands twice
 
 abbrev Apart : Written → Written → Type 0
@@ -139,25 +131,12 @@ same_step (t ∷ ss) once s other (inr a) (inr b) is = same_step ss once.1 s oth
 
 -- ## What a stage writes
 
--- a value of this number that is written at this step
-record IsWritten (ws : List Written) (t n : ℕ) : Type 0 where
-  pub value : Written
-  pub there : Has ws value
-  pub number : value.number ≡ n
-  pub stage : value.stage ≡ t
-
-of_writes : (ws : List Written) (t n : ℕ) → is_among n (writes_at ws t) ≡ true → IsWritten ws t n
-of_writes ws t n e =
-    let m = has_made (λ (w : Written). w.number) (filter (λ w. w.stage == t) ws) n (among_has n (writes_at ws t) e) in
-    let f = filter_has (λ (w : Written). w.stage == t) ws m.from m.there in
-    record { value = m.from; there = f.0; number = m.is; stage = eqb-true m.from.stage t f.1 }
-
 -- no number is among two lists of values whose numbers are apart
 fresh : (xs ys : List Written) → Pairs Apart (xs ++ ys) → (t n : ℕ) → is_among n (writes_at xs t) ≡ true → is_among n (writes_at ys t) ≡ false
 fresh xs ys pairs t n e = false_from_ne_true (is_among n (writes_at ys t)) (λ there.
-    let a = of_writes xs t n e in
-    let b = of_writes ys t n there in
-    pairs_between Apart xs ys pairs a.value b.value a.there b.there (a.number ∙ sym b.number))
+    let a = written_at xs t n e in
+    let b = written_at ys t n there in
+    pairs_between Apart xs ys pairs a.w b.w (of_contains xs a.w a.there) (of_contains ys b.w b.there) (a.same ∙ sym b.same))
 
 writes_two : (t : ℕ) (xs ys : List Written) → writes_at (xs ++ ys) t ≡ writes_at xs t ++ writes_at ys t
 writes_two t xs ys =
@@ -167,7 +146,7 @@ writes_two t xs ys =
 -- those of an instruction, if it is of the stage
 one_later : (b : Bool) (s : Step) (n : ℕ)
     → cond b (range_with_len s.first n) [] ++ map (λ (w : Written). w.number) (cond b (value_at s n ∷ []) []) ≡ cond b (range_with_len s.first (suc n)) []
-one_later true s n = sym (counted_more s.first n (s.first + n) refl)
+one_later true s n = sym (range_pushed s.first n)
 one_later false s n = refl
 
 results_at : (s : Step) (t n : ℕ) → writes_at (results_of s n) t ≡ cond (s.stage == t) (range_with_len s.first n) []
@@ -191,88 +170,97 @@ none_later (w ∷ ws) t first =
 
 -- ## A pass
 
-module _ (tables : List Table) (handed up : List Crossing) (pass : PassCode)
-    (order : AreInOrder (written_in tables handed pass)) (small : (w : Written) → Contains (written_in tables handed pass) w → suc w.number < 2 ^ 32)
-    (stages : GoesByStages (written_in tables handed pass) pass) (others : AreOthers handed (pass.given ++ pass.steps))
-    (ranges : List ValueRange) (are : AreRanges (entries tables handed pass) ranges) where
+-- the values of a pass stand in order, each with its number and its stage, and these are the ranges of their numbers
+pub record IsRanged (p : Staging) (ranges : List ValueRange) : Type 0 where
+  pub order : AreInOrder (all_values p)
+  pub small : (w : Written) → Contains (all_values p) w → suc w.number < 2 ^ 32
+  pub stages : GoesByStages (all_values p) p.code
+  pub others : AreOthers p.handed (p.code.given ++ p.code.steps)
+  pub are : AreRanges (entries p.tables p.handed p.code) ranges
+
+-- the spans of its values
+abbrev pub its_spans : Staging → List Span
+its_spans p = pass_spans p.tables p.handed p.layout p.code
+
+module _ (p : Staging) (ranges : List ValueRange) (ranged : IsRanged p ranges) where
   abbrev had : List Written
-  had = written_in tables handed pass
+  had = all_values p
 
   abbrev computed : List Written
-  computed = written_by tables pass.given ++ written_by tables pass.steps
+  computed = written_by p.tables p.code.given ++ written_by p.tables p.code.steps
 
   abbrev all_steps : List Step
-  all_steps = pass.given ++ pass.steps
+  all_steps = p.code.given ++ p.code.steps
 
   pairs : Pairs Apart had
-  pairs = to_pairs Apart had stages.apart
+  pairs = to_pairs Apart had ranged.stages.apart
 
   -- the values that it begins with
   abbrev front : List Written
-  front = handed_in handed ++ written_by tables pass.given
+  front = handed_in p.handed ++ written_by p.tables p.code.given
 
-  had_is : had ≡ front ++ written_by tables pass.steps
-  had_is = sym (append_assoc (handed_in handed) (written_by tables pass.given) (written_by tables pass.steps))
+  had_is : had ≡ front ++ written_by p.tables p.code.steps
+  had_is = sym (append_assoc (handed_in p.handed) (written_by p.tables p.code.given) (written_by p.tables p.code.steps))
 
   abbrev handed_value : Crossing → Written
   handed_value c = record { value = c.value; number = c.number; stage = 0 }
 
-  has_handed : (c : Crossing) → Has handed c → Has had (handed_value c)
-  has_handed c h = has_left (handed_in handed) computed (handed_value c) (made_has handed_value handed c h)
+  has_handed : (c : Crossing) → Has p.handed c → Has had (handed_value c)
+  has_handed c h = has_left (handed_in p.handed) computed (handed_value c) (made_has handed_value p.handed c h)
 
-  all_computed : written_by tables all_steps ≡ computed
-  all_computed = written_append tables pass.given pass.steps
+  all_computed : written_by p.tables all_steps ≡ computed
+  all_computed = written_append p.tables p.code.given p.code.steps
 
-  has_all : (s : Step) (k : ℕ) → Has all_steps s → k < results_in tables s.work → Has had (value_at s k)
+  has_all : (s : Step) (k : ℕ) → Has all_steps s → k < results_in p.tables s.work → Has had (value_at s k)
   has_all s k h lt =
-      has_right (handed_in handed) computed (value_at s k) (subst (λ (ws : List Written). Has ws (value_at s k)) all_computed (has_written tables all_steps s k h lt))
+      has_right (handed_in p.handed) computed (value_at s k) (subst (λ (ws : List Written). Has ws (value_at s k)) all_computed (has_written p.tables all_steps s k h lt))
 
   -- a value is handed in, or of an instruction
-  had_cases : (w : Written) → Has had w → IsMade handed_value handed w ⊎ IsWrittenBy tables all_steps w
-  had_cases w h = elim (has_parts (handed_in handed) computed w h) [
-    | inl there ↦ inl (has_made handed_value handed w there)
-    | inr there ↦ inr (written_of tables all_steps w (subst (λ (ws : List Written). Has ws w) (sym all_computed) there))
+  had_cases : (w : Written) → Has had w → IsMade handed_value p.handed w ⊎ IsWrittenBy p.tables all_steps w
+  had_cases w h = elim (has_parts (handed_in p.handed) computed w h) [
+    | inl there ↦ inl (has_made handed_value p.handed w there)
+    | inr there ↦ inr (written_of p.tables all_steps w (subst (λ (ws : List Written). Has ws w) (sym all_computed) there))
   ]
 
   -- a value that it begins with is there at first, and others are of its instructions
   pub first_at : (w : Written) → Has front w → w.stage ≡ 0
-  first_at w h = elim (has_parts (handed_in handed) (written_by tables pass.given) w h) [
+  first_at w h = elim (has_parts (handed_in p.handed) (written_by p.tables p.code.given) w h) [
     | inl there ↦ (
-        let m = has_made handed_value handed w there in
+        let m = has_made handed_value p.handed w there in
         sym (ap (λ (x : Written). x.stage) m.is)
         )
     | inr there ↦ (
-        let b = written_of tables pass.given w there in
-        b.is.stage ∙ each_has (λ (s : Step). s.stage ≡ 0) pass.given stages.given b.step b.there
+        let b = written_of p.tables p.code.given w there in
+        b.is.stage ∙ each_has (λ (s : Step). s.stage ≡ 0) p.code.given ranged.stages.given b.step b.there
         )
   ]
 
-  pub had_parts : (w : Written) → Has had w → Has front w ⊎ IsWrittenBy tables pass.steps w
-  had_parts w h = elim (has_parts front (written_by tables pass.steps) w (subst (λ (ws : List Written). Has ws w) had_is h)) [
+  pub had_parts : (w : Written) → Has had w → Has front w ⊎ IsWrittenBy p.tables p.code.steps w
+  had_parts w h = elim (has_parts front (written_by p.tables p.code.steps) w (subst (λ (ws : List Written). Has ws w) had_is h)) [
     | inl there ↦ inl there
-    | inr there ↦ inr (written_of tables pass.steps w there)
+    | inr there ↦ inr (written_of p.tables p.code.steps w there)
   ]
 
   one_first : OneFirst all_steps
   one_first s other here there same =
       omega (
         arith,
-        order.same (value_at s 0) (value_at other 0)
-            (to_contains had (value_at s 0) (has_all s 0 here (some_results tables s.work)))
-            (to_contains had (value_at other 0) (has_all other 0 there (some_results tables other.work))) same,
+        ranged.order.same (value_at s 0) (value_at other 0)
+            (to_contains had (value_at s 0) (has_all s 0 here (some_results p.tables s.work)))
+            (to_contains had (value_at other 0) (has_all other 0 there (some_results p.tables other.work))) same,
       )
 
   all_once : AreOnce all_steps
-  all_once = once_of tables all_steps (subst (Pairs Apart) (sym all_computed) (pairs_right Apart (handed_in handed) computed pairs)) one_first
+  all_once = once_of p.tables all_steps (subst (Pairs Apart) (sym all_computed) (pairs_right Apart (handed_in p.handed) computed pairs)) one_first
 
-  pub once : AreOnce pass.steps
-  once = pairs_right Differ pass.given pass.steps all_once
+  pub once : AreOnce p.code.steps
+  once = pairs_right Differ p.code.given p.code.steps all_once
 
-  pub given_once : AreOnce pass.given
-  given_once = pairs_left Differ pass.given pass.steps all_once
+  pub given_once : AreOnce p.code.given
+  given_once = pairs_left Differ p.code.given p.code.steps all_once
 
   -- ---- entries
-  crossing_right : (c : Crossing) → Has handed c → IsLast had order small c.value.instruction (c.number - c.value.result) (suc c.value.result)
+  crossing_right : (c : Crossing) → Has p.handed c → IsLast had ranged.order ranged.small c.value.instruction (c.number - c.value.result) (suc c.value.result)
   crossing_right c h =
       let there = to_contains had (handed_value c) (has_handed c h) in
       record {
@@ -280,13 +268,13 @@ module _ (tables : List Table) (handed up : List Crossing) (pass : PassCode)
         there = there;
         instruction = refl;
         count_is = refl;
-        number_is = omega (arith, order.within (handed_value c) there);
+        number_is = omega (arith, ranged.order.within (handed_value c) there);
       }
 
-  step_right : (s : Step) → Has all_steps s → IsLast had order small s.instruction s.first (results_in tables s.work)
+  step_right : (s : Step) → Has all_steps s → IsLast had ranged.order ranged.small s.instruction s.first (results_in p.tables s.work)
   step_right s h =
-      let n = results_in tables s.work in
-      let some = some_results tables s.work in
+      let n = results_in p.tables s.work in
+      let some = some_results p.tables s.work in
       record {
         value = value_at s (n - 1);
         there = to_contains had (value_at s (n - 1)) (has_all s (n - 1) h (omega (arith, some)));
@@ -296,48 +284,48 @@ module _ (tables : List Table) (handed up : List Crossing) (pass : PassCode)
       }
 
   abbrev IsEntry : Entry → Type 0
-  IsEntry e = IsLast had order small e.instruction e.first e.count
+  IsEntry e = IsLast had ranged.order ranged.small e.instruction e.first e.count
 
-  steps_are : map (step_entry tables) all_steps ≡ map (step_entry tables) pass.given ++ map (step_entry tables) pass.steps
-  steps_are = map-append (step_entry tables) pass.given pass.steps
+  steps_are : map (step_entry p.tables) all_steps ≡ map (step_entry p.tables) p.code.given ++ map (step_entry p.tables) p.code.steps
+  steps_are = map-append (step_entry p.tables) p.code.given p.code.steps
 
-  all_right : Each IsEntry (entries tables handed pass)
+  all_right : Each IsEntry (entries p.tables p.handed p.code)
   all_right =
-      each_two IsEntry (map crossing_entry handed) (map (step_entry tables) pass.given ++ map (step_entry tables) pass.steps)
-      (map_each IsEntry crossing_entry handed (has_each (λ c. IsEntry (crossing_entry c)) handed crossing_right))
-      (subst (Each IsEntry) steps_are (map_each IsEntry (step_entry tables) all_steps (has_each (λ s. IsEntry (step_entry tables s)) all_steps step_right)))
+      each_append IsEntry (map crossing_entry p.handed) (map (step_entry p.tables) p.code.given ++ map (step_entry p.tables) p.code.steps)
+      (each_map IsEntry crossing_entry p.handed (has_each (λ c. IsEntry (crossing_entry c)) p.handed crossing_right))
+      (subst (Each IsEntry) steps_are (each_map IsEntry (step_entry p.tables) all_steps (has_each (λ s. IsEntry (step_entry p.tables s)) all_steps step_right)))
 
   pub apart : AreNumberedApart ranges
-  apart = numbered_apart had order small (entries tables handed pass) all_right ranges are
+  apart = numbered_apart had ranged.order ranged.small (entries p.tables p.handed p.code) all_right ranges ranged.are
 
   -- each range has room for the values of an entry
-  enough : (e : Entry) → Has (entries tables handed pass) e → e.count ≤ (range_at ranges e.instruction).count
-  enough = has_entry had order small (entries tables handed pass) all_right ranges are
+  enough : (e : Entry) → Has (entries p.tables p.handed p.code) e → e.count ≤ (range_at ranges e.instruction).count
+  enough = has_entry had ranged.order ranged.small (entries p.tables p.handed p.code) all_right ranges ranged.are
 
-  enough_handed : (c : Crossing) → Has handed c → c.value.result < (range_at ranges c.value.instruction).count
+  enough_handed : (c : Crossing) → Has p.handed c → c.value.result < (range_at ranges c.value.instruction).count
   enough_handed c h =
       omega (
         arith,
-        enough (crossing_entry c) (has_left (map crossing_entry handed) (map (step_entry tables) pass.given ++ map (step_entry tables) pass.steps)
-            (crossing_entry c) (made_has crossing_entry handed c h)),
+        enough (crossing_entry c) (has_left (map crossing_entry p.handed) (map (step_entry p.tables) p.code.given ++ map (step_entry p.tables) p.code.steps)
+            (crossing_entry c) (made_has crossing_entry p.handed c h)),
       )
 
-  enough_step : (s : Step) → Has all_steps s → results_in tables s.work ≤ (range_at ranges s.instruction).count
+  enough_step : (s : Step) → Has all_steps s → results_in p.tables s.work ≤ (range_at ranges s.instruction).count
   enough_step s h =
-      enough (step_entry tables s) (has_right (map crossing_entry handed) (map (step_entry tables) pass.given ++ map (step_entry tables) pass.steps) (step_entry tables s)
-      (subst (λ (es : List Entry). Has es (step_entry tables s)) steps_are (made_has (step_entry tables) all_steps s h)))
+      enough (step_entry p.tables s) (has_right (map crossing_entry p.handed) (map (step_entry p.tables) p.code.given ++ map (step_entry p.tables) p.code.steps) (step_entry p.tables s)
+      (subst (λ (es : List Entry). Has es (step_entry p.tables s)) steps_are (made_has (step_entry p.tables) all_steps s h)))
 
   -- the range of an instruction has just its values
-  pub range_is : (s : Step) → Has all_steps s → ((range_at ranges s.instruction).count ≡ results_in tables s.work) × ((range_at ranges s.instruction).first ≡ s.first)
-  range_is s h = elim (right_at had order small (entries tables handed pass) all_right ranges are s.instruction) [
-    | inl none ↦ absurd (omega (arith, none, enough_step s h, some_results tables s.work))
+  pub range_is : (s : Step) → Has all_steps s → ((range_at ranges s.instruction).count ≡ results_in p.tables s.work) × ((range_at ranges s.instruction).first ≡ s.first)
+  range_is s h = elim (right_at had ranged.order ranged.small (entries p.tables p.handed p.code) all_right ranges ranged.are s.instruction) [
+    | inl none ↦ absurd (omega (arith, none, enough_step s h, some_results p.tables s.work))
     | inr last ↦ elim (had_cases last.value (of_contains had last.value last.there)) [
       | inl m ↦ absurd (each_has (λ (u : Step). m.from.value.instruction ≢ u.instruction) all_steps
-          (each_has (λ (c : Crossing). Each (λ (u : Step). c.value.instruction ≢ u.instruction) all_steps) handed others m.from m.there) s h
+          (each_has (λ (c : Crossing). Each (λ (u : Step). c.value.instruction ≢ u.instruction) all_steps) p.handed ranged.others m.from m.there) s h
           (ap (λ (w : Written). w.value.instruction) m.is ∙ last.instruction))
       | inr b ↦ (
           let same : b.step ≡ s = same_step all_steps all_once b.step s b.there h (sym b.is.instruction ∙ last.instruction) in (
-            omega (arith, enough_step s h, last.count_is, b.is.result, ap (λ (u : Step). results_in tables u.work) same),
+            omega (arith, enough_step s h, last.count_is, b.is.result, ap (λ (u : Step). results_in p.tables u.work) same),
             omega (arith, last.number_is, b.is.number, ap (λ (u : Step). u.first) same),
           )
           )
@@ -347,53 +335,43 @@ module _ (tables : List Table) (handed up : List Crossing) (pass : PassCode)
   -- each value has its number
   pub has_its_number : (w : Written) → Has had w → number_in ranges w.value ≡ Some w.number
   has_its_number w h =
-      has_number had order small (entries tables handed pass) all_right ranges are w (to_contains had w h) (elim (had_cases w h) [
+      has_number had ranged.order ranged.small (entries p.tables p.handed p.code) all_right ranges ranged.are w (to_contains had w h) (elim (had_cases w h) [
         | inl m ↦ subst (λ (u : Written). u.value.result < (range_at ranges u.value.instruction).count) m.is (enough_handed m.from m.there)
         | inr b ↦ omega (arith, b.is.result, (range_is b.step b.there).0, ap (λ i. (range_at ranges i).count) b.is.instruction)
       ])
 
   pub same_by_number : (w : Written) → Has had w → (v : ValueId) → number_in ranges v ≡ Some w.number → w.value ≡ v
-  same_by_number w h v is =
-      let mine = has_its_number w h in
-      let same = apart w.value v w.number mine is in
-      value_same w.value v (same_value w.value v same
-      (omega (arith, (known ranges w.value w.number mine).1, (known ranges v w.number is).1, ap (λ i. (range_at ranges i).first) same)))
+  same_by_number w h v is = value_same w.value v (same_one ranges apart w.value v w.number (has_its_number w h) is)
 
-  pub handed_known : Each (λ (c : Crossing). number_in ranges c.value ≡ Some c.number) handed
-  handed_known = has_each (λ (c : Crossing). number_in ranges c.value ≡ Some c.number) handed (λ c h. has_its_number (handed_value c) (has_handed c h))
-
-  given_among : (s : Step) → Has pass.given s → Has all_steps s
-  given_among s h = has_left pass.given pass.steps s h
-
-  steps_among : (s : Step) → Has pass.steps s → Has all_steps s
-  steps_among s h = has_right pass.given pass.steps s h
+  pub handed_known : Each (λ (c : Crossing). number_in ranges c.value ≡ Some c.number) p.handed
+  handed_known = has_each (λ (c : Crossing). number_in ranges c.value ≡ Some c.number) p.handed (λ c h. has_its_number (handed_value c) (has_handed c h))
 
   fits : (ss : List Step) → ((s : Step) → Has ss s → Has all_steps s) → (seen : Store) (packet : Packet)
-      → ((reads : Reading) (s : Step) → length (results reads false seen packet s.work) ≤ results_in tables s.work) → FitRanges ranges ss seen packet
+      → ((reads : Reading) (s : Step) → length (results reads false seen packet s.work) ≤ results_in p.tables s.work) → FitRanges ranges ss seen packet
   fits ss among seen packet few reads =
       has_each (λ (s : Step). length (results reads false seen packet s.work) ≤ (range_at ranges s.instruction).count) ss
       (λ s h. omega (arith, few reads s, (range_is s (among s h)).0))
 
-  pub steps_fit : (seen : Store) (packet : Packet) → ((reads : Reading) (s : Step) → length (results reads false seen packet s.work) ≤ results_in tables s.work)
-      → FitRanges ranges pass.steps seen packet
-  steps_fit = fits pass.steps steps_among
+  pub steps_fit : (seen : Store) (packet : Packet) → ((reads : Reading) (s : Step) → length (results reads false seen packet s.work) ≤ results_in p.tables s.work)
+      → FitRanges ranges p.code.steps seen packet
+  steps_fit = fits p.code.steps (has_right p.code.given p.code.steps)
 
-  pub given_fit : (packet : Packet) → ((reads : Reading) (s : Step) → length (results reads false [] packet s.work) ≤ results_in tables s.work)
-      → FitRanges ranges pass.given [] packet
-  given_fit = fits pass.given given_among []
+  pub given_fit : (packet : Packet) → ((reads : Reading) (s : Step) → length (results reads false [] packet s.work) ≤ results_in p.tables s.work)
+      → FitRanges ranges p.code.given [] packet
+  given_fit = fits p.code.given (has_left p.code.given p.code.steps) []
 
   -- ---- writes
   -- by ranges a stage writes what its values are
-  stage_is : (ss : List Step) → ((s : Step) → Has ss s → Has all_steps s) → (t : ℕ) → writes_at (written_by tables ss) t ≡ stage_writes ranges (of_stage t ss)
+  stage_is : (ss : List Step) → ((s : Step) → Has ss s → Has all_steps s) → (t : ℕ) → writes_at (written_by p.tables ss) t ≡ stage_writes ranges (of_stage t ss)
   stage_is [] among t = refl
   stage_is (s ∷ ss) among t =
-      writes_two t (results_of s n) (written_by tables ss)
+      writes_two t (results_of s n) (written_by p.tables ss)
       ∙ ap (λ (ns : List ℕ). writes_at (results_of s n) t ++ ns) (stage_is ss (λ u h. among u (inr h)) t)
       ∙ ap (λ (ns : List ℕ). ns ++ stage_writes ranges (of_stage t ss)) (results_at s t n)
       ∙ one (s.stage == t)
     where
       n : ℕ
-      n = results_in tables s.work
+      n = results_in p.tables s.work
 
       one : (b : Bool) → cond b (range_with_len s.first n) [] ++ stage_writes ranges (of_stage t ss) ≡ stage_writes ranges (cond b (s ∷ []) [] ++ of_stage t ss)
       one true =
@@ -403,45 +381,48 @@ module _ (tables : List Table) (handed up : List Crossing) (pass : PassCode)
           ∙ ap (λ k. range_with_len range.first k ++ stage_writes ranges (of_stage t ss)) (sym is.0)
       one false = refl
 
-  abbrev pub begins : List ℕ
-  begins = numbers_in handed ++ stage_writes ranges (of_stage 0 pass.given)
+  abbrev starts : List ℕ
+  starts = begins ranges p
 
-  front_at : (t : ℕ) → writes_at front t ≡ first_writes begins t
+  abbrev spans : List Span
+  spans = its_spans p
+
+  front_at : (t : ℕ) → writes_at front t ≡ first_writes starts t
   front_at zero =
-      writes_two 0 (handed_in handed) (written_by tables pass.given)
-      ∙ ap (λ (ns : List ℕ). ns ++ writes_at (written_by tables pass.given) 0) (handed_at handed)
-      ∙ ap (λ (ns : List ℕ). numbers_in handed ++ ns) (stage_is pass.given given_among 0)
+      writes_two 0 (handed_in p.handed) (written_by p.tables p.code.given)
+      ∙ ap (λ (ns : List ℕ). ns ++ writes_at (written_by p.tables p.code.given) 0) (handed_at p.handed)
+      ∙ ap (λ (ns : List ℕ). numbers_in p.handed ++ ns) (stage_is p.code.given (has_left p.code.given p.code.steps) 0)
   front_at (suc t) = none_later front t (has_each (λ (w : Written). w.stage ≡ 0) front first_at)
 
-  writes_are : (t : ℕ) → writes_at had t ≡ first_writes begins t ++ stage_writes ranges (of_stage t pass.steps)
+  writes_are : (t : ℕ) → writes_at had t ≡ first_writes starts t ++ stage_writes ranges (of_stage t p.code.steps)
   writes_are t =
       ap (λ (ws : List Written). writes_at ws t) had_is
-      ∙ writes_two t front (written_by tables pass.steps)
-      ∙ ap (λ (ns : List ℕ). ns ++ writes_at (written_by tables pass.steps) t) (front_at t)
-      ∙ ap (λ (ns : List ℕ). first_writes begins t ++ ns) (stage_is pass.steps steps_among t)
+      ∙ writes_two t front (written_by p.tables p.code.steps)
+      ∙ ap (λ (ns : List ℕ). ns ++ writes_at (written_by p.tables p.code.steps) t) (front_at t)
+      ∙ ap (λ (ns : List ℕ). first_writes starts t ++ ns) (stage_is p.code.steps (has_right p.code.given p.code.steps) t)
 
-  front_apart : Pairs Apart (front ++ written_by tables pass.steps)
+  front_apart : Pairs Apart (front ++ written_by p.tables p.code.steps)
   front_apart = subst (Pairs Apart) had_is pairs
 
   -- the number of what is handed is that of no value that the pass is given
-  pub handed_fresh : (n : ℕ) → is_among n (numbers_in handed) ≡ true → is_among n (stage_writes ranges (of_stage 0 pass.given)) ≡ false
+  pub handed_fresh : (n : ℕ) → is_among n (numbers_in p.handed) ≡ true → is_among n (stage_writes ranges (of_stage 0 p.code.given)) ≡ false
   handed_fresh n e =
-      ap (is_among n) (sym (stage_is pass.given given_among 0))
-      ∙ fresh (handed_in handed) (written_by tables pass.given) (pairs_left Apart front (written_by tables pass.steps) front_apart) 0 n
-      (ap (is_among n) (handed_at handed) ∙ e)
+      ap (is_among n) (sym (stage_is p.code.given (has_left p.code.given p.code.steps) 0))
+      ∙ fresh (handed_in p.handed) (written_by p.tables p.code.given) (pairs_left Apart front (written_by p.tables p.code.steps) front_apart) 0 n
+      (ap (is_among n) (handed_at p.handed) ∙ e)
 
   -- no stage writes what the pass begins with
-  pub begins_fresh : (n : ℕ) → is_among n begins ≡ true → is_among n (stage_writes ranges (of_stage 0 pass.steps)) ≡ false
+  pub begins_fresh : (n : ℕ) → is_among n starts ≡ true → is_among n (stage_writes ranges (of_stage 0 p.code.steps)) ≡ false
   begins_fresh n e =
-      ap (is_among n) (sym (stage_is pass.steps steps_among 0))
-      ∙ fresh front (written_by tables pass.steps) front_apart 0 n (ap (is_among n) (front_at 0) ∙ e)
+      ap (is_among n) (sym (stage_is p.code.steps (has_right p.code.given p.code.steps) 0))
+      ∙ fresh front (written_by p.tables p.code.steps) front_apart 0 n (ap (is_among n) (front_at 0) ∙ e)
 
-  module _ (kept : List ValueId) (last : Each (λ v. is_read_last up pass v ≡ true) kept) (number : ℕ → Contents → Contents) where
+  module _ (number : ℕ → Contents → Contents) where
     abbrev mine : Steps
-    mine = steps_of ranges pass begins kept number
+    mine = steps_of ranges p.code starts (kept p) number
 
     abbrev theirs : Steps
-    theirs = steps_by_values tables handed up pass number
+    theirs = steps_by_values p.tables p.handed p.layout p.code number
 
     -- what is among what one writes is among what the other does
     among_both : (t n : ℕ) → is_among n (theirs.writes t) ≡ is_among n (mine.writes t)
@@ -452,30 +433,30 @@ module _ (tables : List Table) (handed up : List Crossing) (pass : PassCode)
     record IsReadBy (t n : ℕ) : Type 0 where
       value : ValueId
       has : number_in ranges value ≡ Some n
-      is : is_read_at up pass t value ≡ true
+      is : is_read_at p.layout p.code t value ≡ true
 
-    by_number : (t n : ℕ) (vs : List ValueId) → ((v : ValueId) → Has vs v → is_read_at up pass t v ≡ true) → is_read ranges vs n ≡ true → IsReadBy t n
+    by_number : (t n : ℕ) (vs : List ValueId) → ((v : ValueId) → Has vs v → is_read_at p.layout p.code t v ≡ true) → is_read ranges vs n ≡ true → IsReadBy t n
     by_number t n vs read e =
         let p = any_has (λ v. is_number (number_in ranges v) n) vs e in
         record { value = p.one; has = is_the_number (number_in ranges p.one) n p.is; is = read p.one p.there }
 
     my_read : (t n : ℕ) → mine.reads t n ≡ true → IsReadBy t n
-    my_read t n e = elim (or_cases (stage_reads ranges (of_stage t pass.steps) n) (t == suc pass.highest && is_read ranges kept n) e) [
+    my_read t n e = elim (or_cases (stage_reads ranges (of_stage t p.code.steps) n) (t == suc p.code.highest && is_read ranges (kept p) n) e) [
       | inl stage ↦ (
-          let p = any_has (λ (s : Step). is_read ranges (operands s.work) n) (of_stage t pass.steps) stage in
-          let at = each_has (λ (s : Step). Has pass.steps s × (s.stage ≡ t)) (of_stage t pass.steps)
-          (each_of_stage (λ (s : Step). Has pass.steps s × (s.stage ≡ t)) t pass.steps (λ s h is. (h, is))) p.one p.there in
-          by_number t n (operands p.one.work) (λ v h.
-          or_left (list_any (λ (u : Step). u.stage == t && is_among_values v (operands u.work)) pass.steps) (t == suc pass.highest && is_read_last up pass v)
-          (has_any (λ (u : Step). u.stage == t && is_among_values v (operands u.work)) pass.steps p.one at.0
-          (and_from (p.one.stage == t) (is_among_values v (operands p.one.work)) (eq-eqb p.one.stage t at.1)
-          (has_any (is_value v) (operands p.one.work) v h (same_value v v refl refl))))) p.is
+          let q = any_has (λ (s : Step). is_read ranges (operands s.work) n) (of_stage t p.code.steps) stage in
+          let at = each_has (λ (s : Step). Has p.code.steps s × (s.stage ≡ t)) (of_stage t p.code.steps)
+          (each_of_stage (λ (s : Step). Has p.code.steps s × (s.stage ≡ t)) t p.code.steps (λ s h is. (h, is))) q.one q.there in
+          by_number t n (operands q.one.work) (λ v h.
+          or_left (list_any (λ (u : Step). u.stage == t && is_among_values v (operands u.work)) p.code.steps) (t == suc p.code.highest && is_read_last p.layout p.code v)
+          (has_any (λ (u : Step). u.stage == t && is_among_values v (operands u.work)) p.code.steps q.one at.0
+          (and_from (q.one.stage == t) (is_among_values v (operands q.one.work)) (eq-eqb q.one.stage t at.1)
+          (has_any (is_value v) (operands q.one.work) v h (same_value v v refl refl))))) q.is
           )
       | inr end ↦ (
-          let parts = and_parts (t == suc pass.highest) (is_read ranges kept n) end in
-          by_number t n kept (λ v h.
-          or_right (list_any (λ (u : Step). u.stage == t && is_among_values v (operands u.work)) pass.steps) (t == suc pass.highest && is_read_last up pass v)
-          (and_from (t == suc pass.highest) (is_read_last up pass v) parts.0 (each_has (λ u. is_read_last up pass u ≡ true) kept last v h))) parts.1
+          let parts = and_parts (t == suc p.code.highest) (is_read ranges (kept p) n) end in
+          by_number t n (kept p) (λ v h.
+          or_right (list_any (λ (u : Step). u.stage == t && is_among_values v (operands u.work)) p.code.steps) (t == suc p.code.highest && is_read_last p.layout p.code v)
+          (and_from (t == suc p.code.highest) (is_read_last p.layout p.code v) parts.0 (each_has (λ u. is_read_last p.layout p.code u ≡ true) (kept p) (last_up p.layout p.code) v h))) parts.1
           )
     ]
 
@@ -483,12 +464,15 @@ module _ (tables : List Table) (handed up : List Crossing) (pass : PassCode)
     reads_theirs t n e w h is =
         let r = my_read t n e in
         let same = same_by_number w h r.value (r.has ∙ ap (λ k. Some k) (sym is)) in
-        has_any (λ (u : Written). u.number == n && is_read_at up pass t u.value) had w h
-        (and_from (w.number == n) (is_read_at up pass t w.value) (eq-eqb w.number n is) (ap (is_read_at up pass t) same ∙ r.is))
+        has_any (λ (u : Written). u.number == n && is_read_at p.layout p.code t u.value) had w h
+        (and_from (w.number == n) (is_read_at p.layout p.code t w.value) (eq-eqb w.number n is) (ap (is_read_at p.layout p.code t) same ∙ r.is))
 
     -- ---- spans
-    pub spans_mine : (spans : List Span) → AreSpansOf theirs spans → AreSpansOf mine spans
-    spans_mine spans of = record {
+    of : AreSpansOf theirs spans
+    of = passes_have_spans p.tables p.handed p.layout p.code number ranged.stages
+
+    pub spans_are : AreSpansOf mine spans
+    spans_are = record {
       written = λ t n e. of.written t n (among_both t n ∙ e);
       read = λ t n e. elim (cases_eq (spans_of spans n) 0) [
         | inl none ↦ inr (record {
@@ -502,51 +486,37 @@ module _ (tables : List Table) (handed up : List Crossing) (pass : PassCode)
             )
       ];
       each = All-weaker (IsSpanOf theirs) (IsSpanOf mine) (λ span is.
-          let w = of_writes had span.from span.value is.first in
+          let at = written_at had span.from span.value is.first in
           record {
             first = sym (among_both span.from span.value) ∙ is.first;
             once = λ t e. is.once t (among_both t span.value ∙ e);
-            after = λ t e. is.after t (reads_theirs t span.value e w.value w.there w.number);
-            last = λ t e. is.last t (reads_theirs t span.value e w.value w.there w.number);
+            after = λ t e. is.after t (reads_theirs t span.value e at.w (of_contains had at.w at.there) at.same);
+            last = λ t e. is.last t (reads_theirs t span.value e at.w (of_contains had at.w at.there) at.same);
           }) spans of.each;
     }
 
     -- ---- registers
-    module _ (spans : List Span) (of : AreSpansOf theirs spans) (registers : Registers) (kept_apart : AreKeptApart spans registers) where
-      in_first : (n : ℕ) → is_among n begins ≡ true → is_among n (theirs.writes 0) ≡ true
+    module _ (registers : Registers) (kept_apart : AreKeptApart spans registers) where
+      in_first : (n : ℕ) → is_among n starts ≡ true → is_among n (theirs.writes 0) ≡ true
       in_first n e =
-          among_both 0 n ∙ list_any-append (λ (w : ℕ). w == n) begins (stage_writes ranges (of_stage 0 pass.steps))
-          ∙ or_left (is_among n begins) (is_among n (stage_writes ranges (of_stage 0 pass.steps))) e
+          among_both 0 n ∙ list_any-append (λ (w : ℕ). w == n) starts (stage_writes ranges (of_stage 0 p.code.steps))
+          ∙ or_left (is_among n starts) (is_among n (stage_writes ranges (of_stage 0 p.code.steps))) e
 
-      first_span : (n : ℕ) → is_among n begins ≡ true → HasSpan spans n
+      first_span : (n : ℕ) → is_among n starts ≡ true → HasSpan spans n
       first_span n e = has_span spans n (omega (arith, of.written 0 n (in_first n e)))
 
-      pub begin_register : (n : ℕ) → is_among n begins ≡ true → HasRegister registers n
+      pub begin_register : (n : ℕ) → is_among n starts ≡ true → HasRegister registers n
       begin_register n e = let h = first_span n e in subst (HasRegister registers) h.same (kept_apart.has h.span h.there)
 
-      needed_first : (n : ℕ) → is_among n begins ≡ true → (h : HasSpan spans n) → covers 0 h.span ≡ true
+      needed_first : (n : ℕ) → is_among n starts ≡ true → (h : HasSpan spans n) → covers 0 h.span ≡ true
       needed_first n e h =
           let is = All-contains (IsSpanOf theirs) spans h.span of.each h.there in
           let at : 0 ≡ h.span.from = is.once 0 (ap (λ m. is_among m (theirs.writes 0)) h.same ∙ in_first n e) in
           and_from (nat_le h.span.from 0) (nat_le 0 (last_step h.span)) (le-leb h.span.from 0 (omega (arith, at))) (le-leb 0 (last_step h.span) (omega arith))
 
-      pub begin_apart : (n m : ℕ) → is_among n begins ≡ true → is_among m begins ≡ true → n ≢ m → place_of registers n ≢ place_of registers m
+      pub begin_apart : (n m : ℕ) → is_among n starts ≡ true → is_among m starts ≡ true → n ≢ m → place_of registers n ≢ place_of registers m
       begin_apart n m a b differ same =
           let h = first_span n a in
           let k = first_span m b in
           kept_apart.apart h.span k.span 0 h.there k.there (λ e. differ (sym h.same ∙ e ∙ k.same)) (needed_first n a h) (needed_first m b k)
           (ap (place_of registers) h.same ∙ same ∙ sym (ap (place_of registers) k.same))
-
-  -- registers in which needed values are apart are planned for the pass
-  pub planned_by : (kept : List ValueId) → Each (λ v. is_read_last up pass v ≡ true) kept
-      → ((number : ℕ → Contents → Contents) → AreSpansOf (steps_by_values tables handed up pass number) (pass_spans tables handed up pass))
-      → (registers : Registers) → AreKeptApart (pass_spans tables handed up pass) registers → ArePlaced registers
-      → IsPlanned ranges pass kept begins (pass_spans tables handed up pass) registers
-  planned_by kept last law registers kept_apart placed = record {
-    are = λ number. spans_mine kept last number (pass_spans tables handed up pass) (law number);
-    apart = kept_apart;
-    placed = placed;
-    numbered = apart;
-    once = once;
-    fresh = begins_fresh;
-  }

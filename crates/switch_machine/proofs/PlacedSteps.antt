@@ -1,7 +1,7 @@
 -- Instructions by place, one after the other.
-use Rattle.std.proofs.Common.{◌≡◌, ◌∙◌, ◌<◌, ◌+◌, ◌++◌, ℕ, zero, suc, false, List, [], ◌∷◌, length, map, drop, refl, sym, ap, subst, add-one, arith, get_or}
+use Rattle.std.proofs.Common.{◌≡◌, ◌∙◌, ◌<◌, ◌+◌, ℕ, zero, suc, false, List, [], ◌∷◌, length, map, drop, refl, sym, ap, subst, add-one, arith, get_or}
 use Rattle.std.specs.List.{AllByRecursion as Each}
-use Rattle.std.specs.Prelude.{slice_index, slice_index_or}
+use Rattle.std.specs.Prelude.{slice_index_or}
 use Rattle.std.proofs.lemmas.List.{length-map, length-set}
 use Rattle.std.proofs.Math.ListN.{get_or-map}
 use Rattle.packet_fields.specs.declared.packet.Packet.{Packet}
@@ -12,32 +12,16 @@ use Rattle.flat_ir.specs.Program.{work_of}
 use Rattle.flat_ir.specs.Run.{results}
 use Rattle.transfer_header.specs.Registers.{Registers, placed}
 use Rattle.switch_machine.specs.declared.ready.ReadyStep.{ReadyStep}
-use Rattle.switch_machine.specs.Ready.{all_placed, first_placed, placed_at, placed_gives, places_of, reads_at, ready_at, ready_gives, ready_of, CanReady}
-use Rattle.switch_machine.proofs.Each.{each_at}
-use Rattle.switch_machine.proofs.Lists.{ahead}
-
--- numbers that are put behind others
-pub placed_behind : (registers : Registers) (ps qs : List (ℕ × ℕ)) → all_placed registers (ps ++ qs) ≡ all_placed (all_placed registers ps) qs
-placed_behind registers [] qs = refl
-placed_behind registers (p ∷ ps) qs = placed_behind (placed registers p.0 p.1) ps qs
-
--- one result more is put into its register
-pub put_more : (places given : List ℕ) (k : ℕ) (start before after : Registers) (place number : ℕ) → before ≡ all_placed start (first_placed places given k)
-    → after ≡ placed before place number → place ≡ slice_index places k → number ≡ slice_index given k
-    → after ≡ all_placed start (first_placed places given (k + 1))
-put_more places given k start before after place number is more here so =
-    more ∙ ap (λ (rs : Registers). placed rs place number) is
-    ∙ ap (λ (p : ℕ). placed (all_placed start (first_placed places given k)) p number) here
-    ∙ ap (λ (n : ℕ). placed (all_placed start (first_placed places given k)) (slice_index places k) n) so
-    ∙ sym (placed_behind start (first_placed places given k) ((slice_index places k, slice_index given k) ∷ []))
-    ∙ ap (λ (m : ℕ). all_placed start (first_placed places given m)) (sym (add-one k))
+use Rattle.switch_machine.specs.Ready.{all_placed, placed_at, placed_gives, places_of, reads_at, ready_at, ready_gives, ready_of, CanReady}
+use Rattle.lemmas.proofs.Lists.{each_or, folded_item}
+use Rattle.transfer_header.proofs.PlacedNumbers.{placed_behind}
 
 -- an instruction that is placed can be computed
 pub ready_can : (steps : List ReadyStep) (i : ℕ) (s : ReadyStep) → Each CanReady (map ready_of steps) → i < length steps → s ≡ get_or steps i s
     → CanRun (work_of s.kind)
 ready_can steps i s can lt is =
     subst CanReady (get_or-map ready_of steps i s ∙ ap ready_of (sym is))
-    (each_at CanReady (map ready_of steps) i (ready_of s) can (omega (arith, lt, length-map steps ready_of)))
+    (each_or CanReady (map ready_of steps) i (ready_of s) can (omega (arith, lt, length-map steps ready_of)))
 
 -- one instruction more is computed
 pub ready_more : (reads : Reading) (tables : Store) (packet : Packet) (steps : List ReadyStep) (i : ℕ) (s : ReadyStep) (before after all : Registers)
@@ -50,7 +34,7 @@ ready_more reads tables packet steps i s before after all lt is more so =
     let rest = ready_gives (map ready_of (drop (i + 1) steps)) reads tables packet in
     ap (λ (rs : Registers). all_placed rs rest) more
     ∙ sym (placed_behind before one rest)
-    ∙ ap (λ (ss : List ReadyStep). all_placed before (ready_gives (map ready_of ss) reads tables packet)) (sym (ahead steps i s lt is))
+    ∙ sym (folded_item (λ ss. all_placed before (ready_gives (map ready_of ss) reads tables packet)) steps i s lt is)
     ∙ so
 
 -- ## Stages

@@ -17,7 +17,7 @@ use Rattle.switch_machine.specs.Planned.{registers_at, stage_done}
 use Rattle.switch_machine.specs.Ready.{all_placed, by_place, known_place, no_place, place_in, place_name, placed_at, reads_at, ready_at, ready_gives, AreReady}
 use Rattle.switch_machine.specs.Staged.{of_stage}
 use Rattle.switch_machine.proofs.PlacedSteps.{count_placed_at, plan_placed_at}
-use Rattle.switch_machine.proofs.Writing.{size_by}
+use Rattle.transfer_header.proofs.Writes.{size_by}
 
 -- ## One value
 
@@ -60,16 +60,16 @@ module _ (ranges : List ValueRange) (plan : RegisterPlan) (steps : List Step) (h
     (are : AreReady ranges plan steps highest stages) (tables : Store) (packet : Packet) where
   module _ (registers : Registers) (planned : registers.plan ≡ Some plan) (few : length registers.numbers < 2 ^ 32) (t : ℕ) (le : t ≤ highest) where
     -- what a stage gives is written by place as by number
-    pub stage_is : (reads : Reading) → all_placed registers (ready_gives (ready_at stages t) reads tables packet)
+    pub stage_by_place : (reads : Reading) → all_placed registers (ready_gives (ready_at stages t) reads tables packet)
         ≡ pairs_written registers (stage_gives ranges (of_stage t steps) (λ v. reads (place_name ranges plan v)) tables packet)
-    stage_is reads =
+    stage_by_place reads =
         ap (all_placed registers) (are.gives t le reads tables packet)
         ∙ all_is plan (stage_gives ranges (of_stage t steps) (λ v. reads (place_name ranges plan v)) tables packet) registers planned few
 
     -- from the numbers that were there before it
-    pub one_is : all_placed registers (ready_gives (ready_at stages t) (reads_at registers.numbers) tables packet) ≡ stage_done ranges steps t tables packet registers
-    one_is =
-        stage_is (reads_at registers.numbers)
+    pub step_by_place : all_placed registers (ready_gives (ready_at stages t) (reads_at registers.numbers) tables packet) ≡ stage_done ranges steps t tables packet registers
+    step_by_place =
+        stage_by_place (reads_at registers.numbers)
         ∙ ap (λ (reads : Reading). pairs_written registers (stage_gives ranges (of_stage t steps) reads tables packet)) (reads_same plan registers planned few ranges)
 
 -- the registers are the same before each stage
@@ -80,10 +80,10 @@ module _ (ranges : List ValueRange) (plan : RegisterPlan) (pass : PassCode) (sta
   unfolding placed_at registers_at
   stages_are zero le = refl
   stages_are (suc t) le =
-      one_is ranges plan pass.steps pass.highest stages are tables packet (placed_at stages tables packet start t)
+      step_by_place ranges plan pass.steps pass.highest stages are tables packet (placed_at stages tables packet start t)
       (plan_placed_at stages tables packet start t ∙ planned) (omega (arith, few, count_placed_at stages tables packet start t)) t (omega (arith, le))
       ∙ ap (stage_done ranges pass.steps t tables packet) (stages_are t (omega (arith, le)))
 
   -- and after the last
-  pub pass_is : placed_at stages tables packet start (length stages) ≡ registers_at ranges pass tables packet start (suc pass.highest)
-  pass_is = ap (placed_at stages tables packet start) are.count ∙ stages_are (suc pass.highest) (omega arith)
+  pub pass_by_place : placed_at stages tables packet start (length stages) ≡ registers_at ranges pass tables packet start (suc pass.highest)
+  pass_by_place = ap (placed_at stages tables packet start) are.count ∙ stages_are (suc pass.highest) (omega arith)

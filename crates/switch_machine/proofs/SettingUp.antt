@@ -20,9 +20,10 @@ use Rattle.switch_ir.specs.Meaning.{leaves}
 use Rattle.switch_ir.specs.Passes.{PassCode}
 use Rattle.switch_ir.specs.Spans.{is_condition, is_read_last, is_tested}
 use Rattle.switch_machine.specs.Keeping.{conditions, left_with, lines_of, values_in}
-use Rattle.switch_machine.proofs.Beginning.{same_value}
-use Rattle.switch_machine.proofs.Each.{each_two}
+use Rattle.switch_machine.proofs.Numbered.{same_value}
 use Rattle.switch_machine.proofs.Members.{has_any, has_each, has_made, has_parts, Has}
+use Rattle.flat_ir.proofs.Laws.{readings_that_agree-live}
+use Rattle.lemmas.proofs.Lists.{each_append}
 
 -- ## What is kept is read last
 
@@ -82,8 +83,8 @@ module _ (up : List Crossing) (pass : PassCode) where
 
   pub last_up : Each IsLast (values_in up ++ (lines_of pass.blocks pass.rest ++ left_with pass))
   last_up =
-      each_two IsLast (values_in up) (lines_of pass.blocks pass.rest ++ left_with pass) (has_each IsLast (values_in up) crossing_one)
-      (each_two IsLast (lines_of pass.blocks pass.rest) (left_with pass) (has_each IsLast (lines_of pass.blocks pass.rest) tested_one) (has_each IsLast (left_with pass) left_one))
+      each_append IsLast (values_in up) (lines_of pass.blocks pass.rest ++ left_with pass) (has_each IsLast (values_in up) crossing_one)
+      (each_append IsLast (lines_of pass.blocks pass.rest) (left_with pass) (has_each IsLast (lines_of pass.blocks pass.rest) tested_one) (has_each IsLast (left_with pass) left_one))
 
 -- ## Readings that agree on what is kept
 
@@ -120,8 +121,7 @@ with_blocks blocks = record {
   fields = [];
 }
 
-module _ (r r' : Reading) (blocks : List Block)
-    (law : (f : Program) (k : ℕ) → Each (EachCondition f (Same r r')) (line f.blocks k) → is_live f.blocks r k ≡ is_live f.blocks r' k) where
+module _ (r r' : Reading) (blocks : List Block) where
   conditions_same : (ks : List ℕ) → Alike r r' (conditions blocks ks) → Each (EachCondition (with_blocks blocks) (Same r r')) ks
   conditions_same [] h = tt
   conditions_same (zero ∷ ks) h = (tt, conditions_same ks h)
@@ -131,5 +131,5 @@ module _ (r r' : Reading) (blocks : List Block)
   tested_same [] h = refl
   tested_same (b ∷ bs) h =
       ap (λ x. x || list_any (is_live blocks r) bs)
-      (law (with_blocks blocks) b (conditions_same (line blocks b) (alike_left r r' (conditions blocks (line blocks b)) (lines_of blocks bs) h)))
+      (readings_that_agree-live (with_blocks blocks) r r' b (conditions_same (line blocks b) (alike_left r r' (conditions blocks (line blocks b)) (lines_of blocks bs) h)))
       ∙ ap (λ x. is_live blocks r' b || x) (tested_same bs (alike_right r r' (conditions blocks (line blocks b)) (lines_of blocks bs) h))

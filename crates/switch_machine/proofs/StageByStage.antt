@@ -1,7 +1,6 @@
 -- A pass whose stages are taken one by one, in its registers.
-use Rattle.std.proofs.Common.{◌≡◌, ℕ, suc, ◌==◌, ◌<◌, ◌≤◌, ◌^◌, Bool, true, false, cond, ◌&&◌, List, [], ◌∷◌, ◌++◌, Some, None, IsSome, unwrap_or, refl, sym, ap, ◌∙◌, subst, inl, inr, arith, slice_index}
+use Rattle.std.proofs.Common.{◌≡◌, ℕ, suc, ◌==◌, ◌≤◌, Bool, true, false, cond, ◌&&◌, List, [], ◌∷◌, Some, None, IsSome, unwrap_or, refl, sym, ap, ◌∙◌, subst, inl, inr, arith, slice_index}
 use Rattle.std.specs.Prelude.{nat_le, Contains}
-use Rattle.std.specs.List.{AllByRecursion as Each}
 use Rattle.std.proofs.lemmas.Bool.{cases_eq, and_from, and_parts, cond-false, eq-eqb, leb-true, le-leb, lt-ltb, ltb-true, or_parts, true≢false}
 use Rattle.std.proofs.lemmas.Option.{same_Some, none-some}
 use Rattle.packet_fields.specs.declared.packet.Packet.{Packet}
@@ -10,26 +9,23 @@ use Rattle.flat_ir.specs.declared.program.ValueId.{ValueId}
 use Rattle.flat_ir.specs.declared.spans.Span.{Span}
 use Rattle.flat_ir.specs.Blocks.{Reading}
 use Rattle.flat_ir.specs.Run.{results}
-use Rattle.split_model.specs.declared.layout.Crossing.{Crossing}
 use Rattle.split_model.specs.Crossing.{is_value}
 use Rattle.transfer_header.specs.Registers.{Registers, content_of, number_by, ArePlaced}
-use Rattle.transfer_header.specs.Steps.{Contents}
-use Rattle.transfer_header.specs.Steps.{AreKeptApart, AreSpansOf}
-use Rattle.switch_ir.specs.declared.code.Table.{Table}
+use Rattle.transfer_header.specs.Steps.{AreKeptApart}
 use Rattle.switch_ir.specs.Meaning.{after_stage, is_step}
-use Rattle.switch_ir.specs.Passes.{PassCode, Step}
-use Rattle.switch_ir.specs.Spans.{is_read_last, last_read, pass_spans, span_of, written_in, GoesByStages, Written}
-use Rattle.switch_ir.specs.Spans.{steps_of as steps_by_values}
-use Rattle.switch_ir.specs.Staged.{is_had, is_of_stage, is_read_later, known, last_numbers, IsEntered, IsStaged, KeepsEnough, KeepsOwn, Numbers, Staging}
+use Rattle.switch_ir.specs.Passes.{Step}
+use Rattle.switch_ir.specs.Spans.{last_read, span_of, Written}
+use Rattle.switch_ir.specs.Staged.{all_values, is_had, is_of_stage, is_read_later, known, last_numbers, IsEntered, IsStaged, KeepsEnough, KeepsOwn, Numbers, Staging}
 use Rattle.switch_machine.specs.declared.numbering.ValueRange.{ValueRange}
 use Rattle.switch_machine.specs.Flights.{numbers_in}
+use Rattle.switch_machine.specs.Keeping.{kept}
 use Rattle.switch_machine.specs.Numbers.{content_at, number_in, reads_by, AreHeld}
 use Rattle.switch_machine.specs.Planned.{stage_done, FitRanges}
-use Rattle.switch_machine.specs.Ranges.{entries, AreInOrder, AreOthers, AreRanges}
-use Rattle.switch_machine.proofs.Beginning.{same_value, value_same}
-use Rattle.switch_machine.proofs.InRegisters.{kept_is, next, Agrees, ListsAreWritten, Stands, StepsAreAlike}
+use Rattle.switch_machine.proofs.Numbered.{same_value}
+use Rattle.switch_machine.proofs.InRegisters.{kept_is, next, Stands}
 use Rattle.switch_machine.proofs.Members.{any_has, has_any, has_made, made_has, of_contains, to_contains, Has}
-use Rattle.switch_machine.proofs.PassValues.{begins, first_at, had_parts, has_its_number, planned_by, same_by_number}
+use Rattle.switch_machine.proofs.PassValues.{first_at, had_parts, has_its_number, its_spans, same_by_number, IsRanged}
+use Rattle.flat_ir.proofs.Exact.{value_same}
 
 -- a value that no instruction of the stage gives stays
 stays : (ss : List Step) (t : ℕ) (reads : Reading) (tables : Store) (packet : Packet) (v : ValueId) → is_of_stage ss t v ≡ false
@@ -44,8 +40,7 @@ stays (s ∷ ss) t reads tables packet v e =
 
 chosen_by : (a b : Bool) (x n : ℕ) → cond (a && b) (Some x) None ≡ Some n → (a ≡ true) × ((b ≡ true) × (x ≡ n))
 chosen_by true true x n e = (refl, (refl, same_Some x n e))
-chosen_by true false x n e = absurd (none-some n e)
-chosen_by false b x n e = absurd (none-some n e)
+chosen_by a b x n e = absurd (none-some n e)
 
 chosen_some : (a b : Bool) (x : ℕ) → IsSome (cond (a && b) (Some x) None) → a ≡ true
 chosen_some true b x h = refl
@@ -58,25 +53,15 @@ zero_chosen : (b : Bool) (x : ℕ) → x ≡ 0 → unwrap_or (cond b (Some x) No
 zero_chosen true x e = e
 zero_chosen false x e = refl
 
-module _ (tables : List Table) (handed up : List Crossing) (pass : PassCode)
-    (order : AreInOrder (written_in tables handed pass)) (small : (w : Written) → Contains (written_in tables handed pass) w → suc w.number < 2 ^ 32)
-    (stages : GoesByStages (written_in tables handed pass) pass) (others : AreOthers handed (pass.given ++ pass.steps))
-    (ranges : List ValueRange) (are : AreRanges (entries tables handed pass) ranges)
-    (law : (number : ℕ → Contents → Contents) → AreSpansOf (steps_by_values tables handed up pass number) (pass_spans tables handed up pass)) where
-  abbrev p : Staging
-  p = record { code = pass; tables = tables; handed = handed; layout = up }
-
+module _ (p : Staging) (ranges : List ValueRange) (ranged : IsRanged p ranges) where
   abbrev had : List Written
-  had = written_in tables handed pass
+  had = all_values p
 
   abbrev spans : List Span
-  spans = pass_spans tables handed up pass
+  spans = its_spans p
 
   abbrev span : Written → Span
-  span = span_of (last_read up pass)
-
-  its_number : (w : Written) → Has had w → number_in ranges w.value ≡ Some w.number
-  its_number = has_its_number tables handed up pass order small stages others ranges are
+  span = span_of (last_read p.layout p.code)
 
   -- ---- values that the pass has
   record Had (t : ℕ) (v : ValueId) : Type 0 where
@@ -98,10 +83,10 @@ module _ (tables : List Table) (handed up : List Crossing) (pass : PassCode)
       (same_value h.value.value v (ap (λ (x : ValueId). x.instruction) h.is) (ap (λ (x : ValueId). x.result) h.is)))
 
   -- a value of a stage above 0 is of an instruction of it
-  of_its_stage : (t : ℕ) (w : Written) → Has had w → w.stage ≡ suc t → is_of_stage pass.steps (suc t) w.value ≡ true
-  of_its_stage t w h at = elim (had_parts tables handed up pass order small stages others ranges are w h) [
-    | inl there ↦ absurd (omega (arith, at, first_at tables handed up pass order small stages others ranges are w there))
-    | inr b ↦ has_any (λ s. is_step s (suc t) w.value) pass.steps b.step b.there
+  of_its_stage : (t : ℕ) (w : Written) → Has had w → w.stage ≡ suc t → is_of_stage p.code.steps (suc t) w.value ≡ true
+  of_its_stage t w h at = elim (had_parts p ranges ranged w h) [
+    | inl there ↦ absurd (omega (arith, at, first_at p ranges ranged w there))
+    | inr b ↦ has_any (λ s. is_step s (suc t) w.value) p.code.steps b.step b.there
         (and_from (b.step.stage == suc t) (b.step.instruction == w.value.instruction) (eq-eqb b.step.stage (suc t) (sym b.is.stage ∙ at))
         (eq-eqb b.step.instruction w.value.instruction (sym b.is.instruction)))
   ]
@@ -113,29 +98,25 @@ module _ (tables : List Table) (handed up : List Crossing) (pass : PassCode)
   own : (t : ℕ) (registers : Registers) → KeepsOwn p t (numbers_in p ranges t registers)
   own t registers v some = chosen_some (is_had p t v) (is_read_later p t v) (reads_by ranges (content_of registers) v) some
 
-  abbrev starts : List ℕ
-  starts = begins tables handed up pass order small stages others ranges are
-
   -- it is what the registers stand for
-  told : (kept : List ValueId) (t : ℕ) (registers : Registers) (reads : Reading) → Stands ranges pass kept starts spans (suc t) registers reads
+  told : (t : ℕ) (registers : Registers) (reads : Reading) → Stands p ranges ranged (suc t) registers reads
       → (v : ValueId) (n : ℕ) → numbers_in p ranges t registers v ≡ Some n → (is_had p t v ≡ true) × ((is_read_later p t v ≡ true) × (n ≡ reads v))
-  told kept t registers reads at v n e =
+  told t registers reads at v n e =
       let c = chosen_by (is_had p t v) (is_read_later p t v) (reads_by ranges (content_of registers) v) n e in
       let h = had_by t v c.0 in
-      let is : number_in ranges v ≡ Some h.value.number = subst (λ (x : ValueId). number_in ranges x ≡ Some h.value.number) h.is (its_number h.value h.there) in
+      let is : number_in ranges v ≡ Some h.value.number = subst (λ (x : ValueId). number_in ranges x ≡ Some h.value.number) h.is (has_its_number p ranges ranged h.value h.there) in
       let there : Contains spans (span h.value) = to_contains spans (span h.value) (made_has span had h.value h.there) in (
         c.0,
         (
           c.1.0,
           sym c.1.1 ∙ ap (content_at (content_of registers)) is
-              ∙ at.stands (span h.value) there (omega (arith, h.low)) (omega (arith, ltb-true t (last_read up pass v) c.1.0, ap (last_read up pass) h.is)) v is,
+              ∙ at.stands (span h.value) there (omega (arith, h.low)) (omega (arith, ltb-true t (last_read p.layout p.code v) c.1.0, ap (last_read p.layout p.code) h.is)) v is,
         ),
       )
 
   -- ---- a stage above 0
-  module _ (kept : List ValueId) (kept_last : Each (λ v. is_read_last up pass v ≡ true) kept) (t : ℕ) (registers : Registers) (kept_apart : AreKeptApart spans registers)
-      (placed : ArePlaced registers) (view : Store) (packet : Packet) (fit : FitRanges ranges pass.steps view packet)
-      (lists : ListsAreWritten) (one_step : StepsAreAlike) (agree : Agrees view packet) where
+  module _ (t : ℕ) (registers : Registers) (kept_apart : AreKeptApart spans registers) (placed : ArePlaced registers) (view : Store) (packet : Packet)
+      (fit : FitRanges ranges p.code.steps view packet) where
     abbrev now : Reading
     now = reads_by ranges (content_of registers)
 
@@ -143,7 +124,7 @@ module _ (tables : List Table) (handed up : List Crossing) (pass : PassCode)
     old = numbers_in p ranges t registers
 
     abbrev after : Registers
-    after = stage_done ranges pass.steps (suc t) view packet registers
+    after = stage_done ranges p.code.steps (suc t) view packet registers
 
     old_is : (v : ValueId) → is_had p t v ≡ true → is_read_later p t v ≡ true → old v ≡ Some (now v)
     old_is v here later = some_chosen (is_had p t v) (is_read_later p t v) (now v) here later
@@ -152,31 +133,32 @@ module _ (tables : List Table) (handed up : List Crossing) (pass : PassCode)
     known_zero v none = zero_chosen (is_had p t v && is_read_later p t v) (now v) none
 
     -- before the stage the registers stand for what is known
-    before : Stands ranges pass kept starts spans (suc t) registers (known old)
+    before : Stands p ranges ranged (suc t) registers (known old)
     before = record {
-      planned = planned_by tables handed up pass order small stages others ranges are kept kept_last law registers kept_apart placed;
+      apart = kept_apart;
+      placed = placed;
       unknown = λ v none. known_zero v (ap (content_at (content_of registers)) none);
       nowhere = λ v n is nowhere. known_zero v (ap (content_at (content_of registers)) is ∙ ap (number_by registers.numbers) (kept_apart.none n nowhere.none));
       begun = λ v n is e. absurd (true≢false (sym e));
       stands = λ s there from to v is.
           let m = has_made span had s (of_contains spans s there) in
-          let same = same_by_number tables handed up pass order small stages others ranges are m.from m.there v (is ∙ ap (λ (x : Span). Some x.value) (sym m.is)) in
+          let same = same_by_number p ranges ranged m.from m.there v (is ∙ ap (λ (x : Span). Some x.value) (sym m.is)) in
           let low = ap (λ (x : Span). x.from) m.is in
-          let later = lt-ltb t (last_read up pass v) (omega (arith, from, to, low, ap (λ (x : Span). x.to) m.is, ap (last_read up pass) same)) in
+          let later = lt-ltb t (last_read p.layout p.code v) (omega (arith, from, to, low, ap (λ (x : Span). x.to) m.is, ap (last_read p.layout p.code) same)) in
           sym (ap (content_at (content_of registers)) is)
           ∙ sym (ap (λ o. unwrap_or o 0) (old_is v (by_had t v (record { value = m.from; there = m.there; low = omega (arith, from, low); is = same })) later));
     }
 
     -- and after it for what the stage gives
-    stands : Stands ranges pass kept starts spans (suc (suc t)) after (last_numbers p (suc t) old view packet)
-    stands = next ranges pass kept starts spans (suc t) registers (known old) before view packet fit lists one_step agree
+    stands : Stands p ranges ranged (suc (suc t)) after (last_numbers p (suc t) old view packet)
+    stands = next p ranges ranged (suc t) registers (known old) before view packet fit
 
     -- a value that the stage doesn't give was known
-    earlier_had : (v : ValueId) → is_of_stage pass.steps (suc t) v ≡ false → is_had p (suc t) v ≡ true → is_had p t v ≡ true
+    earlier_had : (v : ValueId) → is_of_stage p.code.steps (suc t) v ≡ false → is_had p (suc t) v ≡ true → is_had p t v ≡ true
     earlier_had v other here =
         let h = had_by (suc t) v here in
         elim (cases_eq h.value.stage (suc t)) [
-          | inl at ↦ absurd (true≢false (sym (of_its_stage t h.value h.there at) ∙ ap (is_of_stage pass.steps (suc t)) h.is ∙ other))
+          | inl at ↦ absurd (true≢false (sym (of_its_stage t h.value h.there at) ∙ ap (is_of_stage p.code.steps (suc t)) h.is ∙ other))
           | inr ne ↦ by_had t v (record { value = h.value; there = h.there; low = omega (arith, h.low, ne); is = h.is })
         ]
 
@@ -185,23 +167,23 @@ module _ (tables : List Table) (handed up : List Crossing) (pass : PassCode)
       enough = enough (suc t) after;
       own = own (suc t) after;
       earlier = λ v n other e.
-          let c = told kept (suc t) after (last_numbers p (suc t) old view packet) stands v n e in
-          let was = old_is v (earlier_had v other c.0) (lt-ltb t (last_read up pass v) (omega (arith, ltb-true (suc t) (last_read up pass v) c.1.0))) in
-          was ∙ ap (λ m. Some m) (sym (c.1.1 ∙ stays pass.steps (suc t) (known old) view packet v other ∙ ap (λ o. unwrap_or o 0) was));
-      newest = λ v n mine e. (told kept (suc t) after (last_numbers p (suc t) old view packet) stands v n e).1.1;
+          let c = told (suc t) after (last_numbers p (suc t) old view packet) stands v n e in
+          let was = old_is v (earlier_had v other c.0) (lt-ltb t (last_read p.layout p.code v) (omega (arith, ltb-true (suc t) (last_read p.layout p.code v) c.1.0))) in
+          was ∙ ap (λ m. Some m) (sym (c.1.1 ∙ stays p.code.steps (suc t) (known old) view packet v other ∙ ap (λ o. unwrap_or o 0) was));
+      newest = λ v n mine e. (told (suc t) after (last_numbers p (suc t) old view packet) stands v n e).1.1;
     }
 
-    pub ends : suc t ≡ pass.highest → AreHeld ranges after (last_numbers p (suc t) old view packet) kept
-    ends at = kept_is ranges pass kept starts spans (suc (suc t)) after (last_numbers p (suc t) old view packet) stands (ap suc at)
+    pub ends : suc t ≡ p.code.highest → AreHeld ranges after (last_numbers p (suc t) old view packet) (kept p)
+    ends at = kept_is p ranges ranged (suc (suc t)) after (last_numbers p (suc t) old view packet) stands (ap suc at)
 
   -- ---- stage 0
-  pub entered : (kept : List ValueId) (given : Reading) (view : Store) (packet : Packet) (start : Registers)
-      → Stands ranges pass kept starts spans 1 (stage_done ranges pass.steps 0 view packet start) (after_stage pass.steps 0 given view packet)
-      → IsEntered p given view packet (numbers_in p ranges 0 (stage_done ranges pass.steps 0 view packet start))
-  entered kept given view packet start at =
-      let after = stage_done ranges pass.steps 0 view packet start in
+  pub entered : (given : Reading) (view : Store) (packet : Packet) (start : Registers)
+      → Stands p ranges ranged 1 (stage_done ranges p.code.steps 0 view packet start) (after_stage p.code.steps 0 given view packet)
+      → IsEntered p given view packet (numbers_in p ranges 0 (stage_done ranges p.code.steps 0 view packet start))
+  entered given view packet start at =
+      let after = stage_done ranges p.code.steps 0 view packet start in
       record {
         enough = enough 0 after;
         own = own 0 after;
-        right = λ v n e. (told kept 0 after (after_stage pass.steps 0 given view packet) at v n e).1.1;
+        right = λ v n e. (told 0 after (after_stage p.code.steps 0 given view packet) at v n e).1.1;
       }

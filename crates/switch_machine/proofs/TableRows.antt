@@ -5,7 +5,7 @@ use Rattle.std.proofs.lemmas.List.{get_or_append_left, get_or_push, length-map, 
 use Rattle.std.proofs.lemmas.Option.{none-some, slice_get_past, unwrap_or-slice_get}
 use Rattle.std.specs.FinMap as finmap
 use Rattle.std.specs.List.{AllByRecursion as Each}
-use Rattle.state_store.specs.Store.{key_cmp, look, no_object, object_at, rows_from}
+use Rattle.state_store.specs.Store.{key_cmp, no_object, object_at, rows_from}
 use Rattle.writeback_table.specs.Pair.{Pair, visible_rows, with_staged}
 use Rattle.switch_ir.specs.declared.code.Table.{Table}
 use Rattle.switch_ir.specs.Code.{Code}
@@ -26,9 +26,6 @@ pub object_past : (told : Told) (o : ℕ) → length told.pairs ≤ o → object
 object_past told o le =
     ap (λ p. unwrap_or p no_object)
     (slice_get_past (map (seen_object told.bit) told.pairs) o (omega (arith, le, length-map told.pairs (seen_object told.bit))))
-
-pub nothing_found : (key : List ℕ) → look no_object key ≡ None
-nothing_found key = finmap.get-empty key_cmp key
 
 empty_rows : finmap.entries no_object.contents ≡ []
 empty_rows = nil_from_length (finmap.entries no_object.contents) (sym (finmap.len-entries no_object.contents) ∙ finmap.len-empty key_cmp (List ℕ))

@@ -1,6 +1,5 @@
 -- What the calls of a switch in memory over packets leave, as a port tells it.
-use Rattle.std.proofs.Common.{◌≡◌, ◌∙◌, ◌++◌, ◌∷◌, [], ◌&&◌, if◌then◌else◌, ℕ, Bool, true, false, List, Option, Some, None, refl, sym, ap, subst, arith}
-use Rattle.std.specs.Prelude.{not}
+use Rattle.std.proofs.Common.{◌≡◌, ◌∙◌, ◌++◌, ◌∷◌, [], if◌then◌else◌, ℕ, Bool, true, false, List, Option, Some, None, refl, sym, ap, subst, arith}
 use Rattle.std.proofs.lemmas.Bool.{true≢false}
 use Rattle.std.proofs.lemmas.Option.{same_Some}
 use Rattle.gal_io.specs.Count.{IsCountedIf}
@@ -24,7 +23,7 @@ use Rattle.switch_machine.specs.declared.loaded.Loaded.{Loaded}
 use Rattle.switch_machine.specs.declared.sides.Event.{Event}
 use Rattle.switch_machine.specs.declared.sides.Event.TheVariants as event
 use Rattle.switch_machine.specs.declared.sides.Outcome.{Outcome}
-use Rattle.switch_machine.specs.declared.sides.Outcome.TheVariants.{Going, Up, Verdict}
+use Rattle.switch_machine.specs.declared.sides.Outcome.TheVariants.{Going}
 use Rattle.switch_machine.specs.declared.sides.Side.{Side}
 use Rattle.switch_machine.specs.declared.sides.Side.TheVariants.{Before, Behind}
 use Rattle.switch_machine.specs.Calls.{DownEndsAsPlanned, IsCountedAs, UpEndsAsPlanned}
@@ -37,14 +36,14 @@ use Rattle.switch_machine.proofs.Flying.{put_and_taken}
 use Rattle.switch_machine.proofs.GoingUp.{ends_up}
 use Rattle.switch_machine.proofs.LoadedCode.{at_side}
 use Rattle.switch_machine.proofs.Machines.{at_itself, at_other, if_some}
+use Rattle.lemmas.proofs.Tests.{false_of_not_and}
 
 -- ## How a call ends
 
 -- one that came about is noted, and isn't planned to fail
 pub planned_of : (outcome : Outcome) → UpIsPlanned false (up_of outcome)
 planned_of Going = refl
-planned_of (Up frame) = refl
-planned_of (Verdict verdict) = refl
+planned_of outcome = refl
 
 pub record IsEnd (fails : Bool) (end : UpEnd) : Type 0 where
   pub noted : (call : UpEnd → Entry) → noted_up call end ≡ call end ∷ []
@@ -52,11 +51,8 @@ pub record IsEnd (fails : Bool) (end : UpEnd) : Type 0 where
   pub planned : UpEndsAsPlanned fails end
 
 pub is_end : (fails : Bool) (end : UpEnd) → UpIsPlanned fails end → IsEnd fails end
-is_end fails up.Going is = record { noted = λ call. refl; failed = sym is; planned = is }
-is_end fails (up.Up frame) is = record { noted = λ call. refl; failed = sym is; planned = is }
-is_end fails (up.Finished verdict) is = record { noted = λ call. refl; failed = sym is; planned = is }
-is_end fails up.Failed is = record { noted = λ call. refl; failed = sym is; planned = is }
 is_end fails up.NoMemory is = absurd is
+is_end fails end is = record { noted = λ call. refl; failed = sym is; planned = is }
 
 -- one behind the server ends as one before it, but for packets that go up
 pub record IsDown (end : UpEnd) : Type 1 where
@@ -69,11 +65,8 @@ pub record IsDown (end : UpEnd) : Type 1 where
   pub planned : (fails : Bool) → UpEndsAsPlanned fails end → DownEndsAsPlanned fails (down_of end)
 
 pub is_down : (end : UpEnd) → IsOf Behind end → IsDown end
-is_down up.Going of = record { failed = refl; noted = λ _. refl; goes = λ _ h. h; begun = λ _ _ h. h; leaves = λ _ _ _ h. h; ends = λ h. h; planned = λ _ h. h }
-is_down (up.Finished verdict) of = record { failed = refl; noted = λ _. refl; goes = λ _ h. h; begun = λ _ _ h. h; leaves = λ _ _ _ h. h; ends = λ h. h; planned = λ _ h. h }
-is_down up.Failed of = record { failed = refl; noted = λ _. refl; goes = λ _ h. h; begun = λ _ _ h. h; leaves = λ _ _ _ h. h; ends = λ h. h; planned = λ _ h. h }
-is_down up.NoMemory of = record { failed = refl; noted = λ _. refl; goes = λ _ h. h; begun = λ _ _ h. h; leaves = λ _ _ _ h. h; ends = λ h. h; planned = λ _ h. h }
 is_down (up.Up frame) of = absurd of
+is_down end of = record { failed = refl; noted = λ _. refl; goes = λ _ h. h; begun = λ _ _ h. h; leaves = λ _ _ _ h. h; ends = λ h. h; planned = λ _ h. h }
 
 -- ## What a call leaves of the passes of a side
 
@@ -90,68 +83,50 @@ module _ (number : ℕ) (IsNew : PassState → Type 0) (old new : Passes) where
   -- of one that began
   pub others_begun : (end : UpEnd) → Begins number IsNew old new end → OthersStay number old new
   others_begun up.Going h = change_others number (Some h.0) old new h.2
-  others_begun (up.Up frame) h = stay_others number old new h
-  others_begun (up.Finished verdict) h = stay_others number old new h
-  others_begun up.Failed h = stay_others number old new h
-  others_begun up.NoMemory h = stay_others number old new h
+  others_begun end h = stay_others number old new h
 
   pub begun_of : (end : UpEnd) → Begins number IsNew old new end → old number ≡ None → BegunUp IsNew end (new number)
   begun_of up.Going h none = (h.0, changed number (Some h.0) old new h.2, h.1)
-  begun_of (up.Up frame) h none = ap (λ (ps : Passes). ps number) h ∙ none
-  begun_of (up.Finished verdict) h none = ap (λ (ps : Passes). ps number) h ∙ none
-  begun_of up.Failed h none = ap (λ (ps : Passes). ps number) h ∙ none
-  begun_of up.NoMemory h none = ap (λ (ps : Passes). ps number) h ∙ none
+  begun_of end h none = ap (λ (ps : Passes). ps number) h ∙ none
 
   -- one that goes to its end at once leaves them as before
   pub whole_stays : (end : UpEnd) → GoesUp false end → Begins number IsNew old new end → (new ≡ old) × EndsUpAtOnce end
   whole_stays up.Going goes h = absurd (true≢false (sym goes))
-  whole_stays (up.Up frame) goes h = (h, tt)
-  whole_stays (up.Finished verdict) goes h = (h, tt)
-  whole_stays up.Failed goes h = (h, tt)
-  whole_stays up.NoMemory goes h = (h, tt)
+  whole_stays end goes h = (h, tt)
 
   -- of one that took a stage
   pub others_settled : (end : UpEnd) → Settles number IsNew old new end → OthersStay number old new
   others_settled up.Going h = change_others number (Some h.0) old new h.2
   others_settled (up.Up frame) h = change_others number None old new h
   others_settled (up.Finished verdict) h = change_others number None old new h
-  others_settled up.Failed h = stay_others number old new h
-  others_settled up.NoMemory h = stay_others number old new h
+  others_settled end h = stay_others number old new h
 
   pub settled_of : (Is : PassState → Type 0) (before : PassState) (end : UpEnd) → ((p : PassState) → IsNew p → Is p) → old number ≡ Some before
       → Settles number IsNew old new end → LeavesUp Is end before (new number)
   settled_of Is before up.Going go there h = (h.0, changed number (Some h.0) old new h.2, go h.0 h.1)
   settled_of Is before (up.Up frame) go there h = changed number None old new h
   settled_of Is before (up.Finished verdict) go there h = changed number None old new h
-  settled_of Is before up.Failed go there h = ap (λ (ps : Passes). ps number) h ∙ there
-  settled_of Is before up.NoMemory go there h = ap (λ (ps : Passes). ps number) h ∙ there
+  settled_of Is before end go there h = ap (λ (ps : Passes). ps number) h ∙ there
 
   pub settles_last : (outcome : Outcome) → is_going outcome ≡ false → new ≡ with_pass number None old → Settles number IsNew old new (up_of outcome)
   settles_last Going ends is = absurd (true≢false ends)
-  settles_last (Up frame) ends is = is
-  settles_last (Verdict verdict) ends is = is
+  settles_last outcome ends is = is
 
 -- one that goes on has stages left
 pub going_is : (outcome : Outcome) → is_going outcome ≡ true → up_of outcome ≡ up.Going
 going_is Going going = refl
-going_is (Up frame) going = absurd (true≢false (sym going))
-going_is (Verdict verdict) going = absurd (true≢false (sym going))
+going_is outcome going = absurd (true≢false (sym going))
 
 pub going_left : (outcome : Outcome) (left : Bool) → is_going outcome ≡ true → GoesUp left (up_of outcome) → left ≡ true
 going_left outcome left going h = subst (GoesUp left) (going_is outcome going) h
-
-not_whole : (whole left : Bool) → (not whole && left) ≡ true → whole ≡ false
-not_whole true left e = absurd (true≢false (sym e))
-not_whole false left e = refl
 
 -- a pass that began just now is taken out again
 pub undone : (side : Side) (code : Code) (told : Told) (whole : Bool) (number : ℕ) (packet : Packet) (given : Reading) (outcome : Outcome) (old between new : Passes)
     → Enters side code told whole number packet given (up_of outcome) old between → (whole ≡ false → old number ≡ None)
     → new ≡ (if is_going outcome then with_pass number None between else between) → new ≡ old
 undone side code told whole number packet given Going old between new h none is =
-    put_and_taken old between new number h.begun.0 (none (not_whole whole _ h.ends.goes)) h.begun.2 is
-undone side code told whole number packet given (Up frame) old between new h none is = is ∙ h.begun
-undone side code told whole number packet given (Verdict verdict) old between new h none is = is ∙ h.begun
+    put_and_taken old between new number h.begun.0 (none (false_of_not_and whole _ h.ends.goes)) h.begun.2 is
+undone side code told whole number packet given outcome old between new h none is = is ∙ h.begun
 
 -- a call that didn't come about
 pub takes_failed : (e : Event) (code : Code) (told : Told) (passes : Passes) → Takes e code told up.Failed passes passes
@@ -260,11 +235,8 @@ module _ (end : UpEnd) (old new : MachineState) where
 -- what comes of a frame that comes down
 told_down : (code : Code) (told : Told) (whole : Bool) (frame : List ℕ) (end : UpEnd) (old new : Passes) → EntersDown frame whole code told end old new
     → EndsDown code told frame (down_of end)
-told_down code told whole frame up.Going old new h = tt
-told_down code told whole frame (up.Up bytes) old new h = tt
 told_down code told whole frame (up.Finished verdict) old new h = λ number port values packet framed. (h number port values packet framed).ends.told
-told_down code told whole frame up.Failed old new h = tt
-told_down code told whole frame up.NoMemory old new h = tt
+told_down code told whole frame end old new h = tt
 
 -- behind the server
 module _ (end : UpEnd) (result : DownEnd) (is : result ≡ down_of end) (of : IsOf Behind end) (old new : MachineState) where

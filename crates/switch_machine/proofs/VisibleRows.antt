@@ -2,8 +2,6 @@
 use Rattle.std.proofs.Common.{◌≡◌, ◌≤◌, ◌+◌, ℕ, Bool, true, false, cond, ◌&&◌, List, [], ◌∷◌, length, map, Option, Some, None, refl, sym, ap, ◌∙◌, subst, arith}
 use Rattle.std.specs.Prelude.{T}
 use Rattle.std.specs.Ordering.{eq_by_cmp, is_eq, is_lt}
-use Rattle.std.specs.declared.cmp.Ordering.{Ordering}
-use Rattle.std.specs.declared.cmp.Ordering.TheVariants.{Less, Equal, Greater}
 use Rattle.std.specs.Cmp.{tied_itself}
 use Rattle.std.specs.FinMap.{find, is_sorted, get, entries, entries_sorted, len, contains_key, get-entries, len-entries, len-insert}
 use Rattle.std.specs.FinMap.Entries.{below_all}
@@ -17,26 +15,15 @@ use Rattle.state_store.specs.declared.object.ObjectDecl.{ObjectDecl}
 use Rattle.state_store.specs.declared.object.Row.{Row}
 use Rattle.state_store.specs.Kept.{have_widths}
 use Rattle.state_store.specs.Places.{IsSorted}
-use Rattle.state_store.specs.Store.{Contents, key_cmp, look, rows_from}
+use Rattle.state_store.specs.Store.{Contents, key_cmp, rows_from}
 use Rattle.writeback_table.specs.Pair.{Pair, seen, visible, visible_rows, with_row, with_staged}
 use Rattle.switch_ir.specs.Port.{entry_of, AreRowsOf}
 use Rattle.switch_machine.specs.Kept.{staged_fits, KeepsRows}
 use Rattle.switch_machine.proofs.KeptRows.{none_more}
+use Rattle.writeback_table.proofs.Laws.{what_a_lookup_sees-main, what_a_lookup_sees-others, what_a_lookup_sees-staged}
+use Rattle.lemmas.proofs.Tests.{T_first, T_second, less_not_equal}
 
 -- ## Entries of a map
-
-first : (a b : Bool) → T (a && b) → T a
-first true b h = tt
-first false b h = h
-
-second : (a b : Bool) → T (a && b) → T b
-second true b h = h
-second false b h = absurd h
-
-less_is_other : (o : Ordering) → T (is_lt o) → is_eq o ≡ false
-less_is_other Less h = refl
-less_is_other Equal h = absurd h
-less_is_other Greater h = absurd h
 
 abbrev Rows : Type 0
 Rows = List (List ℕ × List ℕ)
@@ -45,8 +32,8 @@ Rows = List (List ℕ × List ℕ)
 none_above : (key : List ℕ) (es : Rows) → T (below_all key_cmp key es) → find key_cmp key es ≡ None
 none_above key [] h = refl
 none_above key (e ∷ es) h =
-    ap (λ b. cond b (Some e.1) (find key_cmp key es)) (less_is_other (key_cmp key e.0) (first (is_lt (key_cmp key e.0)) (below_all key_cmp key es) h))
-    ∙ none_above key es (second (is_lt (key_cmp key e.0)) (below_all key_cmp key es) h)
+    ap (λ b. cond b (Some e.1) (find key_cmp key es)) (less_not_equal (key_cmp key e.0) (T_first (is_lt (key_cmp key e.0)) (below_all key_cmp key es) h))
+    ∙ none_above key es (T_second (is_lt (key_cmp key e.0)) (below_all key_cmp key es) h)
 
 -- what is found behind an entry is found with it
 found_too : (key values : List ℕ) (e : List ℕ × List ℕ) (es : Rows) → T (below_all key_cmp e.0 es) → find key_cmp key es ≡ Some values
@@ -62,8 +49,8 @@ pub each_entry : (P : List ℕ → List ℕ → Type 0) (es : Rows) → T (is_so
 each_entry P [] sorted all = tt
 each_entry P (e ∷ es) sorted all = (
   all e.0 e.1 (ap (λ b. cond b (Some e.1) (find key_cmp e.0 es)) (ap is_eq (tied_itself nat_list_cmp_total e.0))),
-  each_entry P es (second (below_all key_cmp e.0 es) (is_sorted key_cmp es) sorted)
-      (λ key values found. all key values (found_too key values e es (first (below_all key_cmp e.0 es) (is_sorted key_cmp es) sorted) found)),
+  each_entry P es (T_second (below_all key_cmp e.0 es) (is_sorted key_cmp es) sorted)
+      (λ key values found. all key values (found_too key values e es (T_first (below_all key_cmp e.0 es) (is_sorted key_cmp es) sorted) found)),
 )
 
 pub entries_back : (es : Rows) → map entry_of (rows_from es) ≡ es
@@ -91,18 +78,15 @@ all_over (s ∷ more) rows = omega (arith, one_over s.0 s.1 (with_staged more ro
 abbrev IsRow : ObjectDecl → List ℕ → List ℕ → Type 0
 IsRow d key values = (have_widths d.keys key && have_widths d.values values) ≡ true
 
-module _ (d : ObjectDecl) (pair : Pair) (kept : KeepsRows d pair)
-    (main : (key : List ℕ) → seen false pair key ≡ look pair.main key)
-    (staged : (key : List ℕ) (row : Option (List ℕ)) → get pair.staged key ≡ Some row → seen true pair key ≡ row)
-    (others : (key : List ℕ) → get pair.staged key ≡ None → seen true pair key ≡ look pair.main key) where
+module _ (d : ObjectDecl) (pair : Pair) (kept : KeepsRows d pair) where
   over_main : (key values : List ℕ) (row : Option (Option (List ℕ))) → get pair.staged key ≡ row → seen true pair key ≡ Some values → IsRow d key values
-  over_main key values None is found = kept.main.rows key values (sym (others key is) ∙ found)
+  over_main key values None is found = kept.main.rows key values (sym (what_a_lookup_sees-others pair key is) ∙ found)
   over_main key values (Some row) is found =
-      let this : row ≡ Some values = sym (staged key row is) ∙ found in
+      let this : row ≡ Some values = sym (what_a_lookup_sees-staged pair key row is) ∙ found in
       subst (λ (r : Option (List ℕ)). (have_widths d.keys key && staged_fits d r) ≡ true) this (kept.staged key row is)
 
   pub fits : (bit : Bool) (key values : List ℕ) → seen bit pair key ≡ Some values → IsRow d key values
-  fits false key values found = kept.main.rows key values (sym (main key) ∙ found)
+  fits false key values found = kept.main.rows key values (sym (what_a_lookup_sees-main pair key) ∙ found)
   fits true key values found = over_main key values (get pair.staged key) refl found
 
   few_rows : (bit : Bool) → len (visible bit pair) ≤ d.size + 65536

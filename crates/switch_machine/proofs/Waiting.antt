@@ -1,8 +1,7 @@
 -- Results that wait until their stage is computed, and results that go into their registers at once.
-use Rattle.std.proofs.Common.{◌≡◌, ◌∙◌, ◌<◌, ◌≤◌, ◌+◌, ◌++◌, ◌==◌, ◌||◌, ℕ, zero, suc, Bool, true, false, List, [], ◌∷◌, length, map, take, drop, refl, sym, ap, subst, add-one, arith, get_or, append_assoc, append-nil}
-use Rattle.std.specs.List.{AllByRecursion as Each}
+use Rattle.std.proofs.Common.{◌≡◌, ◌∙◌, ◌<◌, ◌≤◌, ◌+◌, ◌++◌, ◌==◌, ℕ, zero, suc, false, List, [], ◌∷◌, length, map, take, drop, refl, sym, ap, subst, add-one, arith, get_or, append_assoc, append-nil}
 use Rattle.std.specs.Prelude.{slice_index}
-use Rattle.std.proofs.lemmas.Bool.{eq-eqb, true≢false}
+use Rattle.std.proofs.lemmas.Bool.{eq-eqb, true≢false, or_parts}
 use Rattle.std.proofs.lemmas.List.{get_or-set_other, length-append, length-map, map-append, take_all, take_more}
 use Rattle.std.proofs.lemmas.List.Folds.{list_any-append}
 use Rattle.packet_fields.specs.declared.packet.Packet.{Packet}
@@ -10,15 +9,15 @@ use Rattle.state_store.specs.Store.{Store}
 use Rattle.flat_ir.specs.declared.program.ValueId.{ValueId}
 use Rattle.flat_ir.specs.Blocks.{Reading}
 use Rattle.flat_ir.specs.Laws.{Same}
-use Rattle.flat_ir.specs.Program.{Work, operands, work_of}
+use Rattle.flat_ir.specs.Program.{operands, work_of}
 use Rattle.flat_ir.specs.Run.{results}
 use Rattle.transfer_header.specs.Registers.{placed, Registers}
 use Rattle.transfer_header.specs.Steps.{is_among}
 use Rattle.switch_machine.specs.declared.ready.ReadyStep.{ReadyStep}
 use Rattle.switch_machine.specs.Ready.{all_placed, first_placed, only_numbers, paired, placed_gives, places_of, reads_at, ready_gives, ready_of, targets_of, IsDirect, Ready}
-use Rattle.switch_machine.proofs.Each.{each_weaker}
-use Rattle.switch_machine.proofs.Lists.{ahead, none_ahead}
-use Rattle.switch_machine.proofs.PlacedSteps.{placed_behind}
+use Rattle.transfer_header.proofs.PlacedNumbers.{placed_behind}
+use Rattle.flat_ir.proofs.Laws.{readings_that_agree-operands, readings_that_agree-results}
+use Rattle.lemmas.proofs.Lists.{drop_past, each_weaker, folded_item}
 
 -- ## Results that wait
 
@@ -84,21 +83,21 @@ collect_more reads tables packet steps i s before after total lt is more so =
     ap (λ (ns : List ℕ). ns ++ only_numbers rest) more
     ∙ append_assoc before (only_numbers one) (only_numbers rest)
     ∙ ap (λ (ns : List ℕ). before ++ ns) (sym (map-append (λ (p : ℕ × ℕ). p.1) one rest))
-    ∙ ap (λ (ss : List ReadyStep). before ++ only_numbers (ready_gives (map ready_of ss) reads tables packet)) (sym (ahead steps i s lt is))
+    ∙ sym (folded_item (λ ss. before ++ only_numbers (ready_gives (map ready_of ss) reads tables packet)) steps i s lt is)
     ∙ so
 
 pub collect_all : (reads : Reading) (tables : Store) (packet : Packet) (steps : List ReadyStep) (i : ℕ) (now total : List ℕ) → length steps ≤ i
     → now ++ only_numbers (ready_gives (map ready_of (drop i steps)) reads tables packet) ≡ total → now ≡ total
 collect_all reads tables packet steps i now total le so =
     sym (append-nil now)
-    ∙ ap (λ (ss : List ReadyStep). now ++ only_numbers (ready_gives (map ready_of ss) reads tables packet)) (sym (none_ahead steps i le))
+    ∙ ap (λ (ss : List ReadyStep). now ++ only_numbers (ready_gives (map ready_of ss) reads tables packet)) (sym (drop_past steps i le))
     ∙ so
 
 -- there is room for those of the next
 pub room_more : (steps : List ReadyStep) (i : ℕ) (s : ReadyStep) → i < length steps → s ≡ get_or steps i s
     → length (targets_of (map ready_of (drop i steps))) ≡ length (places_of s.places) + length (targets_of (map ready_of (drop (i + 1) steps)))
 room_more steps i s lt is =
-    ap (λ (ss : List ReadyStep). length (targets_of (map ready_of ss))) (ahead steps i s lt is)
+    folded_item (λ ss. length (targets_of (map ready_of ss))) steps i s lt is
     ∙ length-append (places_of s.places) (targets_of (map ready_of (drop (i + 1) steps)))
 
 -- the places of one instruction more
@@ -108,25 +107,21 @@ pub targets_more : (steps : List ReadyStep) (i : ℕ) (s : ReadyStep) (before af
 targets_more steps i s before after total lt is more so =
     let rest = targets_of (map ready_of (drop (i + 1) steps)) in
     ap (λ (ns : List ℕ). ns ++ rest) more ∙ append_assoc before (places_of s.places) rest
-    ∙ ap (λ (ss : List ReadyStep). before ++ targets_of (map ready_of ss)) (sym (ahead steps i s lt is)) ∙ so
+    ∙ sym (folded_item (λ ss. before ++ targets_of (map ready_of ss)) steps i s lt is) ∙ so
 
 pub targets_all : (steps : List ReadyStep) (i : ℕ) (now total : List ℕ) → length steps ≤ i
     → now ++ targets_of (map ready_of (drop i steps)) ≡ total → now ≡ total
 targets_all steps i now total le so =
-    sym (append-nil now) ∙ ap (λ (ss : List ReadyStep). now ++ targets_of (map ready_of ss)) (sym (none_ahead steps i le)) ∙ so
+    sym (append-nil now) ∙ ap (λ (ss : List ReadyStep). now ++ targets_of (map ready_of ss)) (sym (drop_past steps i le)) ∙ so
 
 -- ## Results that go into their registers at once
-
-neither : (a b : Bool) → (a || b) ≡ false → (a ≡ false) × (b ≡ false)
-neither true b e = absurd (true≢false e)
-neither false b e = (refl, e)
 
 -- what is written elsewhere stays
 other_stays : (registers : Registers) (pairs : List (ℕ × ℕ)) (place : ℕ) → is_among place (map (λ (p : ℕ × ℕ). p.0) pairs) ≡ false
     → slice_index (all_placed registers pairs).numbers place ≡ slice_index registers.numbers place
 other_stays registers [] place none = refl
 other_stays registers (p ∷ ps) place none =
-    let parts = neither (p.0 == place) (is_among place (map (λ (q : ℕ × ℕ). q.0) ps)) none in
+    let parts = or_parts (p.0 == place) (is_among place (map (λ (q : ℕ × ℕ). q.0) ps)) none in
     other_stays (placed registers p.0 p.1) ps place parts.1
     ∙ get_or-set_other registers.numbers p.0 place p.1 0 (λ same. true≢false (sym (eq-eqb p.0 place (sym same)) ∙ parts.0))
 
@@ -142,25 +137,25 @@ module _ (tables : Store) (packet : Packet) where
       → StandsDirectly rest start start (all_placed start (ready_gives rest (reads_at start.numbers) tables packet))
   direct_first rest start direct = record { written = []; direct = direct; others = λ place none. refl; gives = refl }
 
-  pub direct_more : ((r r' : Reading) (work : Work) → Each (Same r r') (operands work) → results r false tables packet work ≡ results r' false tables packet work)
-      → (steps : List ReadyStep) (i : ℕ) (s : ReadyStep) (start before after total : Registers) → i < length steps → s ≡ get_or steps i s
+  pub direct_more : (steps : List ReadyStep) (i : ℕ) (s : ReadyStep) (start before after total : Registers) → i < length steps → s ≡ get_or steps i s
       → StandsDirectly (map ready_of (drop i steps)) start before total
       → after ≡ all_placed before (placed_gives (places_of s.places) (results (reads_at before.numbers) false tables packet (work_of s.kind)))
       → StandsDirectly (map ready_of (drop (i + 1) steps)) start after total
-  direct_more agree steps i s start before after total lt is at more =
+  direct_more steps i s start before after total lt is at more =
       let later = map ready_of (drop (i + 1) steps) in
-      let ahead_is = ap (map ready_of) (ahead steps i s lt is) in
+      let ahead_is = folded_item (map ready_of) steps i s lt is in
       let direct = subst (IsDirect at.written) ahead_is at.direct in
       let places = places_of s.places in
       let own = results (reads_at before.numbers) false tables packet (work_of s.kind) in
-      let same = agree (reads_at before.numbers) (reads_at start.numbers) (work_of s.kind)
+      let same = readings_that_agree-results (reads_at before.numbers) (reads_at start.numbers) false tables packet (work_of s.kind)
+      (readings_that_agree-operands (reads_at before.numbers) (reads_at start.numbers) (work_of s.kind)
       (each_weaker (λ (v : ValueId). is_among v.instruction at.written ≡ false) (Same (reads_at before.numbers) (reads_at start.numbers))
-      (λ v apart. at.others v.instruction apart) (operands (work_of s.kind)) direct.0) in
+      (λ v apart. at.others v.instruction apart) (operands (work_of s.kind)) direct.0)) in
       record {
         written = at.written ++ places;
         direct = direct.1;
         others = λ place none.
-            let parts = neither (is_among place at.written) (is_among place places) (sym (list_any-append (λ v. v == place) at.written places) ∙ none) in
+            let parts = or_parts (is_among place at.written) (is_among place places) (sym (list_any-append (λ v. v == place) at.written places) ∙ none) in
             ap (λ (rs : Registers). slice_index rs.numbers place) more
             ∙ other_stays before (placed_gives places own) place (ap (is_among place) (places_are places own) ∙ parts.1)
             ∙ at.others place parts.0;
@@ -176,4 +171,4 @@ module _ (tables : Store) (packet : Packet) where
   pub direct_all : (steps : List ReadyStep) (i : ℕ) (start now total : Registers) → length steps ≤ i
       → StandsDirectly (map ready_of (drop i steps)) start now total → now ≡ total
   direct_all steps i start now total le at =
-      ap (λ (ss : List ReadyStep). all_placed now (ready_gives (map ready_of ss) (reads_at start.numbers) tables packet)) (sym (none_ahead steps i le)) ∙ at.gives
+      ap (λ (ss : List ReadyStep). all_placed now (ready_gives (map ready_of ss) (reads_at start.numbers) tables packet)) (sym (drop_past steps i le)) ∙ at.gives

@@ -12,7 +12,7 @@ use Rattle.switch_machine.specs.declared.ready.ReadyStep.{ReadyStep}
 use Rattle.switch_machine.specs.declared.written.Written.{Written}
 use Rattle.switch_machine.specs.Ready.{places_of, ready_of, IsDirect}
 use Rattle.switch_machine.specs.Written.{Marks}
-use Rattle.switch_machine.proofs.Lists.{ahead, none_ahead}
+use Rattle.lemmas.proofs.Lists.{drop_past, folded_item}
 
 -- none at first
 pub none_marked : (w : Written) → Marks [] w
@@ -48,11 +48,11 @@ pub so_far_more : (steps : List ReadyStep) (i : ℕ) (s : ReadyStep) (before aft
 so_far_more steps i s before after lt is reads puts so = record {
   written = so.written ++ places_of s.places;
   marks = puts so.written so.marks;
-  direct = λ later. so.direct (subst (λ (ss : List ReadyStep). IsDirect so.written (map ready_of ss)) (sym (ahead steps i s lt is)) (reads so.written so.marks, later));
+  direct = λ later. so.direct (subst (IsDirect so.written) (sym (folded_item (map ready_of) steps i s lt is)) (reads so.written so.marks, later));
 }
 
 pub so_far_all : (steps : List ReadyStep) (i : ℕ) (w : Written) → length steps ≤ i → IsSoFar (drop i steps) steps w → IsDirect [] (map ready_of steps)
-so_far_all steps i w le so = so.direct (subst (λ (ss : List ReadyStep). IsDirect so.written (map ready_of ss)) (sym (none_ahead steps i le)) tt)
+so_far_all steps i w le so = so.direct (subst (λ (ss : List ReadyStep). IsDirect so.written (map ready_of ss)) (sym (drop_past steps i le)) tt)
 
 pub list_more : (places : List ℕ) (i : ℕ) (place : ℕ) (start before after : Written) → i < length places → place ≡ slice_index places i
     → ((given : List ℕ) → Marks given start → Marks (given ++ take i places) before)

@@ -5,14 +5,13 @@ use Rattle.std.specs.List.{AllByRecursion as Each}
 use Rattle.packet_fields.specs.declared.packet.Packet.{Packet}
 use Rattle.state_store.specs.Store.{Store}
 use Rattle.flat_ir.specs.declared.program.ValueId.{ValueId}
-use Rattle.flat_ir.specs.declared.spans.Span.{Span}
 use Rattle.flat_ir.specs.Blocks.{Reading}
 use Rattle.flat_ir.specs.Run.{results}
-use Rattle.transfer_header.specs.Registers.{Registers, content_of, ArePlaced}
-use Rattle.transfer_header.specs.Steps.{Contents, Steps, is_among, pairs_written, AreSpansOf, AreKeptApart}
+use Rattle.transfer_header.specs.Registers.{Registers, content_of}
+use Rattle.transfer_header.specs.Steps.{Contents, Steps, is_among, pairs_written}
 use Rattle.switch_ir.specs.Code.{Step, PassCode}
 use Rattle.switch_machine.specs.declared.numbering.ValueRange.{ValueRange}
-use Rattle.switch_machine.specs.Numbers.{number_in, range_at, reads_by, stage_gives, stage_reads, stage_writes, is_read, AreOnce}
+use Rattle.switch_machine.specs.Numbers.{number_in, range_at, reads_by, stage_gives, stage_reads, stage_writes, is_read}
 use Rattle.switch_machine.specs.Staged.{of_stage}
 
 -- what a pass begins with is written at step 0
@@ -46,20 +45,6 @@ pub record BeginsWith (ranges : List ValueRange) (begins : List ℕ) (given : Re
       → content_of registers n ≡ given v
   pub others : (v : ValueId) (n : ℕ) → number_in ranges v ≡ Some n → is_among n begins ≡ false → given v ≡ 0
   pub unknown : (v : ValueId) → number_in ranges v ≡ None → given v ≡ 0
-
--- The registers are planned for a pass of which these values are kept, and which begins with these numbers: by spans of
--- what it reads and writes, values that are needed at one step are in registers apart.
-pub record IsPlanned
-    (ranges : List ValueRange) (pass : PassCode) (kept : List ValueId) (begins : List ℕ) (spans : List Span)
-    (registers : Registers)
-    : Type 0 where
-  pub are : (number : ℕ → Contents → Contents) → AreSpansOf (steps_of ranges pass begins kept number) spans
-  pub apart : AreKeptApart spans registers
-  pub placed : ArePlaced registers
-  pub numbered : AreNumberedApart ranges
-  pub once : AreOnce pass.steps
-  -- no stage writes what the pass begins with
-  pub fresh : (n : ℕ) → is_among n begins ≡ true → is_among n (stage_writes ranges (of_stage 0 pass.steps)) ≡ false
 
 -- the registers once a stage is done: it reads all that it reads before it writes
 abbrev pub stage_done : List ValueRange → List Step → ℕ → Store → Packet → Registers → Registers

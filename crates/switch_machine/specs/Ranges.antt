@@ -10,6 +10,7 @@ use Rattle.switch_ir.specs.Passes.{Step, PassCode, Code}
 use Rattle.switch_ir.specs.Spans.{results_in, written_in, Written}
 use Rattle.switch_machine.specs.declared.numbering.ValueRange.{ValueRange}
 use Rattle.switch_machine.specs.Numbers.{no_values, range_at}
+use Rattle.lemmas.proofs.Tests.{never_prop}
 
 -- an instruction, the number of its first value, and how many values are known of it
 pub record Entry : Type 0 where
@@ -87,9 +88,6 @@ order_prop had a b = λ i. record {
   same = λ x y here there is. Coded-set coded_ℕ _ _ (a.same x y here there is) (b.same x y here there is) i;
   lower = λ x y here there lt. le_prop (a.lower x y here there lt) (b.lower x y here there lt) i;
 }
-
-never_prop : IsProp ⊥
-never_prop a b = absurd a
 
 pub ordered_prop : (code : Code) → IsProp (AreOrdered code)
 ordered_prop code a b = λ i. record {

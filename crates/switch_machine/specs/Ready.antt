@@ -1,5 +1,5 @@
 -- The instructions of a pass with the places of their operands and results among the registers.
-use Rattle.std.specs.Prelude.{◌≡◌, ◌≤◌, ◌-◌, ◌^◌, ℕ, zero, suc, Bool, true, false, List, [], ◌∷◌, ◌++◌, length, map, slice_index, slice_index_or}
+use Rattle.std.specs.Prelude.{◌≡◌, ◌≤◌, ◌-◌, ◌^◌, ℕ, zero, suc, Bool, true, false, List, [], ◌∷◌, ◌++◌, length, map, slice_index_or}
 use Rattle.std.specs.Prelude.{unwrap_or, Option, Some, None}
 use Rattle.std.specs.Coded.{Coded-set, coded_ℕ, coded_list, coded×, le_prop}
 use Rattle.std.specs.List.{AllByRecursion as Each, AllByRecursion-prop}
@@ -11,7 +11,8 @@ use Rattle.flat_ir.specs.Operands.{CanRun}
 use Rattle.flat_ir.specs.Plan.{RegisterPlan, register_of}
 use Rattle.flat_ir.specs.Program.{Work, operands, work_of}
 use Rattle.flat_ir.specs.Run.{results}
-use Rattle.transfer_header.specs.Registers.{Registers, placed}
+pub use Rattle.transfer_header.specs.Ready.{all_placed, first_placed, placed_gives, reads_at}
+use Rattle.transfer_header.specs.Registers.{Registers}
 use Rattle.transfer_header.specs.Steps.{is_among}
 use Rattle.switch_ir.specs.Code.{Step}
 use Rattle.switch_ir.specs.Once.{can_step_prop}
@@ -70,14 +71,6 @@ resolved ranges plan s = record {
 abbrev pub CanReady : Ready → Type 0
 CanReady r = CanRun r.work
 
--- the first results, so many of them, each with its place
-abbrev pub first_placed : List ℕ → List ℕ → ℕ → List (ℕ × ℕ)
-first_placed places given zero = []
-first_placed places given (suc k) = first_placed places given k ++ (slice_index places k, slice_index given k) ∷ []
-
-abbrev pub placed_gives : List ℕ → List ℕ → List (ℕ × ℕ)
-placed_gives places given = first_placed places given (length places)
-
 -- what instructions give, each number with its place
 abbrev pub ready_gives : List Ready → Reading → Store → Packet → List (ℕ × ℕ)
 ready_gives [] reads tables packet = []
@@ -112,16 +105,6 @@ pub record IsPrepared (steps : List ReadyStep) (targets : List ℕ) (direct : Bo
 -- numbers of values, each with the value's place
 abbrev pub by_place : RegisterPlan → List (ℕ × ℕ) → List (ℕ × ℕ)
 by_place plan pairs = map (λ (p : ℕ × ℕ). (place_in plan p.0, p.1)) pairs
-
--- ## Registers by place
-
--- numbers that are read by place
-abbrev pub reads_at : List ℕ → Reading
-reads_at numbers v = slice_index numbers v.instruction
-
-abbrev pub all_placed : Registers → List (ℕ × ℕ) → Registers
-all_placed registers [] = registers
-all_placed registers (p ∷ ps) = all_placed (placed registers p.0 p.1) ps
 
 -- ## Stages by place
 

@@ -74,16 +74,12 @@ up_from down.NoMemory = up.NoMemory
 
 abbrev pub IsOf : Side → UpEnd → Type 0
 IsOf Before end = Unit {0}
-IsOf Behind up.Going = Unit {0}
 IsOf Behind (up.Up frame) = ⊥
-IsOf Behind (up.Finished verdict) = Unit {0}
-IsOf Behind up.Failed = Unit {0}
-IsOf Behind up.NoMemory = Unit {0}
+IsOf Behind end = Unit {0}
 
 abbrev pub is_going : Outcome → Bool
 is_going Going = true
-is_going (Up frame) = false
-is_going (Verdict verdict) = false
+is_going outcome = false
 
 -- what becomes of a packet by the last numbers of its pass
 abbrev pub EndsOn : Side → Code → Reading → ℕ → Packet → UpEnd → Type 0

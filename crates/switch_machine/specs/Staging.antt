@@ -51,10 +51,8 @@ Takes (event.Stage side number) code told = Stages side code told number
 -- it fails or doesn't
 abbrev pub UpIsPlanned : Bool → UpEnd → Type 0
 UpIsPlanned fails up.Failed = fails ≡ true
-UpIsPlanned fails (up.Finished verdict) = fails ≡ false
-UpIsPlanned fails (up.Up frame) = fails ≡ false
-UpIsPlanned fails up.Going = fails ≡ false
 UpIsPlanned fails up.NoMemory = ⊥
+UpIsPlanned fails end = fails ≡ false
 
 -- what a call at a side leaves, by its entry and by what it makes of the passes there
 pub record Leaves (side : Side) (call : UpEnd → Entry) (IsTaken : Code → Told → UpEnd → Passes → Passes → Type 0) (end : UpEnd) (old new : MachineState)

@@ -63,18 +63,14 @@ Puts number IsNew old new = (pass : PassState) × IsNew pass × (new ≡ with_pa
 -- where a pass that began has stages left it is under way, and else all are as before
 abbrev pub Begins : ℕ → (PassState → Type 0) → Passes → Passes → UpEnd → Type 0
 Begins number IsNew old new up.Going = Puts number IsNew old new
-Begins number IsNew old new (up.Up frame) = new ≡ old
-Begins number IsNew old new (up.Finished verdict) = new ≡ old
-Begins number IsNew old new up.Failed = new ≡ old
-Begins number IsNew old new up.NoMemory = new ≡ old
+Begins number IsNew old new end = new ≡ old
 
 -- a pass that took a stage goes on, as this says, or is under way no longer
 abbrev pub Settles : ℕ → (PassState → Type 0) → Passes → Passes → UpEnd → Type 0
 Settles number IsNew old new up.Going = Puts number IsNew old new
 Settles number IsNew old new (up.Up frame) = new ≡ with_pass number None old
 Settles number IsNew old new (up.Finished verdict) = new ≡ with_pass number None old
-Settles number IsNew old new up.Failed = new ≡ old
-Settles number IsNew old new up.NoMemory = new ≡ old
+Settles number IsNew old new end = new ≡ old
 
 -- how a call ends over the packet of this number, whose pass has stages left or has none, by what this tells
 pub record HasEnd (side : Side) (code : Code) (number : ℕ) (packet : Packet) (left : Bool) (IsTold : UpEnd → Type 0) (end : UpEnd) : Type 0 where

@@ -3,7 +3,6 @@ use Rattle.std.specs.Prelude.{◌≡◌, ◌<◌, ◌^◌, ℕ, suc, List, lengt
 use Rattle.std.specs.Coded.{Coded-set, coded_ℕ, coded_option}
 use Rattle.flat_ir.specs.Plan.{RegisterPlan, plan_code}
 use Rattle.transfer_header.specs.Plans.{IsPlanOf}
-use Rattle.transfer_header.specs.Registers.{Registers}
 use Rattle.switch_ir.specs.Passes.{Code}
 use Rattle.switch_ir.specs.Sound.{CanBeRun}
 use Rattle.switch_ir.specs.Spans.{pass_spans}
@@ -34,17 +33,7 @@ made_prop side code plan l a b = λ i. record {
   marks = Coded-set coded_ℕ _ _ a.marks b.marks i;
 }
 
--- The pass of a side of this code can be computed: there are ranges for its values, and registers by a plan of its spans.
-pub record IsReadyFor (code : Code) (side : Side) (ranges : List ValueRange) (registers : Registers) : Type 0 where
-  pub can : CanBeRun code
-  pub ordered : AreOrdered code
-  pub few : code.values < 2 ^ 32
-  pub are : AreRanges (entries code.tables (staging side code).handed (staging side code).code) ranges
-  pub plan : RegisterPlan
-  pub of_spans : IsPlanOf (pass_spans code.tables (staging side code).handed (staging side code).layout (staging side code).code) plan
-  pub planned : registers.plan ≡ Some plan
-
--- what is known of the pass of a side of code: its ranges, the plan of its registers, its stages, and how many marks there are
+-- what is known of the pass of a side of code, so that it can be computed: its ranges, the plan of its registers, its stages, and how many marks there are
 pub record IsPassAs (code : Code) (side : Side) (ranges : List ValueRange) (planned : Option RegisterPlan) (stages : List (List ReadyStep)) (marks : ℕ)
     : Type 0 where
   pub can : CanBeRun code

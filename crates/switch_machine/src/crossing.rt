@@ -21,7 +21,6 @@ ghost use Rattle.switch_machine.specs.Workplaces.{IsPassOf, StaysMade};
 ghost use Rattle.switch_machine.specs.declared.sides.Event.TheVariants as event;
 ghost use Rattle.switch_machine.specs.declared.sides.Side.TheVariants.{Before, Behind};
 
-use crate::laws::{a_pass_by_place, what_crosses_fits};
 use crate::loaded::Loaded;
 use crate::loaded_pass::LoadedPass;
 use crate::passes::{are_few, run_steps};
@@ -243,14 +242,6 @@ impl Loaded {
             Side::Behind => self.behind.remove(number),
         }
     }
-
-    /// How many registers the passes of a side are computed in.
-    pub fn registers(&self, side: Side) -> u32 {
-        match side {
-            Side::Before => self.before.registers.len(),
-            Side::Behind => self.behind.registers.len(),
-        }
-    }
 }
 
 impl LoadedPass {
@@ -268,7 +259,6 @@ impl LoadedPass {
             → IsFrameOf 2 code.now.down number port values packet frame.now
             → IsReadBack code.now.down number port values packet frame.now self.new.registers result }
     {
-        what_crosses_fits();
         self.clear();
         let Ok(head) = unpack_down(&code.down, frame, &mut self.registers) else {
             unreachable!()
@@ -289,8 +279,6 @@ impl LoadedPass {
         ensures given { IsGiven (code_of code.now) self.new
             (down_given (code_of code.now) (value_in self.old.registers) (packet_of arrival.now)) }
     {
-        what_crosses_fits();
-        a_pass_by_place();
         let none = SwitchTables::none(alloc);
         are_few(&self.registers);
         run_steps(

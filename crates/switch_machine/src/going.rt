@@ -20,18 +20,17 @@ ghost use Rattle.switch_machine.specs.UnderWay.{HasEnd, HasStagesLeft, IsAtLast,
 ghost use Rattle.switch_machine.specs.Workplaces.{IsPassOf, StaysMade};
 
 use crate::flight::{Flight, copy_numbers, flight_of, put_in};
-use crate::laws::{a_pass_by_place, a_pass_goes_by_stages, what_crosses_fits};
 use crate::live::leaves_work;
 use crate::loaded_pass::LoadedPass;
 use crate::passes::{are_few, run_pass, run_stage};
 use crate::run::Run;
 use crate::sides::{Outcome, Side};
 use crate::tables::{SwitchTables, View};
-use flat_ir::{Arrival, Out, leave, readings_that_agree};
+use flat_ir::{Arrival, Out, leave};
 use gal_io::NoMemory;
 use std::alloc::Global;
 use switch_ir::SwitchCode;
-use transfer_header::{frames_of_low_bits, pack_up};
+use transfer_header::pack_up;
 
 impl LoadedPass {
     /// Forgets all numbers. This takes no memory.
@@ -86,8 +85,6 @@ impl LoadedPass {
             (pass_values (staging self.old.side code).code given (seen_tables tables.now) (packet_of arrival.now))
             (kept (staging self.old.side code)) }
     {
-        a_pass_goes_by_stages();
-        a_pass_by_place();
         are_few(&self.registers);
         run_pass(
             &self.stages,
@@ -115,8 +112,6 @@ impl LoadedPass {
             (passes_of code self.old) (passes_of code self.new)) }
         ensures err { OnErr result (flights_in self.new.flights ≡ flights_in self.old.flights) }
     {
-        a_pass_goes_by_stages();
-        a_pass_by_place();
         are_few(&self.registers);
         run_stage(
             self.stages.stage(0),
@@ -148,8 +143,6 @@ impl LoadedPass {
         ensures goes_on { (code : Code) → IsPassOf code self.old → KeepsTables code tables.now
             → Puts number (GoneOn code number tables.now self.old) (passes_of code self.old) (passes_of code self.new) }
     {
-        a_pass_goes_by_stages();
-        a_pass_by_place();
         are_few(&self.registers);
         let Some(flight) = self.flights.get_mut(&number) else {
             unreachable!()
@@ -168,8 +161,6 @@ impl LoadedPass {
             → AreHeld self.new.numbering self.new.registers (numbers_at_last code tables.now self.old f)
             (kept (staging self.old.side code)) }
     {
-        a_pass_goes_by_stages();
-        a_pass_by_place();
         are_few(&self.registers);
         let flight = flight_of(&self.flights, number);
         copy_numbers(&flight.registers, &mut self.registers);
@@ -259,9 +250,6 @@ impl LoadedPass {
             → IfOk result (λ outcome. HasEnd self.now.side (code_of code.now) number (packet_of arrival.now) false
             (EndsOn self.now.side (code_of code.now) reads number (packet_of arrival.now)) (up_of outcome)) }
     {
-        readings_that_agree();
-        frames_of_low_bits();
-        what_crosses_fits();
         if leaves {
             let port = arrival.port;
             fits(port);

@@ -5,7 +5,6 @@ mod calls;
 mod crossing;
 mod flight;
 mod going;
-mod laws;
 mod live;
 mod loaded;
 mod loaded_pass;

@@ -5,7 +5,7 @@ ghost use Rattle.flat_ir.specs.Blocks.{is_live, is_on, same, HasLowParents};
 ghost use Rattle.switch_ir.specs.Code.{pass_of};
 ghost use Rattle.switch_machine.specs.Live.{AreLive};
 
-use flat_ir::{Block, Numbers, lines_of_blocks};
+use flat_ir::{Block, Numbers};
 use switch_ir::Pass;
 
 // Whether the condition of a block has its polarity.
@@ -32,7 +32,6 @@ fn mark_live<R: Numbers>(blocks: &[Block], numbers: &R, marks: &mut Vec<bool>)
     requires room { length marks.old.items ≡ suc (length blocks.now) }
     ensures { AreLive blocks.now (R.reads numbers.now) marks.new.items }
 {
-    lines_of_blocks();
     marks[0] = true;
     for index in 0..blocks.len() {
         let live = is_live_below(marks.as_slice(), &blocks[index], numbers);

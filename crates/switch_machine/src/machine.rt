@@ -38,9 +38,8 @@ use state_store::Rows;
 use std::alloc::Global;
 use switch_ir::{
     Call, CommandEnd, DownEnd, Entry, Journal, PortEnd, RowsEnd, SwitchCode, SwitchPort, UpEnd,
-    what_is_emitted_can_be_run,
 };
-use writeback_table::{Command, what_a_lookup_sees};
+use writeback_table::Command;
 
 /// A switch in memory. It tells its tables, and a call fails where that was planned, and in no other case.
 #[derive(Debug, Drop)]
@@ -51,8 +50,6 @@ pub struct ModelSwitch {
     pub(crate) faults: u64,
     pub(crate) planned: Vec<(CallKind, u64)>,
     pub(crate) calls: Calls,
-    /// How many registers the last pass was computed in.
-    pub(crate) registers: u32,
     ghost safe: { AreSafe (code_in loaded) tables } by { safe_prop (code_in loaded) tables },
 }
 
@@ -89,7 +86,6 @@ impl ModelSwitch {
             faults: 0,
             planned: Vec::new(alloc),
             calls: Calls::none(),
-            registers: 0,
         }
     }
 
@@ -116,11 +112,6 @@ impl ModelSwitch {
         ensures { result ≡ (machine_of self.now).faults }
     {
         self.faults
-    }
-
-    /// How many registers the last pass was computed in, 0 before the first one.
-    pub fn registers(&self) -> u32 {
-        self.registers
     }
 
     // Counts a call, and answers whether it is to fail.
@@ -177,9 +168,6 @@ impl ModelSwitch {
         let Some(loaded) = &mut self.loaded else {
             unreachable!()
         };
-        if !fails {
-            self.registers = loaded.registers(event.side());
-        }
         match loaded.take(alloc, &self.tables, &mut self.journal, event, fails) {
             Ok(end) => {
                 self.count_fault(fails);
@@ -236,7 +224,6 @@ impl ModelSwitch {
         ensures ok { OnOk result (machine_of self.new ≡ with_entry (entry.Visible object) (machine_of self.old)) }
         ensures err { OnErr result (machine_of self.new ≡ machine_of self.old) }
     {
-        what_a_lookup_sees();
         let rows = self.tables.rows(alloc, object)?;
         self.note(Call::Visible(object))?;
         Ok(rows)
@@ -255,7 +242,6 @@ impl SwitchPort for ModelSwitch {
         ensures plan { PortEndsAsPlanned (fails_next (machine_of self.old) call.Load) result }
         ensures counted { IsCountedAs call.Load (has_failed result) (machine_of self.old) (machine_of self.new) }
     {
-        what_is_emitted_can_be_run();
         if self.fails(CallKind::Load) {
             return PortEnd::Failed;
         }

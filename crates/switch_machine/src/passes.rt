@@ -13,9 +13,7 @@ ghost use Rattle.switch_machine.specs.Ready.{all_placed, only_numbers, paired, p
 ghost use Rattle.switch_machine.specs.Ready.{ready_of, targets_of, CanReady, HoldResults, IsDirect};
 
 use crate::ready::{Places, ReadyStage, ReadyStages, ReadyStep};
-use flat_ir::{
-    Arrival, InstrKind, Lookup, Numbers, Results, ValueId, given_number, look, readings_that_agree,
-};
+use flat_ir::{Arrival, InstrKind, Lookup, Numbers, Results, ValueId, given_number, look};
 use transfer_header::Regs;
 
 // The numbers that stand in registers, read by place.
@@ -265,7 +263,6 @@ fn run_directly<L: Lookup>(
     ensures { registers.new ≡ all_placed registers.old (ready_gives (map ready_of steps.now)
         (reads_at registers.old.numbers) (L.seen tables.now) (packet_of arrival.now)) }
 {
-    readings_that_agree();
     for step in steps {
         step.run_directly(tables, arrival, registers);
     }

@@ -194,38 +194,33 @@ fn roomy(alloc: Global, port: &mut ModelSwitch) -> Result<(), Fail>
     Err(Fail::from("no room"))
 }
 
-// Whether a packet of 14 bytes leaves at once by port 17, with which the pass took 7 registers.
+// Whether a packet of 14 bytes leaves at once by port 17.
 fn leaves_by_17(alloc: Global, port: &mut ModelSwitch) -> bool
     requires { IsLoaded (seen_of (machine_of port.old)) }
 {
     match port.pass_up(alloc, 0, 3, &PACKET) {
-        UpEnd::Finished(Verdict::Send(by, bytes)) => by == 17
-            && bytes.as_slice() == PACKET.as_slice()
-            && port.registers() == 7,
+        UpEnd::Finished(Verdict::Send(by, bytes)) => {
+            by == 17 && bytes.as_slice() == PACKET.as_slice()
+        }
         _ => false,
     }
 }
 
-// Before its first pass a switch took no registers.
+// The same of a switch that is loaded before.
 #[tactic(auto, using(crate::proofs::Loaded::loaded_by))]
-fn port_takes_registers(
-    alloc: Global,
-    code: &SwitchCode,
-    port: &mut ModelSwitch,
-) -> Result<bool, Fail>
+fn port_sends(alloc: Global, code: &SwitchCode, port: &mut ModelSwitch) -> Result<bool, Fail>
     requires { IsEmitted (code_of code.now) }
 {
-    let before = port.registers();
     loaded(alloc, port, code)?;
-    Ok(before == 0 && port.registers() == 0 && leaves_by_17(alloc, port))
+    Ok(leaves_by_17(alloc, port))
 }
 
-// The same of a new switch.
+// Whether its pass over a packet that arrives has 7 registers, and the packet leaves a new switch so.
 fn takes_registers(alloc: Global, code: &SwitchCode) -> Result<bool, Fail>
     requires { IsEmitted (code_of code.now) }
 {
     let mut port = ModelSwitch::new(alloc);
-    port_takes_registers(alloc, code, &mut port)
+    Ok(code.pre.plan.count() == 7 && port_sends(alloc, code, &mut port)?)
 }
 
 fn are_registers_taken(alloc: Global) -> Result<bool, Fail> {

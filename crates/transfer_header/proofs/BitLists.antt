@@ -4,11 +4,12 @@ use Rattle.std.proofs.Math.Nat.{min-eq_left}
 use Rattle.std.proofs.lemmas.Bool.{cases_lt}
 use Rattle.std.proofs.lemmas.List.{append-nil, get_or_append_left, get_or-append_right, take-append-drop, length-replicate, take_at, drop_at}
 use Rattle.std.proofs.lemmas.List.Elements.{All-nil, All-cons, All-head, All-tail, All-append, All-take, All-drop, All-replicate}
-use Rattle.std.proofs.lemmas.Nat.{shr_split, shr-shr, shr_high, mul-le, mod-pow-add}
+use Rattle.std.proofs.lemmas.Nat.{shr-shr, shr_high, mul-le, mod-pow-add}
 use Rattle.std.proofs.lemmas.Nat.Bits.{bit_at-lt, bit_at-zero, bit_at_cat_low, bit_at_cat_high}
 use Rattle.std.specs.Int.{bit_at}
 use Rattle.std.specs.List.{All}
 use Rattle.transfer_header.specs.Bits.{bits_of, number_from, bits_in, bytes_for, filled, cut, packed}
+use Rattle.lemmas.proofs.Numbers.{bit_at-low}
 
 abbrev pub AreBits : List ℕ → Type 0
 AreBits bits = All (λ bit. bit < 2) bits
@@ -48,9 +49,6 @@ bits_of-same (suc width) number other same =
 
 pub bit_at-shr : (number k i : ℕ) → bit_at (number / 2 ^ k) i ≡ bit_at number (k + i)
 bit_at-shr number k i = ap (λ x. x % 2) (shr-shr number k i)
-
-pub bit_at-low : (number width i : ℕ) → i < width → bit_at (number % 2 ^ width) i ≡ bit_at number i
-bit_at-low number width i below = sym (bit_at_cat_low (number / 2 ^ width) width (number % 2 ^ width) i below) ∙ ap (λ x. bit_at x i) (shr_split number width)
 
 pub bits_of-low : (width number : ℕ) → bits_of width (number % 2 ^ width) ≡ bits_of width number
 bits_of-low width number = bits_of-same width (number % 2 ^ width) number (λ i below. bit_at-low number width i below)

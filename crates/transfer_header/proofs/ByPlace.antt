@@ -1,9 +1,9 @@
 -- What stands in a frame by place is what it is the frame of.
 use Rattle.std.proofs.Common.{◌≡◌, ℕ, ◌+◌, ◌-◌, ◌*◌, ◌/◌, ◌%◌, ◌^◌, ◌<◌, Bool, true, false, cond, List, [], ◌∷◌, ◌++◌, get_or, length, take, drop, replicate, map, refl, sym, ap, subst, ◌∙◌, append_assoc, mod-eq_of_lt}
-use Rattle.std.specs.Prelude.{◌==◌, IsTrue}
+use Rattle.std.specs.Prelude.{IsTrue}
 use Rattle.std.specs.Int.{to_be_bytes, w32}
 use Rattle.std.specs.List.{All, filter}
-use Rattle.std.proofs.lemmas.Bool.{and_parts, and_from, eq-eqb, eqb-true, true≢false}
+use Rattle.std.proofs.lemmas.Bool.{true≢false}
 use Rattle.std.proofs.lemmas.List.{append-nil, take_at, drop_at, drop-drop}
 use Rattle.std.proofs.lemmas.List.Elements.{All-nil, All-cons, All-head, All-tail}
 use Rattle.std.proofs.lemmas.Nat.{mod_below, pow_pos}
@@ -23,6 +23,7 @@ use Rattle.transfer_header.proofs.BitLists.{length-bits_of, bits_of-low, bits_of
 use Rattle.transfer_header.proofs.LayoutValues.{are_value_bits, value_bits-nil, value_bits-cons}
 use Rattle.transfer_header.proofs.Numbers.{from_all, to_all}
 use Rattle.transfer_header.proofs.WholeFrames.{packet-frame_of}
+use Rattle.flat_ir.proofs.Exact.{same_itself, value_same}
 
 -- ---- the lowest bits of values alone
 pub bits_of_lowest : (layout : List Crossing) (values : Crossing → ℕ) → value_bits layout values ≡ value_bits layout (low_bits values)
@@ -33,11 +34,12 @@ bits_of_lowest (c ∷ cs) values =
     ∙ ap (λ x. bits_of c.width (low_bits values c) ++ x) (bits_of_lowest cs values)
     ∙ sym (value_bits-cons c cs (low_bits values))
 
-pub frame_of_lowest : (kind : ℕ) (layout : List Crossing) (number port : ℕ) (values : Crossing → ℕ) (packet : List ℕ) → frame_of kind layout number port values packet ≡ frame_of kind layout number port (low_bits values) packet
-frame_of_lowest kind layout number port values packet = ap (λ bits. kind ∷ to_be_bytes w32 number ++ port ∷ packed bits ++ packet) (bits_of_lowest layout values)
+-- A frame says of each value its lowest bits alone, as many as its width.
+pub frames_of_low_bits-bytes : (kind : ℕ) (layout : List Crossing) (number port : ℕ) (values : Crossing → ℕ) (packet : List ℕ) → frame_of kind layout number port values packet ≡ frame_of kind layout number port (low_bits values) packet
+frames_of_low_bits-bytes kind layout number port values packet = ap (λ bits. kind ∷ to_be_bytes w32 number ++ port ∷ packed bits ++ packet) (bits_of_lowest layout values)
 
-pub are_low : (layout : List Crossing) (values : Crossing → ℕ) → AreNarrow layout (low_bits values)
-are_low layout values i d within = let c : Crossing = get_or layout i d in mod_below (values c) (2 ^ c.width) (pow_pos c.width)
+pub frames_of_low_bits-narrow : (layout : List Crossing) (values : Crossing → ℕ) → AreNarrow layout (low_bits values)
+frames_of_low_bits-narrow layout values i d within = let c : Crossing = get_or layout i d in mod_below (values c) (2 ^ c.width) (pow_pos c.width)
 
 -- ---- a number of four bytes
 byte_more : (k number : ℕ) → bits_of 8 (number / 2 ^ k % 256) ++ bits_of k number ≡ bits_of (8 + k) number
@@ -58,8 +60,9 @@ pub number_told : (number : ℕ) → number < 2 ^ 32 → number_from (bits_in (t
 number_told number fits = ap number_from (bits_of_bytes number) ∙ number_from-bits_of 32 number ∙ mod-eq_of_lt fits
 
 -- ---- number, port and packet
-pub told_by_place : (kind : ℕ) (layout : List Crossing) (number port : ℕ) (values : Crossing → ℕ) (packet frame : List ℕ) → IsFrameOf kind layout number port values packet frame → IsToldByPlace layout number port packet frame
-told_by_place kind layout number port values packet frame is =
+-- What a frame is the frame of stands in it by place.
+pub frames_are_told_by_place-parts : (kind : ℕ) (layout : List Crossing) (number port : ℕ) (values : Crossing → ℕ) (packet frame : List ℕ) → IsFrameOf kind layout number port values packet frame → IsToldByPlace layout number port packet frame
+frames_are_told_by_place-parts kind layout number port values packet frame is =
     let there : port_in frame ≡ port = ap (λ x. get_or x 5 0) is.bytes in
     let behind : drop (6 + bytes_for (total layout)) frame ≡ packet =
     sym (drop-drop (bytes_for (total layout)) 6 frame) ∙ ap (λ x. drop (bytes_for (total layout)) (drop 6 x)) is.bytes ∙ packet-frame_of kind layout number port values packet in
@@ -70,15 +73,9 @@ told_by_place kind layout number port values packet frame is =
       carries = ap (λ p. P p (drop (6 + bytes_for (total layout)) frame)) there ∙ ap (P port) behind;
     }
 
-pub unpacked_by_place : (kind : ℕ) (layout : List Crossing) (frame : List ℕ) (before after : Registers) (head : Head) → IsUnpacked kind layout frame before after head → IsToldByPlace layout head.number head.port (drop head.packet_at frame) frame
-unpacked_by_place kind layout frame before after head is = told_by_place kind layout head.number head.port (value_in after) (drop head.packet_at frame) frame is.is
-
--- ---- the values
-value_is : (v w : ValueId) → is_value v w ≡ true → v ≡ w
-value_is v w e =
-    let parts = and_parts (v.instruction == w.instruction) (v.result == w.result) e in
-    let P : (i r : ℕ) → ValueId = λ i r. record { instruction = i; result = r } in
-    ap (λ i. P i v.result) (eqb-true v.instruction w.instruction parts.0) ∙ ap (λ r. P w.instruction r) (eqb-true v.result w.result parts.1)
+-- So does what was told of a frame.
+pub frames_are_told_by_place-unpacked : (kind : ℕ) (layout : List Crossing) (frame : List ℕ) (before after : Registers) (head : Head) → IsUnpacked kind layout frame before after head → IsToldByPlace layout head.number head.port (drop head.packet_at frame) frame
+frames_are_told_by_place-unpacked kind layout frame before after head is = frames_are_told_by_place-parts kind layout head.number head.port (value_in after) (drop head.packet_at frame) frame is.is
 
 -- where all of a layout's values that are v are one, and there is one, its bits are found
 among_bits : (layout : List Crossing) (values : Crossing → ℕ) (rest : List ℕ) (v : ValueId) (own : Crossing) → All (λ (c : Crossing). is_value c.value v ≡ true → c ≡ own) layout
@@ -104,9 +101,6 @@ among_bits (c ∷ cs) values rest v own each some =
     among_case later true e = first ∙ ap (λ (q : Crossing). values q % 2 ^ q.width) (All-head (λ (q : Crossing). is_value q.value v ≡ true → q ≡ own) c cs each e)
     among_case later false e = ap (λ x. value_among cs x v) others ∙ later (λ none. some (All-cons (λ (q : Crossing). is_value q.value v ≡ false) c cs e none))
 
-value_self : (v : ValueId) → is_value v v ≡ true
-value_self v = and_from (v.instruction == v.instruction) (v.result == v.result) (eq-eqb v.instruction v.instruction refl) (eq-eqb v.result v.result refl)
-
 abbrev crossings : Program → (ValueId → Bool) → List Crossing
 crossings f crosses = map (crossing f) (filter crosses (values_of f))
 
@@ -120,8 +114,8 @@ value_told f crosses kind number port values packet frame named is v e =
     ap (λ x. bits_in (drop 6 x)) is.bytes ∙ bits_in-append (packed bits) packet ∙ ap (λ x. x ++ bits_in packet) (bits_in-packed bits (are_value_bits layout values)) ∙ append_assoc bits zeros (bits_in packet) in
     ap (λ x. value_among layout x v) all
     ∙ among_bits layout values (zeros ++ bits_in packet) v (crossing f v)
-    (to_all f crosses (λ (c : Crossing). is_value c.value v ≡ true → c ≡ crossing f v) (λ w passes same. ap (crossing f) (value_is w v same)))
-    (λ none. true≢false (sym (value_self v) ∙ from_all f crosses (λ (c : Crossing). is_value c.value v ≡ false) named none v e))
+    (to_all f crosses (λ (c : Crossing). is_value c.value v ≡ true → c ≡ crossing f v) (λ w passes same. ap (crossing f) (value_same w v same)))
+    (λ none. true≢false (sym (same_itself v) ∙ from_all f crosses (λ (c : Crossing). is_value c.value v ≡ false) named none v e))
     ∙ mod-eq_of_lt (from_all f crosses (λ (c : Crossing). values c < 2 ^ c.width) named is.narrow v e)
 
 pub values_told : (f : Program) (crosses : ValueId → Bool) (kind number port : ℕ) (values : Crossing → ℕ) (packet frame : List ℕ) → ((v : ValueId) → crosses v ≡ true → IsTrue (is_named f v))

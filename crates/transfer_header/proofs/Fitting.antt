@@ -16,15 +16,13 @@ use Rattle.split_model.specs.declared.layout.Crossing.{Crossing}
 use Rattle.transfer_header.specs.Registers.{Registers, place_by, place_of, HasRegister, ArePlaced, IsRising, FitsLayout}
 use Rattle.transfer_header.specs.Steps.{IsNeeded, AreKeptApart}
 use Rattle.transfer_header.proofs.Elements.{AllPairs-map}
+use Rattle.lemmas.proofs.Tests.{some_is}
 
 -- ---- a register for each value
 pub own_place : (registers : Registers) → registers.plan ≡ None → (value : ℕ) → value < length registers.numbers → place_of registers value ≡ Some value
 own_place registers none value below =
     ap (λ (p : Option RegisterPlan). place_by p (length registers.numbers) value) none
     ∙ ap (λ (b : Bool). cond b (Some value) None) (lt-ltb value (length registers.numbers) below)
-
-pub some_is : {X : Type 0} (o : Option X) (x : X) → o ≡ Some x → IsSome o
-some_is o x e = subst (λ (p : Option _). IsSome p) (sym e) refl
 
 pub fits_own : (layout : List Crossing) (registers : Registers) → registers.plan ≡ None → IsRising layout → All (λ (c : Crossing). c.number < length registers.numbers) layout → FitsLayout layout registers
 fits_own layout registers none rising among = record {
@@ -58,9 +56,10 @@ has_cover (first ∷ spans) step value e = elim (or_cases (first.value == value 
       )
 ]
 
-pub fits_needed : (layout : List Crossing) (spans : List Span) (registers : Registers) (step : ℕ) → AreKeptApart spans registers → IsRising layout → All (λ (c : Crossing). IsNeeded spans step c.number) layout
+-- Such registers serve for the values of a layout that are all needed at one step.
+pub needed_values_fit : (layout : List Crossing) (spans : List Span) (registers : Registers) (step : ℕ) → AreKeptApart spans registers → IsRising layout → All (λ (c : Crossing). IsNeeded spans step c.number) layout
     → FitsLayout layout registers
-fits_needed layout spans registers step kept rising all = record {
+needed_values_fit layout spans registers step kept rising all = record {
   rising = rising;
   among = λ k d within.
       let need = has_cover spans step (get_or layout k d).number (all k d within) in

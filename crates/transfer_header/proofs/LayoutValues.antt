@@ -11,18 +11,12 @@ use Rattle.transfer_header.specs.Values.{total, value_bits, AreNarrow, Agree}
 use Rattle.flat_ir.specs.Plan.{RegisterPlan}
 use Rattle.transfer_header.specs.Registers.{Registers, place_by, place_of, content_of, HasRegister, value_in, ChangesOnly}
 use Rattle.transfer_header.proofs.BitLists.{AreBits, are_bits_of, length-bits_of, length-bits_in, number_from-bits_of}
+use Rattle.split_model.proofs.Sums.{bits_more}
 
 -- ---- how many bits they have
 pub total-append : (layout others : List Crossing) → total (layout ++ others) ≡ total layout + total others
 total-append [] others = omega arith
 total-append (c ∷ cs) others = omega (arith, total-append cs others)
-
-pub total_push : (layout : List Crossing) (c : Crossing) → total (layout ++ c ∷ []) ≡ total layout + c.width
-total_push layout c = omega (arith, total-append layout (c ∷ []))
-
-pub total-more : (layout : List Crossing) (i : ℕ) (c : Crossing) → i < length layout → c ≡ get_or layout i c → total (take (i + 1) layout) ≡ total (take i layout) + c.width
-total-more layout i c within is =
-    ap total (take_more layout i c within) ∙ total_push (take i layout) (get_or layout i c) ∙ ap (λ (q : Crossing). total (take i layout) + q.width) (sym is)
 
 pub total-take : (layout : List Crossing) (i : ℕ) → total (take i layout) ≤ total layout
 total-take layout i = omega (arith, total-append (take i layout) (drop i layout), ap total (take-append-drop i layout))
@@ -148,7 +142,7 @@ narrow_written layout before after i c number apart within is written so_far fit
 
 -- a value ends within the bits of its layout
 pub value_within : (items layout : List Crossing) (i at width : ℕ) (c : Crossing) → items ≡ layout → i < length items → c ≡ get_or items i c → width ≡ c.width → at ≡ total (take i items) → at + width ≤ total layout
-value_within items layout i at width c all within is same so_far = omega (arith, total-more items i c within is, total-take items (i + 1), ap total all)
+value_within items layout i at width c all within is same so_far = omega (arith, bits_more items i c within is, total-take items (i + 1), ap total all)
 
 pub has_at : (items layout : List Crossing) (i : ℕ) (registers : Registers) (c : Crossing) → items ≡ layout → i < length items → c ≡ get_or items i c → All (λ (q : Crossing). HasRegister registers q.number) layout → HasRegister registers c.number
 has_at items layout i registers c all within is among =

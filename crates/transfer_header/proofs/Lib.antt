@@ -12,3 +12,4 @@ pub mod Passing
 pub mod PlacedNumbers
 pub mod WholeFrames
 pub mod Writes
+pub mod Laws

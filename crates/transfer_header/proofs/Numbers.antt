@@ -18,15 +18,12 @@ use Rattle.flat_ir.specs.Kinds.{is_input}
 use Rattle.transfer_header.specs.Registers.{Registers, IsRising, FitsLayout}
 use Rattle.transfer_header.proofs.Elements.{AllPairs-map}
 use Rattle.transfer_header.proofs.Fitting.{fits_own}
+use Rattle.split_model.proofs.Numbering.{count_results as length-first_results}
 
 abbrev count_of : Program → ℕ → ℕ
 count_of f n = result_count f.objects (step_at f n).work
 
-length-first_results : (i n : ℕ) → length (first_results i n) ≡ n
-length-first_results i zero = refl
-length-first_results i (suc n) = length-append (first_results i n) (record { instruction = i; result = n } ∷ []) ∙ omega (arith, length-first_results i n)
-
-get_or-first_results : (i n j : ℕ) (d : ValueId) → j < n → get_or (first_results i n) j d ≡ record { instruction = i; result = j }
+pub get_or-first_results : (i n j : ℕ) (d : ValueId) → j < n → get_or (first_results i n) j d ≡ record { instruction = i; result = j }
 get_or-first_results i zero j d below = absurd (omega arith)
 get_or-first_results i (suc n) j d below =
     let last : ValueId = record { instruction = i; result = n } in
@@ -79,8 +76,9 @@ in_range f v named =
     let both = and_parts (nat_lt v.instruction (length f.code)) (nat_lt v.result (count_of f v.instruction)) named in
     (ltb-true v.instruction (length f.code) both.0, ltb-true v.result (count_of f v.instruction) both.1)
 
-pub value_at_number : (f : Program) (v : ValueId) → IsTrue (is_named f v) → slice_get (values_of f) (number_of f v) ≡ Some v
-value_at_number f v named =
+-- Among all values of a program each stands at its number, so that no two have the same.
+pub values_have_their_numbers : (f : Program) (v : ValueId) → IsTrue (is_named f v) → slice_get (values_of f) (number_of f v) ≡ Some v
+values_have_their_numbers f v named =
     let range = in_range f v named in
     let there = stands f (length f.code) v.instruction v.result v range.0 range.1 in
     slice_get-get_or (values_of f) (number_of f v) v there.0 ∙ ap (λ (x : ValueId). Some x) there.1

@@ -2,7 +2,7 @@
 use Rattle.std.proofs.Common.{◌≡◌, ◌≢◌, ℕ, zero, suc, ◌+◌, ◌<◌, ◌≤◌, Bool, true, cond, List, [], ◌∷◌, length, map, Option, Some, None, IsSome, ◌↔◌, refl, sym, ap, subst, ◌∙◌, inl, inr, arith}
 use Rattle.std.specs.Prelude.{nat_le, All, Contains}
 use Rattle.std.proofs.lemmas.List.Elements.{All-contains, All-head, All-tail}
-use Rattle.std.proofs.lemmas.Bool.{cases_eq, cases_Bool, and_from, and_parts, le-leb, leb-true, true≢false}
+use Rattle.std.proofs.lemmas.Bool.{cases_eq, cases_Bool, and_from, le-leb, true≢false}
 use Rattle.flat_ir.specs.declared.spans.Span.{Span}
 use Rattle.flat_ir.specs.Spans.{last_step, covers, spans_of}
 use Rattle.flat_ir.specs.Plan.{RegisterPlan, register_of, AreApart}
@@ -10,11 +10,7 @@ use Rattle.transfer_header.specs.Registers.{Registers, place_by, place_of, numbe
 use Rattle.transfer_header.specs.Steps.{Contents, Steps, is_among, LooksAtReadsAlone, reading_after, one_each, all_written, pairs_written, registers_after, in_registers, IsSpanOf, AreSpansOf, AreKeptApart, IsReady, KeepsCovered, IsDoneAlike, IsAlike}
 use Rattle.transfer_header.proofs.Members.{HasSpan, has_span, is_counted}
 use Rattle.transfer_header.proofs.Writes.{AreOut, all_written_is, places_all, placed_all}
-
-covered : (step : ℕ) (span : Span) → covers step span ≡ true → (span.from ≤ step) × (step ≤ last_step span)
-covered step span e =
-    let parts = and_parts (nat_le span.from step) (nat_le step (last_step span)) e in
-    (leb-true span.from step parts.0, leb-true step (last_step span) parts.1)
+use Rattle.flat_ir.proofs.PlanSteps.{covered}
 
 is_covered : (step : ℕ) (span : Span) → span.from ≤ step → step ≤ last_step span → covers step span ≡ true
 is_covered step span from last = and_from (nat_le span.from step) (nat_le step (last_step span)) (le-leb span.from step from) (le-leb step (last_step span) last)
@@ -104,9 +100,11 @@ still_apart spans registers other same kept = record {
   apart = λ a b step ia ib differ ca cb e. kept.apart a b step ia ib differ ca cb (sym (same a.value) ∙ e ∙ same b.value);
 }
 
-pub done_alike : (steps : Steps) (spans : List Span) (registers : Registers) (contents : Contents) (step : ℕ)
+-- A step in registers that are used again reads what it would read if each value had a register of its own, and the
+-- next step is ready.
+pub a_step_in_registers : (steps : Steps) (spans : List Span) (registers : Registers) (contents : Contents) (step : ℕ)
     → LooksAtReadsAlone steps → AreSpansOf steps spans → IsReady spans registers contents step → IsDoneAlike steps spans registers contents step
-done_alike steps spans registers contents step alone of ready =
+a_step_in_registers steps spans registers contents step alone of ready =
     let keeps = after steps spans registers contents step alone of ready in
     let numbers = steps.number step (content_of registers) in
     record {
@@ -134,23 +132,25 @@ ready_at steps spans start alone of kept placed (suc step) =
     let before = ready_at steps spans start alone of kept placed step in
     let e : step + 1 ≡ suc step = omega arith in
     subst (IsReady spans (in_registers steps start (suc step)) (one_each steps (suc step))) e
-    (done_alike steps spans (in_registers steps start step) (one_each steps step) step alone of before).next
+    (a_step_in_registers steps spans (in_registers steps start step) (one_each steps step) step alone of before).next
 
-pub alike : (steps : Steps) (spans : List Span) (start : Registers)
+-- Each step of a pass in registers that are used again does what it does where each value has a register of its own.
+pub a_pass_in_registers : (steps : Steps) (spans : List Span) (start : Registers)
     → LooksAtReadsAlone steps → AreSpansOf steps spans → AreKeptApart spans start → ArePlaced start → IsAlike steps spans start
-alike steps spans start alone of kept placed step =
+a_pass_in_registers steps spans start alone of kept placed step =
     let ready = ready_at steps spans start alone of kept placed step in
-    (ready, done_alike steps spans (in_registers steps start step) (one_each steps step) step alone of ready)
+    (ready, a_step_in_registers steps spans (in_registers steps start step) (one_each steps step) step alone of ready)
 
 -- ---- registers of a plan
 some_of : (o : Option ℕ) → (o ≡ None → ⊥) → IsSome o
 some_of (Some x) other = refl
 some_of None other = absurd (other refl)
 
-pub plan_apart : (spans : List Span) (plan : RegisterPlan) (registers : Registers)
+-- In the registers of a plan that was made of spans, values that are needed at one step are apart.
+pub a_plan_keeps_apart : (spans : List Span) (plan : RegisterPlan) (registers : Registers)
     → ((value : ℕ) → (register_of plan value ≡ None) ↔ (spans_of spans value ≡ 0))
     → AreApart spans plan.rows → registers.plan ≡ Some plan → AreKeptApart spans registers
-plan_apart spans plan registers none apart is = record {
+a_plan_keeps_apart spans plan registers none apart is = record {
   has = λ span there. subst (λ (place : Option ℕ). IsSome place) (sym (place span.value))
       (some_of (register_of plan span.value) (λ e. omega (arith, (none span.value).0 e, is_counted spans span there)));
   none = λ value free. place value ∙ (none value).1 free;
@@ -161,9 +161,10 @@ plan_apart spans plan registers none apart is = record {
     place value = ap (λ (p : Option RegisterPlan). place_by p (length registers.numbers) value) is
 
 -- ---- a list of values and their numbers
-pub pairs_are : (registers : Registers) (pairs : List (ℕ × ℕ)) (numbers : Contents) → All (λ p. p.1 ≡ numbers p.0) pairs
+-- To write a list of values and their numbers is to write the values with these numbers.
+pub a_list_is_written : (registers : Registers) (pairs : List (ℕ × ℕ)) (numbers : Contents) → All (λ p. p.1 ≡ numbers p.0) pairs
     → pairs_written registers pairs ≡ all_written registers (map (λ (p : ℕ × ℕ). p.0) pairs) numbers
-pairs_are registers [] numbers all = refl
-pairs_are registers (pair ∷ pairs) numbers all =
-    pairs_are (written registers pair.0 pair.1) pairs numbers (All-tail (λ (p : ℕ × ℕ). p.1 ≡ numbers p.0) pair pairs all)
+a_list_is_written registers [] numbers all = refl
+a_list_is_written registers (pair ∷ pairs) numbers all =
+    a_list_is_written (written registers pair.0 pair.1) pairs numbers (All-tail (λ (p : ℕ × ℕ). p.1 ≡ numbers p.0) pair pairs all)
     ∙ ap (λ (n : ℕ). all_written (written registers pair.0 n) (map (λ (p : ℕ × ℕ). p.0) pairs) numbers) (All-head (λ (p : ℕ × ℕ). p.1 ≡ numbers p.0) pair pairs all)

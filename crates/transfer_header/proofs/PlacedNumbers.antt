@@ -4,7 +4,7 @@ use Rattle.std.specs.Prelude.{slice_index}
 use Rattle.transfer_header.specs.Ready.{all_placed, first_placed}
 use Rattle.transfer_header.specs.Registers.{Registers, placed}
 
-placed_behind : (registers : Registers) (ps qs : List (ℕ × ℕ)) → all_placed registers (ps ++ qs) ≡ all_placed (all_placed registers ps) qs
+pub placed_behind : (registers : Registers) (ps qs : List (ℕ × ℕ)) → all_placed registers (ps ++ qs) ≡ all_placed (all_placed registers ps) qs
 placed_behind registers [] qs = refl
 placed_behind registers (p ∷ ps) qs = placed_behind (placed registers p.0 p.1) ps qs
 

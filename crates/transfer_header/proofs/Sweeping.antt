@@ -7,6 +7,7 @@ use Rattle.std.proofs.lemmas.List.{get_or-set_same, get_or-set_other, get_or_def
 use Rattle.flat_ir.specs.declared.program.Block.{Block}
 use Rattle.flat_ir.specs.Blocks.{block_at, line, HasLowParents}
 use Rattle.transfer_header.specs.BlockSteps.{greatest, greatest_below, step_if}
+use Rattle.lemmas.proofs.Tests.{or_false}
 
 if_zero : (b : Bool) → step_if b 0 ≡ 0
 if_zero true = refl
@@ -124,13 +125,9 @@ handed blocks test steps k parent lt low goes =
         swept_low blocks test (suc k) (suc k) (omega arith) ∙ ap (list_any test) goes
         ∙ ap (λ b. b || list_any test (line blocks parent)) (sym (swept_high blocks test k (suc k) (omega arith)))
 
-or_none : (b : Bool) → (b || false) ≡ b
-or_none true = refl
-or_none false = refl
-
 -- the root has none above it
 pub all_swept : (blocks : List Block) (test : ℕ → Bool) (b : ℕ) → swept blocks test 0 b ≡ test b
-all_swept blocks test zero = or_none (test 0)
+all_swept blocks test zero = or_false (test 0)
 all_swept blocks test (suc b) = swept_high blocks test 0 (suc b) (omega arith)
 
 -- one block hands its step up

@@ -49,9 +49,6 @@ header-frame_of kind layout number port values packet = take_at (packed (value_b
 pub packet-frame_of : (kind : ℕ) (layout : List Crossing) (number port : ℕ) (values : Crossing → ℕ) (packet : List ℕ) → drop (bytes_for (total layout)) (drop 6 (frame_of kind layout number port values packet)) ≡ packet
 packet-frame_of kind layout number port values packet = drop_at (packed (value_bits layout values)) packet (bytes_for (total layout)) (length-packed layout values)
 
-pub kind-frame_of : (kind : ℕ) (layout : List Crossing) (number port : ℕ) (values : Crossing → ℕ) (packet : List ℕ) → get_or (frame_of kind layout number port values packet) 0 0 ≡ kind
-kind-frame_of kind layout number port values packet = refl
-
 number-frame_of : (kind : ℕ) (layout : List Crossing) (number port : ℕ) (values : Crossing → ℕ) (packet : List ℕ) → take 4 (drop 1 (frame_of kind layout number port values packet)) ≡ to_be_bytes w32 number
 number-frame_of kind layout number port values packet = refl
 
@@ -60,13 +57,8 @@ port-frame_of kind layout number port values packet = refl
 
 -- ---- a frame from its parts
 six : (xs : List ℕ) → 6 ≤ length xs → xs ≡ get_or xs 0 0 ∷ get_or xs 1 0 ∷ get_or xs 2 0 ∷ get_or xs 3 0 ∷ get_or xs 4 0 ∷ get_or xs 5 0 ∷ drop 6 xs
-six [] within = absurd (omega arith)
-six (a ∷ []) within = absurd (omega arith)
-six (a ∷ b ∷ []) within = absurd (omega arith)
-six (a ∷ b ∷ c ∷ []) within = absurd (omega arith)
-six (a ∷ b ∷ c ∷ d ∷ []) within = absurd (omega arith)
-six (a ∷ b ∷ c ∷ d ∷ e ∷ []) within = absurd (omega arith)
 six (a ∷ b ∷ c ∷ d ∷ e ∷ f ∷ rest) within = refl
+six xs within = absurd (omega arith)
 
 four : (frame : List ℕ) → AreBytes frame → 6 ≤ length frame → (i : ℕ) → get_or (get_or frame 1 0 ∷ get_or frame 2 0 ∷ get_or frame 3 0 ∷ get_or frame 4 0 ∷ []) i 0 < 256
 four frame are within zero = are 1 0 (omega arith)
@@ -91,9 +83,10 @@ frame_is kind layout frame number at values are is within kind_is number_is head
     ∙ sym (ap (λ x. kind ∷ x ++ get_or frame 5 0 ∷ (packed (value_bits layout values) ++ drop at frame)) bytes)
 
 -- ---- frames of the same bytes
-pub frames_are_same : (kind : ℕ) (layout : List Crossing) (number number' port port' : ℕ) (values values' : Crossing → ℕ) (packet packet' frame : List ℕ)
+-- Bytes are the frame of one number, one port, one packet, and one number for each value.
+pub frames_tell_their_parts : (kind : ℕ) (layout : List Crossing) (number number' port port' : ℕ) (values values' : Crossing → ℕ) (packet packet' frame : List ℕ)
     → IsFrameOf kind layout number port values packet frame → IsFrameOf kind layout number' port' values' packet' frame → AreSame layout number number' port port' values values' packet packet'
-frames_are_same kind layout number number' port port' values values' packet packet' frame is is' =
+frames_tell_their_parts kind layout number number' port port' values values' packet packet' frame is is' =
     let same : frame_of kind layout number port values packet ≡ frame_of kind layout number' port' values' packet' = sym is.bytes ∙ is'.bytes in
     let four_bytes : to_be_bytes w32 number ≡ to_be_bytes w32 number' = sym (number-frame_of kind layout number port values packet) ∙ ap (λ x. take 4 (drop 1 x)) same ∙ number-frame_of kind layout number' port' values' packet' in
     let headers : packed (value_bits layout values) ≡ packed (value_bits layout values') =
@@ -105,9 +98,10 @@ frames_are_same kind layout number number' port port' values values' packet pack
       same_packet = sym (packet-frame_of kind layout number port values packet) ∙ ap (λ x. drop (bytes_for (total layout)) (drop 6 x)) same ∙ packet-frame_of kind layout number' port' values' packet';
     }
 
-pub frames_of_same : (kind : ℕ) (layout : List Crossing) (number port : ℕ) (values others : Crossing → ℕ) (packet : List ℕ) → Agree layout values others
+-- A frame says nothing of its values but their numbers.
+pub frames_of_equal_values : (kind : ℕ) (layout : List Crossing) (number port : ℕ) (values others : Crossing → ℕ) (packet : List ℕ) → Agree layout values others
     → frame_of kind layout number port values packet ≡ frame_of kind layout number port others packet
-frames_of_same kind layout number port values others packet agree =
+frames_of_equal_values kind layout number port values others packet agree =
     ap (λ bits. kind ∷ to_be_bytes w32 number ++ port ∷ packed bits ++ packet) (value_bits-same layout values others agree)
 
 -- ---- what is no frame
@@ -146,7 +140,7 @@ length_range frame bits all same within =
 pub read_back : (kind : ℕ) (layout : List Crossing) (number port : ℕ) (values : Crossing → ℕ) (packet frame : List ℕ) (before after : Registers) (head : Head)
     → IsUnpacked kind layout frame before after head → IsFrameOf kind layout number port values packet frame → IsReadBack layout number port values packet frame after head
 read_back kind layout number port values packet frame before after head told is =
-    frames_are_same kind layout head.number number head.port port (value_in after) values (drop head.packet_at frame) packet frame told.is is
+    frames_tell_their_parts kind layout head.number number head.port port (value_in after) values (drop head.packet_at frame) packet frame told.is is
 
 -- bytes that are the frame of some parts are a frame
 pub a_frame : (kind : ℕ) (layout : List Crossing) (number port : ℕ) (values : Crossing → ℕ) (packet frame : List ℕ)

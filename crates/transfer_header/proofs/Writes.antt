@@ -10,7 +10,7 @@ use Rattle.transfer_header.proofs.LayoutValues.{IsSet}
 use Rattle.transfer_header.proofs.Members.{at_front, behind}
 
 -- ---- places stay
-size_by : (numbers : List ℕ) (place : Option ℕ) (to : ℕ) → length (set_by numbers place to) ≡ length numbers
+pub size_by : (numbers : List ℕ) (place : Option ℕ) (to : ℕ) → length (set_by numbers place to) ≡ length numbers
 size_by numbers None to = refl
 size_by numbers (Some place) to = length-set numbers place to
 
@@ -29,7 +29,7 @@ placed_written registers value to placed v p e =
     omega (arith, placed v p (sym (places_written registers value to v) ∙ e), size_by registers.numbers (place_of registers value) to)
 
 -- ---- one write
-itself_by : (numbers : List ℕ) (place : Option ℕ) (to : ℕ) → IsSome place → ((p : ℕ) → place ≡ Some p → p < length numbers) → number_by (set_by numbers place to) place ≡ to
+pub itself_by : (numbers : List ℕ) (place : Option ℕ) (to : ℕ) → IsSome place → ((p : ℕ) → place ≡ Some p → p < length numbers) → number_by (set_by numbers place to) place ≡ to
 itself_by numbers None to some within = absurd (cc)
 itself_by numbers (Some place) to some within = get_or-set_same numbers place to 0 (within place refl)
 
@@ -43,9 +43,10 @@ written_itself registers value to has placed =
     ap (number_by (set_by registers.numbers (place_of registers value) to)) (places_written registers value to value)
     ∙ itself_by registers.numbers (place_of registers value) to has (placed value)
 
-pub written_other : (registers : Registers) (value to other : ℕ) → place_of registers value ≢ place_of registers other
+-- A write leaves the numbers of all values in other registers.
+pub a_write_keeps_others : (registers : Registers) (value to other : ℕ) → place_of registers value ≢ place_of registers other
     → content_of (written registers value to) other ≡ content_of registers other
-written_other registers value to other apart =
+a_write_keeps_others registers value to other apart =
     ap (number_by (set_by registers.numbers (place_of registers value) to)) (places_written registers value to other)
     ∙ other_by registers.numbers (place_of registers value) (place_of registers other) to apart
 
@@ -91,7 +92,7 @@ all_written_is registers (first ∷ values) numbers value has placed out =
           ∙ sym (ap (λ (b : Bool). cond b (numbers value) (content_of registers value)) (or_left (first == value) later (eq-eqb first value same)))
           )
       | inr other ↦ (
-          let kept = written_other registers first (numbers first) value (out.apart first (at_front first values) other) in
+          let kept = a_write_keeps_others registers first (numbers first) value (out.apart first (at_front first values) other) in
           rest ∙ ap (λ (x : ℕ). cond later (numbers value) x) kept
           ∙ sym (ap (λ (b : Bool). cond (b || later) (numbers value) (content_of registers value)) (ne_eqb first value other))
           )

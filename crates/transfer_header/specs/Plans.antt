@@ -4,6 +4,7 @@ use Rattle.std.specs.Coded.{Coded-set, coded_ℕ, coded_option, le_prop}
 use Rattle.flat_ir.specs.declared.spans.Span.{Span}
 use Rattle.flat_ir.specs.Plan.{RegisterPlan, register_of, AreBelow, AreApart}
 use Rattle.flat_ir.specs.Spans.{overlap, spans_of}
+use Rattle.lemmas.proofs.Tests.{never_prop}
 
 -- Whatever has a span has a register, and nothing else has; values that are needed at one step have two; and there are
 -- no more registers than the greatest number of spans that cover one step.
@@ -13,10 +14,6 @@ pub record IsPlanOf (spans : List Span) (plan : RegisterPlan) : Type 0 where
   pub apart : AreApart spans plan.rows
   pub enough : (step : ℕ) → overlap spans step ≤ plan.count
   pub fewest : (count : ℕ) → ((step : ℕ) → overlap spans step ≤ count) → plan.count ≤ count
-
--- this has at most one proof
-never_prop : IsProp ⊥
-never_prop a b = absurd a
 
 pub plan_prop : (spans : List Span) (plan : RegisterPlan) → IsProp (IsPlanOf spans plan)
 plan_prop spans plan a b = λ i. record {

@@ -4,7 +4,7 @@ ghost use Rattle.std.specs.List.{list_any};
 ghost use Rattle.flat_ir.specs.Blocks.{line, HasLowParents};
 ghost use Rattle.transfer_header.specs.BlockSteps.{greatest, step_if};
 
-use flat_ir::{Blocks, lines_of_blocks};
+use flat_ir::Blocks;
 use gal_io::NoMemory;
 use std::alloc::Global;
 use std::marker::Model;
@@ -60,7 +60,6 @@ impl BlockSteps {
         ensures greatest { (test : ℕ → Bool)
             → greatest test self.new ≡ greatest (λ b. list_any test (line blocks.now b)) self.old }
     {
-        lines_of_blocks();
         let mut block = blocks.len();
         while block > 0 {
             let parent = blocks.as_slice()[block - 1].parent;

@@ -2,7 +2,7 @@
 use Rattle.std.proofs.Common.{◌≡◌, ℕ, zero, suc, ◌+◌, true, List, [], ◌∷◌, ◌++◌, Option, Some, refl, subst, arith, take}
 use Rattle.std.specs.Prelude.{slice_get}
 use Rattle.writeback_table.specs.declared.command.Command.{Command}
-use Rattle.writeback_table.specs.declared.command.Command.TheVariants.{Stage, On, Main, Off, Clear}
+use Rattle.writeback_table.specs.declared.command.Command.TheVariants.{On}
 use Rattle.writeback_table.specs.Commands.{counts_on, ons}
 use Rattle.writeback_table.proofs.Slots.{Slot, slot_after, slot_through, slot_room, seen_in}
 
@@ -15,10 +15,7 @@ Sees shown v slot = (key : List ℕ) → seen_in slot key ≡ shown v key
 
 abbrev pub version_after : ℕ → Command → ℕ
 version_after v On = suc v
-version_after v (Stage u) = v
-version_after v (Main u) = v
-version_after v Off = v
-version_after v (Clear o key) = v
+version_after v _ = v
 
 abbrev pub version_through : ℕ → List Command → ℕ
 version_through v [] = v
@@ -31,10 +28,7 @@ Follows o shown v slot (c ∷ cs) = Sees shown v slot × (slot_room o slot c ≡
 
 counted : (v : ℕ) (c : Command) → version_after v c ≡ v + counts_on c
 counted v On = omega arith
-counted v (Stage u) = omega arith
-counted v (Main u) = omega arith
-counted v Off = omega arith
-counted v (Clear o key) = omega arith
+counted v _ = omega arith
 
 pub version_ons : (v : ℕ) (cs : List Command) → version_through v cs ≡ v + ons cs
 version_ons v [] = omega arith

@@ -13,17 +13,14 @@ use Rattle.writeback_table.specs.Batches.{changed_by, all_commands, object_after
 use Rattle.writeback_table.proofs.Follows.{Shown, Follows, version_ons, follows_join, follows_at, follows_room, through_append}
 use Rattle.writeback_table.proofs.Phases.{Laws}
 use Rattle.writeback_table.proofs.Batches.{seen_at_once, batch_follows, batch_ends, ons_after}
-
-take_all : {X : Type 0} (xs : List X) → take (length xs) xs ≡ xs
-take_all [] = refl
-take_all (x ∷ xs) = ap (λ l. x ∷ l) (take_all xs)
+use Rattle.lemmas.proofs.Lists.{take_whole}
 
 batch_long : (us vs : List Update) (cs : List Command) → length us < length (map (λ u. Stage u) us ++ (On ∷ cs))
 batch_long [] vs cs = omega arith
 batch_long (u ∷ us) vs cs = let r = batch_long us vs cs in omega arith
 
 pub batch_ons : (us : List Update) → ons (commands_of us) ≡ 1
-batch_ons us = sym (ap ons (take_all (commands_of us))) ∙ ons_after us (length (commands_of us)) (batch_long us us (map (λ u. Main u) us ++ (Off ∷ map clear_of us)))
+batch_ons us = sym (ap ons (take_whole (commands_of us))) ∙ ons_after us (length (commands_of us)) (batch_long us us (map (λ u. Main u) us ++ (Off ∷ map clear_of us)))
 
 pub ons_append : (cs ds : List Command) → ons (cs ++ ds) ≡ ons cs + ons ds
 ons_append [] ds = omega arith

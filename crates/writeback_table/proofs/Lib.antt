@@ -6,3 +6,4 @@ pub mod Histories
 pub mod Joins
 pub mod Rooms
 pub mod Overlays
+pub mod Laws

@@ -1,21 +1,19 @@
 -- The rows of several tables over one another.
-use Rattle.std.proofs.Common.{◌≡◌, ℕ, Bool, true, false, cond, List, [], ◌∷◌, Option, Some, None, is_some, refl, sym, ap, subst, ◌∙◌}
-use Rattle.std.specs.Prelude.{T, ◌&&◌}
-use Rattle.std.specs.Ordering.{is_eq, is_lt, eq_by_cmp}
-use Rattle.std.specs.declared.cmp.Ordering.{Ordering}
-use Rattle.std.specs.declared.cmp.Ordering.TheVariants.{Less, Equal, Greater}
-use Rattle.std.specs.FinMap.{find, is_sorted, get, insert, remove, empty, entries, entries_sorted, from_entries, from_sorted, get-empty, get-entries, get-from_entries, get-from_sorted, get-insert, get-remove, entries-from_sorted, same_map}
+use Rattle.std.proofs.Common.{◌≡◌, ℕ, Bool, true, false, cond, List, [], ◌∷◌, Option, Some, None, is_some, refl, sym, ap, ◌∙◌}
+use Rattle.std.specs.Prelude.{T}
+use Rattle.std.specs.Ordering.{eq_by_cmp}
+use Rattle.std.specs.FinMap.{find, is_sorted, get, insert, remove, empty, entries, entries_sorted, get-empty, get-entries, get-insert, get-remove, same_map}
 use Rattle.std.specs.FinMap.Entries.{below_all}
 use Rattle.std.proofs.lemmas.Cmp.{nat_list_cmp_total}
 use Rattle.std.proofs.lemmas.Map.Lookups.{exact_bytes}
 use Rattle.state_store.specs.Store.{Contents, Object, key_cmp, is_full, is_out, put_answer, put_row, rows_from, with_rows}
 use Rattle.state_store.specs.declared.store.Put.TheVariants.{Stored, Full, OutOfRange}
-use Rattle.state_store.specs.declared.object.Row.{Row}
-use Rattle.writeback_table.specs.Pair.{Staged, with_staged}
+use Rattle.writeback_table.specs.Pair.{with_staged}
 use Rattle.writeback_table.specs.Seen.{without_rows}
 use Rattle.writeback_table.specs.Staging.{joined}
 use Rattle.writeback_table.proofs.Slots.{over, get_with_staged}
 use Rattle.writeback_table.proofs.Joins.{both, get_joined}
+use Rattle.lemmas.proofs.Tests.{T_first, T_second, eq_equal, less_not_equal}
 
 abbrev Entries : Type 0
 Entries = List (List ℕ × List ℕ)
@@ -35,29 +33,11 @@ abbrev first_of_two : Option (List ℕ) → Option (List ℕ) → Option (List �
 first_of_two (Some v) below = Some v
 first_of_two None below = below
 
-not_equal : (r : Ordering) → T (is_lt r) → is_eq r ≡ false
-not_equal Less h = refl
-not_equal Equal h = absurd h
-not_equal Greater h = absurd h
-
-left : (a b : Bool) → T (a && b) → T a
-left true b h = tt
-left false b h = h
-
-right : (a b : Bool) → T (a && b) → T b
-right true b h = h
-right false b h = absurd h
-
 -- a key below all others stands once
 once : (k : List ℕ) (es : Entries) → T (below_all key_cmp k es) → find key_cmp k es ≡ None
 once k [] h = refl
 once k (e ∷ es) h =
-    let apart = not_equal (key_cmp k e.0) (left _ _ h) in ap (λ b. cond b (Some e.1) (find key_cmp k es)) apart ∙ once k es (right _ _ h)
-
-is_equal : (x : Ordering) → is_eq x ≡ true → x ≡ Equal
-is_equal Less e = cc
-is_equal Equal e = refl
-is_equal Greater e = cc
+    let apart = less_not_equal (key_cmp k e.0) (T_first _ _ h) in ap (λ b. cond b (Some e.1) (find key_cmp k es)) apart ∙ once k es (T_second _ _ h)
 
 either_way : (b : Bool) (v : List ℕ) (rest below : Option (List ℕ)) → (b ≡ true → rest ≡ None) → first_of_two rest (cond b (Some v) below) ≡ first_of_two (cond b (Some v) rest) below
 either_way true v rest below h = ap (λ x. first_of_two x (Some v)) (h refl)
@@ -66,9 +46,9 @@ either_way false v rest below h = refl
 pub get_with_rows : (es : Entries) → T (is_sorted key_cmp es) → (m : Contents) (q : List ℕ) → get (with_rows (rows_from es) m) q ≡ first_of_two (find key_cmp q es) (get m q)
 get_with_rows [] h m q = refl
 get_with_rows (e ∷ es) h m q =
-    get_with_rows es (right _ _ h) (insert m e.0 e.1) q
+    get_with_rows es (T_second _ _ h) (insert m e.0 e.1) q
     ∙ ap (first_of_two (find key_cmp q es)) (get-insert nat_list_cmp_total m e.0 e.1 q)
-    ∙ either_way (eq_by_cmp key_cmp q e.0) e.1 (find key_cmp q es) (get m q) (λ same. ap (λ k. find key_cmp k es) (exact_bytes q e.0 (is_equal (key_cmp q e.0) same)) ∙ once e.0 es (left _ _ h))
+    ∙ either_way (eq_by_cmp key_cmp q e.0) e.1 (find key_cmp q es) (get m q) (λ same. ap (λ k. find key_cmp k es) (exact_bytes q e.0 (eq_equal (key_cmp q e.0) same)) ∙ once e.0 es (T_first _ _ h))
 
 gone_first : (b : Bool) (v : List ℕ) (rest below : Option (List ℕ)) → cond (is_some rest) None (cond b None below) ≡ cond (is_some (cond b (Some v) rest)) None below
 gone_first true v (Some r) below = refl

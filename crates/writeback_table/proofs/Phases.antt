@@ -1,8 +1,6 @@
 -- The five groups of the commands of a batch, one after the other, at one object.
 use Rattle.std.proofs.Common.{◌≡◌, ◌≢◌, ℕ, ◌+◌, ◌≤◌, Bool, true, false, cond, ◌||◌, nat_eq, nat_lt, List, [], ◌∷◌, map, Option, Some, None, is_some, refl, sym, ap, subst, ◌∙◌, arith}
 use Rattle.std.specs.Prelude.{⊤}
-use Rattle.std.specs.declared.cmp.Ordering.{Ordering}
-use Rattle.std.specs.declared.cmp.Ordering.TheVariants.{Less, Equal, Greater}
 use Rattle.std.specs.Cmp.{tied_itself}
 use Rattle.std.specs.FinMap.{get, insert, remove, empty, len, contains_key, get-insert, get-remove, get-empty, len-insert, same_map}
 use Rattle.std.specs.Ordering.{eq_by_cmp, is_eq}
@@ -11,7 +9,7 @@ use Rattle.std.proofs.lemmas.Cmp.{nat_list_cmp_total}
 use Rattle.std.proofs.lemmas.Map.Lookups.{exact_bytes}
 use Rattle.state_store.specs.Store.{Object, key_cmp, look, is_stored}
 use Rattle.state_store.specs.declared.store.Put.{Put}
-use Rattle.state_store.specs.declared.store.Put.TheVariants.{Stored, Full, OutOfRange}
+use Rattle.state_store.specs.declared.store.Put.TheVariants.{Stored}
 use Rattle.state_store.specs.Laws.{IsStoredAlone, IsRemovedAlone}
 use Rattle.writeback_table.specs.declared.command.To.{To}
 use Rattle.writeback_table.specs.declared.command.To.TheVariants.{Value, Gone}
@@ -22,6 +20,7 @@ use Rattle.writeback_table.specs.Commands.{clear_of}
 use Rattle.writeback_table.proofs.Slots.{slot_after, slot_through, slot_room, over}
 use Rattle.writeback_table.specs.Batches.{changed_at, changed_by, TakesAll, count_of}
 use Rattle.writeback_table.proofs.Follows.{Shown, Follows}
+use Rattle.lemmas.proofs.Tests.{eq_equal}
 
 abbrev same_key : List ℕ → List ℕ → Bool
 same_key q k = eq_by_cmp key_cmp q k
@@ -31,16 +30,10 @@ pub record Laws : Type 0 where
   pub put : (object : Object) (key values : List ℕ) → IsStoredAlone object key values
   pub del : (object : Object) (key : List ℕ) → IsRemovedAlone object key
 
-is_equal : (x : Ordering) → is_eq x ≡ true → x ≡ Equal
-is_equal Less e = cc
-is_equal Equal e = refl
-is_equal Greater e = cc
-
 -- ---- what a change does under a key
 stored : (p : Put) → is_stored p ≡ true → p ≡ Stored
 stored Stored e = refl
-stored Full e = cc
-stored OutOfRange e = cc
+stored _ e = cc
 
 differs : (q k : List ℕ) → same_key q k ≡ false → q ≢ k
 differs q k e same = let s = ap is_eq (tied_itself nat_list_cmp_total k) in let t = subst (λ x. same_key x k ≡ false) same e in cc
@@ -56,7 +49,7 @@ elsewhere l o k q Gone n = let a = l.del o k in a.other_keys q n
 -- a staged change and the same change of a table show the same
 shows_key : (l : Laws) → (rows : Staged) (below : Option (List ℕ)) (m : Object) (u : Update) (q : List ℕ) (b : Bool) → same_key q u.key ≡ b → takes m u ≡ true → over (get rows q) below ≡ look m q
     → over (cond b (Some (values_of u.to)) (get rows q)) below ≡ look (changed m u) q
-shows_key l rows below m u q true e t h = sym (ap (λ x. look (changed m u) x) (exact_bytes q u.key (is_equal (key_cmp q u.key) e)) ∙ at_key l m u.key u.to t)
+shows_key l rows below m u q true e t h = sym (ap (λ x. look (changed m u) x) (exact_bytes q u.key (eq_equal (key_cmp q u.key) e)) ∙ at_key l m u.key u.to t)
 shows_key l rows below m u q false e t h = h ∙ sym (elsewhere l m u.key q u.to (differs q u.key e))
 
 -- ---- all changes staged
@@ -147,7 +140,7 @@ hidden None x y h = cc
 hidden (Some r) x y h = refl
 
 shows_on_key : (l : Laws) → (rows : Staged) (m : Object) (u : Update) (q : List ℕ) (b : Bool) → same_key q u.key ≡ b → is_some (get rows u.key) ≡ true → over (get rows q) (look (changed m u) q) ≡ over (get rows q) (look m q)
-shows_on_key l rows m u q true e h = hidden (get rows q) _ _ (subst (λ x. is_some (get rows x) ≡ true) (sym (exact_bytes q u.key (is_equal (key_cmp q u.key) e))) h)
+shows_on_key l rows m u q true e h = hidden (get rows q) _ _ (subst (λ x. is_some (get rows x) ≡ true) (sym (exact_bytes q u.key (eq_equal (key_cmp q u.key) e))) h)
 shows_on_key l rows m u q false e h = ap (λ x. over (get rows q) x) (elsewhere l m u.key q u.to (differs q u.key e))
 
 shows_on : (l : Laws) → (rows : Staged) (m : Object) (u : Update) (b : Bool) → (b ≡ true → is_some (get rows u.key) ≡ true) → (q : List ℕ) → over (get rows q) (look (cond b (changed m u) m) q) ≡ over (get rows q) (look m q)

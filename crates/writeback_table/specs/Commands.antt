@@ -17,10 +17,7 @@ commands_of updates = map (λ u. Stage u) updates ++ (On ∷ (map (λ u. Main u)
 
 abbrev pub counts_on : Command → ℕ
 counts_on On = 1
-counts_on (Stage update) = 0
-counts_on (Main update) = 0
-counts_on Off = 0
-counts_on (Clear object key) = 0
+counts_on _ = 0
 
 -- how many of the commands set the bit
 abbrev pub ons : List Command → ℕ
@@ -45,10 +42,9 @@ one_each i = 1
 -- the command touches a table of this object
 abbrev pub names : ℕ → Command → Bool
 names o (Stage update) = update.object == o
-names o On = false
 names o (Main update) = update.object == o
-names o Off = false
 names o (Clear object key) = object == o
+names o _ = false
 
 -- what a command does to the tables of object o, and whether it finds room there
 abbrev pub pair_after : ℕ → Pair → Command → Pair
@@ -61,9 +57,7 @@ room_for o pair command = if names o command then has_room pair command else tru
 abbrev pub bit_after : Bool → Command → Bool
 bit_after bit On = true
 bit_after bit Off = false
-bit_after bit (Stage update) = bit
-bit_after bit (Main update) = bit
-bit_after bit (Clear object key) = bit
+bit_after bit _ = bit
 
 -- the tables of object o, and the bit, after all of the commands
 abbrev pub pair_through : ℕ → Pair → List Command → Pair

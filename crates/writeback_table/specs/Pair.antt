@@ -10,7 +10,7 @@ use Rattle.writeback_table.specs.declared.command.To.{To}
 use Rattle.writeback_table.specs.declared.command.To.TheVariants.{Value, Gone}
 use Rattle.writeback_table.specs.declared.command.Update.{Update}
 use Rattle.writeback_table.specs.declared.command.Command.{Command}
-use Rattle.writeback_table.specs.declared.command.Command.TheVariants.{Stage, On, Main, Off, Clear}
+use Rattle.writeback_table.specs.declared.command.Command.TheVariants.{Stage, Main, Clear}
 
 -- the rows of a write-back table: under a key the values that it is to have, or none where it is to be gone
 abbrev pub Staged : Type 0
@@ -89,15 +89,12 @@ with_change rows room update =
 -- whether the command finds room in the table that it touches
 abbrev pub has_room : Pair → Command → Bool
 has_room pair (Stage update) = can_stage pair.staged pair.room update.key
-has_room pair On = true
 has_room pair (Main update) = takes pair.main update
-has_room pair Off = true
-has_room pair (Clear object key) = true
+has_room pair _ = true
 
 -- the pair after a command that names its object, or none
 abbrev pub applied : Pair → Command → Pair
 applied pair (Stage update) = record pair { staged = with_change pair.staged pair.room update }
-applied pair On = pair
 applied pair (Main update) = record pair { main = changed pair.main update }
-applied pair Off = pair
 applied pair (Clear object key) = record pair { staged = map.remove pair.staged key }
+applied pair _ = pair

@@ -2,7 +2,6 @@
 #![tactic(auto)]
 
 mod command;
-mod laws;
 mod one_object;
 mod pair;
 mod seen_rows;
@@ -10,9 +9,5 @@ mod updates;
 mod write_back;
 
 pub use command::{Applied, Command, To, Update};
-pub use laws::{
-    a_batch_is_seen_at_once, batches_are_seen_in_order, one_batch_more, versions_count_the_bit,
-    what_a_lookup_sees,
-};
 pub use pair::Pair;
 pub use updates::Updates;

@@ -8,7 +8,7 @@ use Rattle.element_lang.specs.Tree.StmtTree.{set_field}
 use Rattle.element_chain.specs.Compose.{followed, one, clearing}
 use Rattle.chain_compose.proofs.Levels.{push_set_field}
 use Rattle.chain_compose.proofs.Steps.{cleared_more}
-use Rattle.chain_compose.proofs.Trees.{followed_done}
+use Rattle.element_chain.proofs.GoodBodies.{followed_done}
 use Rattle.chain_compose.proofs.clearing.put_clearing.Goals as goal
 
 pub loop-field-preserved : goal.loop-field-preserved

@@ -13,6 +13,7 @@ use Rattle.element_chain.specs.Laws.{IsFit, AreKept}
 use Rattle.chain_compose.specs.Parts.{connected}
 use Rattle.chain_compose.specs.Refusals.{IsRefused, IsUnrefused}
 use Rattle.chain_compose.proofs.Answered.{exact, found, of_made}
+use Rattle.element_chain.proofs.Laws.{composition_keeps_the_meaning-objects, composition_keeps_the_meaning-parts, composition_keeps_the_meaning-store, composition_keeps_the_meaning-verdict}
 use Rattle.chain_compose.proofs.composition.compose.Goals as goal
 
 pub returns-clause-exact : goal.returns-clause-exact
@@ -40,7 +41,7 @@ returns-clause-verdict g =
     (λ (t : Tree). (stores : List Store) (packet : Packet) → AreKept c.elements stores → IsArrival packet → source_verdict t (joined stores) packet ≡ (chain_run c stores packet).verdict) r
     (subst (λ (ms : List Middlebox). IfOk r (λ (m : Middlebox). tree m ≡ composed (connected ms wires))) g.deref.ensures.value g.compose_elements.ensures.made)
     (subst (λ (ms : List Middlebox). IfOk r (λ (_ : Middlebox). IsFit (connected ms wires))) g.deref.ensures.value g.compose_elements.ensures.fits)
-    (λ fit stores packet kept arrives. g.composition_keeps_the_meaning.ensures.verdict c stores packet fit kept arrives)
+    (λ fit stores packet kept arrives. composition_keeps_the_meaning-verdict c stores packet fit kept arrives)
 
 pub returns-clause-stores : goal.returns-clause-stores
 returns-clause-stores g =
@@ -51,7 +52,7 @@ returns-clause-stores g =
     (λ (t : Tree). (stores : List Store) (packet : Packet) → AreKept c.elements stores → IsArrival packet → source_store t (joined stores) packet ≡ joined (chain_run c stores packet).stores) r
     (subst (λ (ms : List Middlebox). IfOk r (λ (m : Middlebox). tree m ≡ composed (connected ms wires))) g.deref.ensures.value g.compose_elements.ensures.made)
     (subst (λ (ms : List Middlebox). IfOk r (λ (_ : Middlebox). IsFit (connected ms wires))) g.deref.ensures.value g.compose_elements.ensures.fits)
-    (λ fit stores packet kept arrives. g.composition_keeps_the_meaning.ensures.store c stores packet fit kept arrives)
+    (λ fit stores packet kept arrives. composition_keeps_the_meaning-store c stores packet fit kept arrives)
 
 pub returns-clause-objects : goal.returns-clause-objects
 returns-clause-objects g =
@@ -63,7 +64,7 @@ returns-clause-objects g =
     → object_at (source_store t (joined stores) packet) (base_of c.elements e + o) ≡ object_at (store_at (chain_run c stores packet).stores e) o) r
     (subst (λ (ms : List Middlebox). IfOk r (λ (m : Middlebox). tree m ≡ composed (connected ms wires))) g.deref.ensures.value g.compose_elements.ensures.made)
     (subst (λ (ms : List Middlebox). IfOk r (λ (_ : Middlebox). IsFit (connected ms wires))) g.deref.ensures.value g.compose_elements.ensures.fits)
-    (λ fit stores packet e o kept arrives low there. g.composition_keeps_the_meaning.ensures.objects c stores packet e o fit kept arrives low there)
+    (λ fit stores packet e o kept arrives low there. composition_keeps_the_meaning-objects c stores packet e o fit kept arrives low there)
 
 pub returns-clause-parts : goal.returns-clause-parts
 returns-clause-parts g =
@@ -73,7 +74,7 @@ returns-clause-parts g =
     of_made c (λ (t : Tree). (store : Store) → IsKept t.objects store → (stores : List Store) × AreKept c.elements stores × (store ≡ joined stores)) r
     (subst (λ (ms : List Middlebox). IfOk r (λ (m : Middlebox). tree m ≡ composed (connected ms wires))) g.deref.ensures.value g.compose_elements.ensures.made)
     (subst (λ (ms : List Middlebox). IfOk r (λ (_ : Middlebox). IsFit (connected ms wires))) g.deref.ensures.value g.compose_elements.ensures.fits)
-    (λ fit store kept. g.composition_keeps_the_meaning.ensures.parts c store kept)
+    (λ fit store kept. composition_keeps_the_meaning-parts c store kept)
 
 pub returns-clause-refused : goal.returns-clause-refused
 returns-clause-refused c =

@@ -6,6 +6,7 @@ use Rattle.element_lang.specs.Rules.{is_good}
 use Rattle.element_lang.specs.Tree.{Tree}
 use Rattle.chain_compose.specs.Parts.{connected}
 use Rattle.chain_compose.proofs.Fits.{fits, all_good, at_each, is_small}
+use Rattle.element_chain.proofs.Laws.{composition_keeps_the_rules-names, composition_keeps_the_rules-rules}
 use Rattle.chain_compose.proofs.composition.compose_elements.Goals as goal
 
 pub whole-requires-clause-good : goal.whole-requires-clause-good
@@ -27,7 +28,7 @@ returns-clause-rules c =
     let m = c.in_ok-middlebox.middlebox in
     let inputs = subst (λ (ws : List Wire). All (λ (w : Wire). w.input < 2 ^ 8) ws) c.as_slice.ensures c.inputs_are_bytes.ensures in
     subst (λ (t : Tree). IsTrue (is_good t)) (sym c.in_ok-middlebox.ensures.made)
-    (c.composition_keeps_the_rules.ensures.rules (connected ms wires) (fits ms wires c.requires.some c.requires.good placed.reads inputs c.requires.within c.requires.acyclic) placed.repeats
+    (composition_keeps_the_rules-rules (connected ms wires) (fits ms wires c.requires.some c.requires.good placed.reads inputs c.requires.within c.requires.acyclic) placed.repeats
     (is_small ms wires m c.requires.few c.in_ok-middlebox.ensures.made c.in_ok-middlebox.ensures.small))
 
 pub returns-clause-names : goal.returns-clause-names
@@ -36,4 +37,4 @@ returns-clause-names c =
     let wires = c.args.chain.now.wires in
     let m = c.in_ok-middlebox.middlebox in
     subst (λ (t : Tree). HasNames t) (sym c.in_ok-middlebox.ensures.made)
-    (c.composition_keeps_the_rules.ensures.names (connected ms wires) (is_small ms wires m c.requires.few c.in_ok-middlebox.ensures.made c.in_ok-middlebox.ensures.small) (at_each HasNames ms c.requires.names))
+    (composition_keeps_the_rules-names (connected ms wires) (is_small ms wires m c.requires.few c.in_ok-middlebox.ensures.made c.in_ok-middlebox.ensures.small) (at_each HasNames ms c.requires.names))

@@ -5,7 +5,8 @@ use Rattle.element_print.specs.Lengths.{capped}
 use Rattle.element_lang.specs.declared.tree.Stmt.{Stmt}
 use Rattle.std.proofs.Common.{List}
 use Rattle.chain_compose.proofs.DeepCaps.{level_of_blocks, level_of_block}
-use Rattle.chain_compose.proofs.Levels.{tree_of_if, tree_of_repeat}
+use Rattle.chain_compose.proofs.Levels.{tree_of_repeat}
+use Rattle.element_print.proofs.Ifs.{tree_of_if}
 use Rattle.chain_compose.proofs.depth.+level.Goals as goal
 
 pub level_of-returns-in-If : goal.level_of-returns-in-If

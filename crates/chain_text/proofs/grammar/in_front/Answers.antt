@@ -1,8 +1,9 @@
 use Rattle.std.proofs.Common.{◌≡◌, ◌++◌, ℕ, List, drop, max, sym, ap₂, subst, ◌∙◌, arith}
 use Rattle.std.proofs.lemmas.List.{length-map}
-use Rattle.chain_tokens.specs.Token.{Token}
-use Rattle.chain_tokens.specs.Tokens.{span_text, token_of, tokens_of}
-use Rattle.chain_tokens.specs.declared.token.Span.{Span}
+use Rattle.chain_text.specs.Token.{Token}
+use Rattle.lexer.specs.Tokens.{span_text}
+use Rattle.chain_text.specs.Tokens.{token_of, tokens_of}
+use Rattle.lexer.specs.declared.token.Span.{Span}
 use Rattle.chain_text.specs.declared.shape.TheConstants.{DECLARATION, WIRE}
 use Rattle.chain_text.specs.Grammar.{declares, wires, statement_tokens, IsFirstWrong}
 use Rattle.chain_text.specs.Statements.{span_at, value_at}

@@ -1,5 +1,5 @@
 use Rattle.std.proofs.Common.{◌≡◌, ◌++◌, ◌≤◌, ◌-◌, ℕ, List, length, drop}
-use Rattle.chain_tokens.specs.Tokens.{tokens_of}
+use Rattle.chain_text.specs.Tokens.{tokens_of}
 use Rattle.chain_text.specs.Grammar.{spelled}
 use Rattle.chain_text.specs.Statements.{statements_of}
 use Rattle.chain_text.proofs.grammar.parse.Given as goal

@@ -1,5 +1,5 @@
 use Rattle.std.proofs.Common.{inr, map, sym, ap, subst, ◌∙◌}
-use Rattle.chain_tokens.specs.Tokens.{placed_of, tokens_of}
+use Rattle.chain_text.specs.Tokens.{placed_of, tokens_of}
 use Rattle.chain_text.specs.Grammar.{spelled}
 use Rattle.chain_text.specs.Reads.{offset_at}
 use Rattle.chain_text.specs.Statements.{statements_of}

@@ -1,13 +1,10 @@
-use Rattle.std.proofs.Common.{◌≡◌, ◌<◌, ◌∙◌, ◌&&◌, Bool, false, length, subst, sym, ap}
+use Rattle.std.proofs.Common.{◌≡◌, ◌<◌, ◌∙◌, ◌&&◌, false, length, subst, sym}
 use Rattle.flat_ir.specs.Program.{program_of, step_of}
 use Rattle.dependence.proofs.Placing.{placed, here}
-use Rattle.dependence.proofs.Using.{and_false}
 use Rattle.dependence.proofs.Falling.{may, enters, take_one, leave_out}
 use Rattle.dependence.proofs.backward.place.Goals.{else-may-via-then-may+else-enters_post, else-may-via-else-may}
+use Rattle.std.proofs.lemmas.Bool.{and_left, and_right}
 use Rattle.dependence.proofs.backward.place.Goals as goal
-
-false_and : (a b : Bool) → a ≡ false → (a && b) ≡ false
-false_and a b h = ap (λ x. x && b) h
 
 pub returns-then-enters_post : goal.returns-then-enters_post
 returns-then-enters_post c =
@@ -21,7 +18,7 @@ returns-else-may c =
     let fits = may (program_of c.args.f.now) (step_of c.index-as_slice-i.result) in
     let goes = enters c.args.uses.now c.args.guards.now c.args.carried.now c.args.post.now c.args.i in
     let out : (fits && goes) ≡ false = elim c.else-may.branch [
-      | else-may-via-then-may+else-enters_post w ↦ and_false fits goes (sym w.enters_post.ensures ∙ w.if-enters_post.false)
-      | else-may-via-else-may w ↦ false_and fits goes (sym c.may_be_post-may.ensures ∙ w.if-may.false)
+      | else-may-via-then-may+else-enters_post w ↦ and_right fits goes (sym w.enters_post.ensures ∙ w.if-enters_post.false)
+      | else-may-via-else-may w ↦ and_left fits goes (sym c.may_be_post-may.ensures ∙ w.if-may.false)
     ] in
     leave_out (program_of c.args.f.now) c.args.uses.now c.args.guards.now c.args.carried.now c.args.i (step_of c.index-as_slice-i.result) c.args.post.now (placed (program_of c.args.f.now) c.requires.formed) c.requires.uses c.requires.guards at out c.requires.from

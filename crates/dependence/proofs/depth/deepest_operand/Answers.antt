@@ -2,7 +2,8 @@ use Rattle.std.proofs.Common.{◌≡◌, ◌+◌, ◌≤◌, drop, ap, arith, le
 use Rattle.std.specs.Prelude.{slice_index, slice_index_or, false, if◌then◌else◌}
 use Rattle.flat_ir.specs.Program.{work_of, operands}
 use Rattle.flat_ir.specs.Stages.{deepest}
-use Rattle.dependence.proofs.Ahead.{ahead, at_end}
+use Rattle.dependence.proofs.Ahead.{ahead}
+use Rattle.lemmas.proofs.Lists.{drop_past}
 use Rattle.dependence.proofs.depth.deepest_operand.Goals as goal
 
 pub loop-place-preserved : goal.loop-place-preserved
@@ -24,6 +25,6 @@ returns c =
     let depths = c.args.depths.now in
     let all = operands (work_of c.args.kind.now) in
     let past : length all ≤ c.loop-place.place = omega (arith, c.operand_count-place-end.ensures) in
-    let none : deepest members depths (drop c.loop-place.place all) ≡ 0 = ap (deepest members depths) (at_end all c.loop-place.place past) in
+    let none : deepest members depths (drop c.loop-place.place all) ≡ 0 = ap (deepest members depths) (drop_past all c.loop-place.place past) in
     let before : max c.loop-place.found (deepest members depths (drop c.loop-place.place all)) ≡ deepest members depths all = c.loop-place.invariant in
     omega (arith, none, before)

@@ -2,14 +2,15 @@ use Rattle.std.proofs.Common.{◌≡◌, ◌∙◌, ◌+◌, ◌≤◌, ◌&&◌
 use Rattle.std.specs.Prelude.{slice_index_or}
 use Rattle.flat_ir.specs.Program.{work_of, operands}
 use Rattle.dependence.specs.Marked.{are_marked}
-use Rattle.dependence.proofs.Ahead.{ahead, at_end}
+use Rattle.dependence.proofs.Ahead.{ahead}
+use Rattle.lemmas.proofs.Lists.{drop_past}
 use Rattle.dependence.proofs.operand.has_operands.Goals as goal
 
 pub returns : goal.returns
 returns c =
     let all = operands (work_of c.args.kind.now) in
     let past : length all ≤ c.loop-place.place = omega (arith, c.operand_count-place-end.ensures) in
-    sym (ap (are_marked c.args.marks.now) (at_end all c.loop-place.place past)) ∙ c.loop-place.invariant
+    sym (ap (are_marked c.args.marks.now) (drop_past all c.loop-place.place past)) ∙ c.loop-place.invariant
 
 pub returns-then-not-at : goal.returns-then-not-at
 returns-then-not-at c =

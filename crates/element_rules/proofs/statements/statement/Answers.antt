@@ -3,7 +3,7 @@ use Rattle.element_lang.specs.Surface as surface
 use Rattle.element_rules.specs.declared.statements.StmtFaults.{StmtFaults}
 use Rattle.element_rules.specs.Seen.{sight_of}
 use Rattle.element_rules.specs.Faulty.{stmt_faults}
-use Rattle.element_rules.proofs.Levels.{look_read, put_read, del_read}
+use Rattle.element_rules.proofs.Levels.{look_read, put_read, del_read, repeat_read}
 use Rattle.element_rules.proofs.statements.statement.Goals as goal
 
 pub returns-in-Look-clause-faults : goal.returns-in-Look-clause-faults
@@ -28,3 +28,10 @@ returns-in-Del-clause-faults c =
     let sight = sight_of text c.args.objects.now c.args.sight.now in
     let level = del_read text c.in-Del.was c.in-Del.object c.in-Del.keys c.in-Del.is c.deref-in-Del.ensures.value in
     subst (λ (s : surface.SurfaceStmt). IfOk c.del.result (λ (f : StmtFaults). f ≡ stmt_faults sight s)) level c.del.ensures.faults
+
+pub returns-in-Repeat-clause-faults : goal.returns-in-Repeat-clause-faults
+returns-in-Repeat-clause-faults c =
+    let text = c.args.text.now in
+    let sight = sight_of text c.args.objects.now c.args.sight.now in
+    let level = repeat_read text c.in-Repeat.index c.in-Repeat.count c.in-Repeat.body c.in-Repeat.is c.deref-in-Repeat.ensures.value in
+    subst (λ (s : surface.SurfaceStmt). c.repeat.result ≡ stmt_faults sight s) level c.repeat.ensures

@@ -1,4 +1,4 @@
-use Rattle.element_tokens.specs.declared.token.Span.{Span}
+use Rattle.lexer.specs.declared.token.Span.{Span}
 use Rattle.element_text.proofs.Declaring.{width_within, declaring_wide}
 use Rattle.element_text.proofs.rules.declare_all.Goals as goal
 

@@ -7,17 +7,18 @@ use Rattle.element_grammar.specs.Surface.{surface_object, surface_body, surface_
 use Rattle.element_text.specs.Scopes.{env_of}
 use Rattle.element_text.specs.Reads.{IsUnbroken}
 use Rattle.element_text.specs.Resolve.{made_body, is_good_decl, are_good_decls, decls_of, resolved}
-use Rattle.element_text.proofs.Links.{is_there, first_link, test_holds, test_there}
+use Rattle.element_text.proofs.Links.{first_link, test_holds, test_there}
 use Rattle.element_text.proofs.Agree.{unbroken}
 use Rattle.element_text.proofs.Declarations.{one_by_one}
 use Rattle.element_text.proofs.Answering.{first_env, first_is, resolved_made, only_one}
 use Rattle.element_text.proofs.Sound.{resolved_named, resolved_good, resolved_names}
 use Rattle.element_text.proofs.rules.resolve.Goals as goal
 use Rattle.element_text.proofs.rules.resolve.Goals.{After-drop-scope-5}
+use Rattle.lemmas.proofs.Tests.{some_is}
 
 -- a tree that breaks no rule has a middlebox
 there : (s : Surface) → IsUnbroken s → IsSome (resolved s)
-there s k = let h = unbroken k.tokens s k.spells k.none in is_there (resolved s) h.0 h.1
+there s k = let h = unbroken k.tokens s k.spells k.none in some_is (resolved s) h.0 h.1
 
 decls_good : (s : Surface) → IsUnbroken s → are_good_decls (decls_of s.objects) ≡ true
 decls_good s k = test_holds (are_good_decls (decls_of s.objects)) _ (there s k)

@@ -4,5 +4,5 @@ use Rattle.gallium_cli.proofs.audit.read.Goals as goal
 
 pub returns-in-Err-Line-clause-err : goal.returns-in-Err-Line-clause-err
 returns-in-Err-Line-clause-err c = λ packets.
-    line_answered c.one_line_is_first_wrong.ensures (tree c.args.m.now) packets c.args.text.now c.in-Err-Line.number
+    line_answered (tree c.args.m.now) packets c.args.text.now c.in-Err-Line.number
     c.in-Err-Line.field-0 c.in-Err-Line.ensures.err c.in-Err-Line.field-0-is

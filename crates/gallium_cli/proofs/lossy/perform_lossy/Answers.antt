@@ -1,92 +1,55 @@
 use Rattle.std.proofs.Common.{refl}
 use Rattle.std.proofs.lemmas.Result.{err_from_is_err_and}
-use Rattle.gallium_cli.specs.Roles.{link_gates}
 use Rattle.gallium_cli.specs.Words.{Lossy}
-use Rattle.gallium_cli.proofs.Counted.{gate_counts, goes_further, put_counts, replay_counts, unput_counts}
-use Rattle.gallium_cli.proofs.OverLinks.{link_answer, link_broken, link_read, link_reads, link_split_refused, link_traffic_refused}
-use Rattle.gallium_cli.proofs.Written.{put_answer, replay_cause, unput_answer}
+use Rattle.gallium_cli.proofs.Counted.{goes_further}
+use Rattle.gallium_cli.proofs.OverLinks.{link_answer, link_broken, link_read}
+use Rattle.gallium_cli.proofs.Written.{all_reads, link_goes, more_ended, put_ended, replay_ended, split_ended}
 use Rattle.gallium_cli.proofs.lossy.perform_lossy.Goals as goal
 
-pub returns-in_err-middlebox-clause-err : goal.returns-in_err-middlebox-clause-err
-returns-in_err-middlebox-clause-err g c =
+pub returns-in_err-middlebox : goal.returns-in_err-middlebox
+returns-in_err-middlebox g c =
     let p = err_from_is_err_and c.from_residual.result c.from_residual.ensures.1 in
+    let found = c.in_err-middlebox.ensures in
     rw (p.1, p.2)
-    (link_split_refused _ _ _ _ _ _ _ _ _ c.in_err-middlebox.ensures.err c.in_err-middlebox.ensures.few_reads)
+    (split_ended _ (Lossy c.args.source.now c.args.trace.now c.args.schedule.now c.args.limits.now) _ _ _ _ _ _ _ (link_goes _ _ _ _)
+    found.reads.0 found.reads.2 found.reads.1)
 
-pub returns-in_err-packets-clause-err : goal.returns-in_err-packets-clause-err
-returns-in_err-packets-clause-err g c =
+pub returns-in_err-packets : goal.returns-in_err-packets
+returns-in_err-packets g c =
     let p = err_from_is_err_and c.from_residual-in_err-packets.result c.from_residual-in_err-packets.ensures.1 in
     let found = c.in_ok-middlebox.ensures in
+    let none = c.in_err-packets.ensures in
     rw (p.1, p.2)
-    (link_traffic_refused _ _ _ _ _ _ _ _ _ _ _ _ _ found.ok found.stays found.read c.in_err-packets.ensures.err
-    c.in_err-packets.ensures.few_reads)
+    (more_ended _ (Lossy c.args.source.now c.args.trace.now c.args.schedule.now c.args.limits.now) _ _ _ _ _ _ _ _ _ _ _ (link_goes _ _ _ _)
+    found.ok found.reads.0 found.reads.1 none.reads.0 none.reads.2 none.reads.1)
 
-pub returns-in_err-text-clause-err : goal.returns-in_err-text-clause-err
-returns-in_err-text-clause-err g c =
+pub returns-in_err-text : goal.returns-in_err-text
+returns-in_err-text g c =
     let p = err_from_is_err_and c.from_residual-in_err-text.result c.from_residual-in_err-text.ensures.1 in
     let found = c.in_ok-middlebox.ensures in
     let came = c.in_ok-packets.ensures in
+    let none = c.in_err-text.ensures in
     rw (p.1, p.2)
-    (replay_cause _ (Lossy c.args.source.now c.args.trace.now c.args.schedule.now c.args.limits.now)
+    (replay_ended _ (Lossy c.args.source.now c.args.trace.now c.args.schedule.now c.args.limits.now)
     (g.F.Files.seen c.args.files.now) (g.F.Files.seen c.load_link_traffic.new.files)
     (g.S.SwitchPort.seen c.args.port.now) (g.S.SwitchPort.seen c.report.new.port) (g.O.Sink.seen c.args.out.now)
-    c.in_err-text.ensures.err refl
-    (link_read _ _ _ _ _ _ _ _ _ _ _ _ _ _ _ found.ok found.stays came.ok found.read came.read)
+    none.err refl
+    (link_read _ _ _ _ _ _ _ _ _ _ _ _ _ _ _ found.ok found.reads.0 came.ok found.reads.1 came.reads.1)
     (λ failed. link_broken _ _ _ _ _ _ _ _ _ _ _ (g.S.SwitchPort.seen c.args.port.now) (g.S.SwitchPort.seen c.report.new.port)
-    found.stays found.ok came.ok (c.in_err-text.ensures.broken failed))
-    c.in_err-text.ensures.stays)
+    found.reads.0 found.ok came.ok (none.broken failed))
+    none.stays (goes_further _ _ _ _ found.reads.0 came.reads.0))
 
-pub returns-clause-ok : goal.returns-clause-ok
-returns-clause-ok g c =
+pub returns : goal.returns
+returns g c =
     let found = c.in_ok-middlebox.ensures in
     let came = c.in_ok-packets.ensures in
-    put_answer _ (Lossy c.args.source.now c.args.trace.now c.args.schedule.now c.args.limits.now) c.as_slice.result.now
+    let text = c.in_ok-text.ensures in
+    put_ended _ (Lossy c.args.source.now c.args.trace.now c.args.schedule.now c.args.limits.now) c.as_slice.result.now
     (g.F.Files.seen c.args.files.now) (g.F.Files.seen c.load_link_traffic.new.files)
     (g.S.SwitchPort.seen c.args.port.now) (g.S.SwitchPort.seen c.report.new.port)
     (g.O.Sink.seen c.args.out.now) (g.O.Sink.seen c.put.new.out)
     (link_answer _ _ _ _ _ _ _ _ _ _ _ _ _ (g.S.SwitchPort.seen c.args.port.now) (g.S.SwitchPort.seen c.report.new.port)
-    found.stays found.ok came.ok c.in_ok-text.ensures.ok c.as_slice.ensures)
-    (link_reads c.args.source.now c.args.trace.now c.args.schedule.now c.args.limits.now
-    (g.F.Files.seen c.args.files.now) (g.F.Files.seen c.load_within.new.files) (g.F.Files.seen c.load_link_traffic.new.files)
-    found.read came.read) c.in_ok-text.ensures.stays c.put.ensures.ok
-
-pub returns-clause-err : goal.returns-clause-err
-returns-clause-err g c =
-    let found = c.in_ok-middlebox.ensures in
-    let came = c.in_ok-packets.ensures in
-    unput_answer _ (Lossy c.args.source.now c.args.trace.now c.args.schedule.now c.args.limits.now) c.as_slice.result.now
-    (g.F.Files.seen c.args.files.now) (g.F.Files.seen c.load_link_traffic.new.files)
-    (g.S.SwitchPort.seen c.args.port.now) (g.S.SwitchPort.seen c.report.new.port)
-    (g.O.Sink.seen c.args.out.now) (g.O.Sink.seen c.put.new.out)
-    (link_answer _ _ _ _ _ _ _ _ _ _ _ _ _ (g.S.SwitchPort.seen c.args.port.now) (g.S.SwitchPort.seen c.report.new.port)
-    found.stays found.ok came.ok c.in_ok-text.ensures.ok c.as_slice.ensures)
-    (link_reads c.args.source.now c.args.trace.now c.args.schedule.now c.args.limits.now
-    (g.F.Files.seen c.args.files.now) (g.F.Files.seen c.load_within.new.files) (g.F.Files.seen c.load_link_traffic.new.files)
-    found.read came.read) c.in_ok-text.ensures.stays c.put.ensures.err
-
-pub returns-in_err-packets-clause-fault : goal.returns-in_err-packets-clause-fault
-returns-in_err-packets-clause-fault g c =
-    let p = err_from_is_err_and c.from_residual-in_err-packets.result c.from_residual-in_err-packets.ensures.1 in
-    rw (p.1, p.2)
-    (gate_counts _ (link_gates c.args.trace.now c.args.schedule.now) (g.F.Files.seen c.load_within.new.files) _ _ _ _
-    c.in_err-packets.ensures.err
-    (goes_further _ _ _ _ c.in_ok-middlebox.ensures.stays c.in_err-packets.ensures.fault))
-
-pub returns-in_err-text-clause-fault : goal.returns-in_err-text-clause-fault
-returns-in_err-text-clause-fault g c =
-    let p = err_from_is_err_and c.from_residual-in_err-text.result c.from_residual-in_err-text.ensures.1 in
-    rw (p.1, p.2)
-    (replay_counts _ _ _ _ _ _ c.in_err-text.ensures.err
-    (goes_further _ _ _ _ c.in_ok-middlebox.ensures.stays c.in_ok-packets.ensures.stays))
-
-pub returns-clause-no_fault : goal.returns-clause-no_fault
-returns-clause-no_fault g c =
-    put_counts _ c.as_slice.result.now _ _ _ _ _ _
-    (goes_further _ _ _ _ c.in_ok-middlebox.ensures.stays c.in_ok-packets.ensures.stays)
-    c.in_ok-text.ensures.no_fault c.put.ensures.ok
-
-pub returns-clause-fault : goal.returns-clause-fault
-returns-clause-fault g c =
-    unput_counts _ c.as_slice.result.now _ _ _ _ _ _
-    (goes_further _ _ _ _ c.in_ok-middlebox.ensures.stays c.in_ok-packets.ensures.stays)
-    c.in_ok-text.ensures.no_fault c.put.ensures.err
+    found.reads.0 found.ok came.ok text.ok c.as_slice.ensures)
+    (all_reads _ _ _ _ (g.F.Files.seen c.args.files.now) (g.F.Files.seen c.load_within.new.files) (g.F.Files.seen c.load_link_traffic.new.files)
+    (link_goes c.args.source.now c.args.trace.now c.args.schedule.now c.args.limits.now) found.reads.1 came.reads.1)
+    (goes_further _ _ _ _ found.reads.0 came.reads.0) text.stays text.no_fault c.put.ensures.ok c.put.ensures.err

@@ -13,17 +13,6 @@ returns-in-Ok-clause-ok g c =
     source_replayed (tree c.args.split_middlebox.program.middlebox) (program_of c.args.split_middlebox.program.flat)
     c.args.split_middlebox.split c.args.split_middlebox.writeback c.args.packets c.args.plan c.in-Ok.replayed
     (g.S.SwitchPort.seen c.args.port.now) (g.S.SwitchPort.seen c.replay.new.port)
-    record { start = c.stores_are_kept.ensures.start; runs = c.stores_are_kept.ensures.runs }
-    record {
-      store = c.flattening_keeps_the_meaning.ensures.store;
-      verdict = c.flattening_keeps_the_meaning.ensures.verdict;
-    }
-    record {
-      serialises = c.meanings_that_agree.ensures.serialises;
-      released = c.meanings_that_agree.ensures.released;
-      drained = c.meanings_that_agree.ensures.drained;
-    }
-    c.a_packet_is_fast_by_what_is_seen.ensures.at_once
     asked.good arrive asked.program c.in-Ok.ensures.answered c.in-Ok.ensures.told
 
 pub returns-in-Err-PortFault-clause-broken : goal.returns-in-Err-PortFault-clause-broken

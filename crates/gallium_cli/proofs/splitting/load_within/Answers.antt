@@ -2,6 +2,7 @@ use Rattle.std.proofs.Common.{refl}
 use Rattle.element_lang.specs.View.{tree}
 use Rattle.gallium_cli.proofs.Runnable.{chosen_runs}
 use Rattle.gallium_cli.proofs.Written.{chosen_split}
+use Rattle.element_interp.proofs.Laws.{stores_are_kept-start}
 use Rattle.gallium_cli.proofs.splitting.load_within.Goals as goal
 
 pub returns-clause-ok : goal.returns-clause-ok
@@ -17,4 +18,4 @@ returns-clause-runnable g c =
     let found = c.in_ok-program.ensures in
     let split = c.in_ok-split.ensures in
     chosen_runs m _ c.in_ok-split.split c.in_ok-program.allowed _ found.good found.program found.ok.program.bounded
-    (c.stores_are_kept.ensures.start m found.good) split.legal split.keeps split.low found.in_range refl
+    (stores_are_kept-start m found.good) split.legal split.keeps split.low found.in_range refl

@@ -19,7 +19,7 @@ returns-then-is_of_preprocessing c =
     let l = c.args.limits.now in
     IfOk-weaker c.most_left.result (λ left. IsMostLeft f l c.args.count left) (λ left. IsLeft f l c.args.count left)
     (λ left most. left_of f l c.args.count left most.fewer
-    (λ n more few all other kept. none_kept c.depths_are_least.ensures.least c.depths_are_least.ensures.staged c.kept_limits_are_not_exceeded.ensures f c.requires.bounded.formed
+    (λ n more few all other kept. none_kept f c.requires.bounded.formed
     l (suc left) most.much n (omega (arith, more)) all other kept))
     c.most_left.ensures
 

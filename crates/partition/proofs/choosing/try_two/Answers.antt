@@ -35,7 +35,7 @@ left_after-requires-clause-neither c =
     let none : IsFound f l k true None = subst (λ (o : Option (List Part)). IsFound f l k true o) c.in_default.is c.in_ok-split.ensures in
     let tried : IsTried f l k false (Exceeding c.in-Exceeding.over) = subst (λ (t : Tried). IsTried f l k false t) c.in-Exceeding.is c.in_ok-split-2.ensures in
     neither f l k none
-    (λ other kept. exceeded_not_kept c.greatest_split_is_one.ensures.one f l k false c.requires.bounded.formed other c.in-Exceeding.over tried kept)
+    (λ other kept. exceeded_not_kept f l k false c.requires.bounded.formed other c.in-Exceeding.over tried kept)
 
 pub left_after-requires-clause-exceeded : goal.left_after-requires-clause-exceeded
 left_after-requires-clause-exceeded c =

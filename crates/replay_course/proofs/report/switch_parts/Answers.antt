@@ -6,6 +6,7 @@ use Rattle.std.proofs.lemmas.Result.{err_from_is_err_and}
 use Rattle.replay_course.proofs.Failing.{fails_there, goes_kept, keeps_more}
 use Rattle.replay_course.proofs.report.switch_parts.Goals as goal
 use Rattle.replay_course.proofs.report.switch_parts.Goals.{then-replicated+in_ok-rows+in_ok-push, else-replicated}
+use Rattle.split_answers.proofs.Laws.{replicated_objects_are_declared-there}
 
 pub visible_rows-requires-clause-loaded : goal.visible_rows-requires-clause-loaded
 visible_rows-requires-clause-loaded g c = is_loaded _ _ _ c.loop-number.number c.loop-number.parts.items c.requires.code c.loop-number.invariant
@@ -13,7 +14,7 @@ visible_rows-requires-clause-loaded g c = is_loaded _ _ _ c.loop-number.number c
 pub visible_rows-requires-clause-replicated : goal.visible_rows-requires-clause-replicated
 visible_rows-requires-clause-replicated g c =
     has_replicated _ _ _ c.loop-number.number c.loop-number.parts.items c.loop-number.number c.requires.code c.loop-number.invariant
-    (c.replicated_objects_are_declared.ensures.there _ _ _ c.loop-number.number c.requires.split (sym c.if-replicated.ensures))
+    (replicated_objects_are_declared-there _ _ _ c.loop-number.number c.requires.split (sym c.if-replicated.ensures))
 
 pub loop-number-preserved : goal.loop-number-preserved
 loop-number-preserved g c =

@@ -3,7 +3,8 @@ use Rattle.std.proofs.lemmas.Bool.Decides.{nat_tests}
 use Rattle.gal_io.specs.Lines.{lines}
 use Rattle.report_text.specs.Machine.{ended, line_read}
 use Rattle.report_text.proofs.Declared.{all_known}
-use Rattle.report_text.proofs.Reports.{drop_inside, drop_on, line_on, line_stop, read_is, read_only, taken_no, taken_yes, text_stop, whole_walked}
+use Rattle.report_text.proofs.Reports.{line_on, line_stop, read_is, read_only, taken_no, taken_yes, text_stop, whole_walked}
+use Rattle.lemmas.proofs.Lists.{drop_line, line_within}
 use Rattle.report_text.proofs.report.read_run.Goals as goal
 
 pub loop-line-preserved : goal.loop-line-preserved
@@ -18,9 +19,9 @@ loop-line-preserved c =
     ap (λ o. line_read o c.loop-line.reading l) (sym c.as_slice.ensures) ∙ taken_yes c.in_ok-taken.taken c.take_line.new.self _ c.in_ok-taken.ensures yes_it_is in
     let up : suc n ≡ n + 1 = omega arith in
     record {
-      within = omega (arith, drop_inside n l ls rest next);
+      within = omega (arith, line_within n l ls rest next);
       bytes = omega (arith, c.in-Some.ensures.shorter, c.loop-line.invariant.bytes);
-      ahead = sym (drop_on n l ls rest next) ∙ ap (λ m. drop m ls) up;
+      ahead = sym (drop_line n l ls rest next) ∙ ap (λ m. drop m ls) up;
       read = line_on c.args.objects.now n ls rest l c.loop-line.reading c.take_line.new.self next c.loop-line.invariant.read told;
     }
 

@@ -3,7 +3,7 @@ use Rattle.schedule_replay.proofs.perform.conclude.Goals as goal
 
 pub drain-requires-clause-few : goal.drain-requires-clause-few
 drain-requires-clause-few g c =
-    few_to_drain c.few_events_are_left.ensures.bound c.few_events_are_left.ensures.left _ _ c.args.course.now _ c.requires.under_way
+    few_to_drain _ _ c.args.course.now _ c.requires.under_way
     c.requires.few_packets c.requires.few_events
 
 pub returns-in_ok-drain-clause-ended : goal.returns-in_ok-drain-clause-ended

@@ -4,9 +4,10 @@ use Rattle.flat_ir.specs.Program.{program_of, Step}
 use Rattle.split_model.specs.Counts.{count_below}
 use Rattle.split_model.specs.Split.{is_server}
 use Rattle.server_runtime.specs.Serving.{is_evaluated}
-use Rattle.server_runtime.proofs.Steps.{code_length, counts_none, counts_one, step_is}
+use Rattle.server_runtime.proofs.Steps.{code_length, counts_none, counts_one}
 use Rattle.server_runtime.proofs.plan.count_evaluated.Goals as goal
 use Rattle.server_runtime.proofs.plan.count_evaluated.Goals.{then-is_evaluated, else-is_evaluated}
+use Rattle.flat_ir.proofs.Steps.{step_is}
 
 pub loop-place-preserved : goal.loop-place-preserved
 loop-place-preserved c =

@@ -3,9 +3,10 @@ use Rattle.flat_ir.specs.Fits.{fits}
 use Rattle.flat_ir.specs.Program.{program_of, step_at, Step}
 use Rattle.split_model.specs.Counts.{count_below}
 use Rattle.server_runtime.specs.Serving.{is_followed}
-use Rattle.server_runtime.proofs.Steps.{code_length, counts_none, counts_one, step_is}
+use Rattle.server_runtime.proofs.Steps.{code_length, counts_none, counts_one}
 use Rattle.server_runtime.proofs.plan.count_writes.Goals as goal
 use Rattle.server_runtime.proofs.plan.count_writes.Goals.{then-is_followed, else-is_followed}
+use Rattle.flat_ir.proofs.Steps.{step_is}
 
 pub loop-instr-preserved : goal.loop-instr-preserved
 loop-instr-preserved c =

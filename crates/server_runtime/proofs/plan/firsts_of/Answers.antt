@@ -3,7 +3,8 @@ use Rattle.std.proofs.lemmas.List.{length_push}
 use Rattle.flat_ir.specs.Program.{program_of, result_count, work_of, Step}
 use Rattle.split_model.specs.Layouts.{values_below}
 use Rattle.server_runtime.proofs.Numbers.{below_more, count_at, each_more}
-use Rattle.server_runtime.proofs.Steps.{code_length, step_is}
+use Rattle.server_runtime.proofs.Steps.{code_length}
+use Rattle.flat_ir.proofs.Steps.{step_is}
 use Rattle.server_runtime.proofs.plan.firsts_of.Goals as goal
 
 pub loop-instr-preserved : goal.loop-instr-preserved

@@ -5,7 +5,8 @@ use Rattle.flat_ir.specs.Program.{program_of, work_of, Step}
 use Rattle.flat_ir.specs.Renamed.{renamed_can}
 use Rattle.flat_ir.specs.Renaming.{renamed}
 use Rattle.server_runtime.specs.Resolved.{place_name}
-use Rattle.server_runtime.proofs.Steps.{code_length, step_is}
+use Rattle.server_runtime.proofs.Steps.{code_length}
+use Rattle.flat_ir.proofs.Steps.{step_is}
 use Rattle.server_runtime.proofs.resolved.turn_at.Goals as goal
 
 pub what_fits_can_run-requires : goal.what_fits_can_run-requires

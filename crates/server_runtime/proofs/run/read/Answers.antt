@@ -10,13 +10,14 @@ use Rattle.server_runtime.specs.Turns.{IsRead}
 use Rattle.server_runtime.proofs.Handed.{by_result, ok_more}
 use Rattle.server_runtime.proofs.Needed.{cleared_serving, still_serving}
 use Rattle.server_runtime.proofs.ByPlaces.{planned_resolved, still_resolved}
+use Rattle.server_runtime.proofs.Laws.{a_frame_is_read-fits, a_frame_is_read-read}
 use Rattle.server_runtime.proofs.run.read.Goals as goal
 
 pub unpack_up-requires : goal.unpack_up-requires
 unpack_up-requires c =
     let f = program_of c.args.whole.now.flat in
     subst (λ l. FitsLayout l c.clear.new.self) (sym c.requires.prepared.up)
-    (c.a_frame_is_read.ensures.fits f c.args.whole.now.split c.clear.new.self c.requires.prepared.bounded.formed
+    (a_frame_is_read-fits f c.args.whole.now.split c.clear.new.self c.requires.prepared.bounded.formed
     (cleared_serving f c.args.whole.now.split c.args.values.now c.clear.new.self c.clear.ensures.plan c.clear.ensures.numbers c.requires.serving))
 
 pub returns-clause-ok : goal.returns-clause-ok
@@ -30,7 +31,7 @@ returns-clause-ok c =
     ok_more (λ (head : Head). IsUnpacked 1 c.args.whole.now.up frame before after head) (IsRead f split frame after)
     (λ head h.
     let here : IsUnpacked 1 (up_layout f split) frame before after head = subst (λ l. IsUnpacked 1 l frame before after head) c.requires.prepared.up h in
-    c.a_frame_is_read.ensures.read f split frame before after head c.requires.prepared.bounded.formed
+    a_frame_is_read-read f split frame before after head c.requires.prepared.bounded.formed
     (still_serving f split before after here.kept.plan here.kept.count cleared) (λ i. omega (arith, c.type_inv.frame i)) here)
     c.unpack_up.result c.unpack_up.ensures.ok
 

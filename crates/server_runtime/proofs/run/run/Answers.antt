@@ -8,6 +8,7 @@ use Rattle.server_runtime.specs.Registers.{handed}
 use Rattle.server_runtime.specs.Turns.{sent_by}
 use Rattle.server_runtime.proofs.Begun.{begun_of}
 use Rattle.server_runtime.proofs.Frames.{packet_last, packet_replaced, packet_within}
+use Rattle.server_runtime.proofs.Laws.{a_server_run_has_an_outcome-fits, a_server_run_has_an_outcome-outcome}
 use Rattle.server_runtime.proofs.run.run.Goals as goal
 
 pub pack_down_in-frame-requires-clause-fits : goal.pack_down_in-frame-requires-clause-fits
@@ -17,7 +18,7 @@ pack_down_in-frame-requires-clause-fits c =
     let packet = packet_of c.args.arrival.now in
     let up = handed f whole.split c.args.values.now in
     let registers = c.take_turns.new.values in
-    let fits = c.a_server_run_has_an_outcome.ensures.fits f whole.split up c.args.store.now packet registers c.take_turns.new.store
+    let fits = a_server_run_has_an_outcome-fits f whole.split up c.args.store.now packet registers c.take_turns.new.store
     c.take_turns.new.updates.items (begun_of whole up c.args.store.now packet c.requires.prepared c.requires.kept c.requires.fit c.requires.arrives)
     c.take_turns.ensures.run in
     subst (λ l. AllHaveRegisters l registers) (sym c.requires.prepared.down) fits.among
@@ -42,7 +43,7 @@ returns-clause-outcome c =
     let registers = c.take_turns.new.values in
     let sent = sent_by f whole.split registers packet.bytes in
     let frame = c.pack_down_in-frame.result.items in
-    c.a_server_run_has_an_outcome.ensures.outcome f whole.split up c.args.store.now packet registers c.take_turns.new.store
+    a_server_run_has_an_outcome-outcome f whole.split up c.args.store.now packet registers c.take_turns.new.store
     c.take_turns.new.updates.items number
     (record { number = number; down = c.set_fields-down.result; updates = c.from.result; evaluated = whole.evaluated })
     (begun_of whole up c.args.store.now packet c.requires.prepared c.requires.kept c.requires.fit c.requires.arrives)

@@ -6,8 +6,9 @@ use Rattle.flat_ir.specs.Program.{program_of, step_at, work_of, Step}
 use Rattle.split_model.specs.Layouts.{values_below}
 use Rattle.split_model.specs.Split.{is_server}
 use Rattle.server_runtime.specs.Spans.{last_read}
-use Rattle.server_runtime.proofs.Steps.{code_length, step_is}
+use Rattle.server_runtime.proofs.Steps.{code_length}
 use Rattle.server_runtime.proofs.Walked.{input_low}
+use Rattle.flat_ir.proofs.Steps.{step_is}
 use Rattle.server_runtime.proofs.spans.is_due.Goals as goal
 
 pub bounds-last-first : goal.bounds-last-first

@@ -5,16 +5,18 @@ use Rattle.flat_ir.specs.Program.{is_named, program_of}
 use Rattle.transfer_header.specs.Steps.{is_among}
 use Rattle.server_runtime.specs.Spans.{last_below, numbers_of, reads_at, values_kept}
 use Rattle.server_runtime.proofs.Listed.{end_reads, numbers_within}
-use Rattle.server_runtime.proofs.Spanned.{each_more, kept_earlier}
+use Rattle.server_runtime.proofs.Spanned.{kept_earlier}
 use Rattle.server_runtime.proofs.Steps.{code_length}
 use Rattle.server_runtime.proofs.spans.last_reads.Goals as goal
+use Rattle.lemmas.proofs.Lists.{each_weaker}
 
 pub note-requires : goal.note-requires
 note-requires c =
     let f = program_of c.args.whole.now.flat in
     let split = c.args.whole.now.split in
-    let named = each_more (λ (v : ValueId). (is_named f v ≡ true) × (v.instruction < length f.code)) (λ (v : ValueId). is_named f v ≡ true) (λ v h. h.0) (values_kept f split)
-    (kept_earlier f split c.requires.bounded.formed (c.values_have_their_numbers.ensures f))
+    let named = each_weaker (λ (v : ValueId). (is_named f v ≡ true) × (v.instruction < length f.code)) (λ (v : ValueId). is_named f v ≡ true)
+    (λ v h. h.0) (values_kept f split)
+    (kept_earlier f split c.requires.bounded.formed)
     in
     record {
       within = subst (λ (ns : List ℕ). All (λ (n : ℕ). n < length c.in_ok-last.last.items) ns) (sym (c.deref.ensures.value ∙ c.in_ok-numbers.ensures))

@@ -8,7 +8,8 @@ use Rattle.transfer_header.specs.Steps.{is_among}
 use Rattle.server_runtime.specs.Spans.{is_taken, numbers_of}
 use Rattle.server_runtime.proofs.Listed.{numbers_within}
 use Rattle.server_runtime.proofs.Noted.{taken_is}
-use Rattle.server_runtime.proofs.Steps.{code_length, step_is}
+use Rattle.server_runtime.proofs.Steps.{code_length}
+use Rattle.flat_ir.proofs.Steps.{step_is}
 use Rattle.server_runtime.proofs.spans.note_turn.Goals as goal
 
 pub note-requires : goal.note-requires

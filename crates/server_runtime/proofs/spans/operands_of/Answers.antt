@@ -3,7 +3,8 @@ use Rattle.std.specs.List.{AllByRecursion as Each}
 use Rattle.flat_ir.specs.declared.program.ValueId.{ValueId}
 use Rattle.flat_ir.specs.Program.{is_named, operands, program_of, step_of, Step}
 use Rattle.server_runtime.specs.Spans.{numbers_of}
-use Rattle.server_runtime.proofs.Steps.{code_length, step_is}
+use Rattle.server_runtime.proofs.Steps.{code_length}
+use Rattle.flat_ir.proofs.Steps.{step_is}
 use Rattle.server_runtime.proofs.spans.operands_of.Goals as goal
 
 pub push_operands-requires-clause-named : goal.push_operands-requires-clause-named

@@ -14,7 +14,7 @@ push_spans-requires c =
     let flat = c.args.whole.now.flat in
     let f = program_of flat in
     let split = c.args.whole.now.split in
-    let low = writes_low f split c.requires.prepared.bounded.formed (c.values_have_their_numbers.ensures f) in
+    let low = writes_low f split c.requires.prepared.bounded.formed in
     subst (λ (ns : List ℕ). All (λ (n : ℕ). n < length c.args.last.now) ns) (sym (c.deref.ensures.value ∙ c.in_ok-handed.ensures))
     (subst (λ (k : ℕ). All (λ (n : ℕ). n < k) (writes_at f split 0)) (sym c.requires.last.count) (low 0))
 
@@ -23,7 +23,7 @@ loop-i-init c =
     let flat = c.args.whole.now.flat in
     let f = program_of flat in
     let split = c.args.whole.now.split in
-    let low = writes_low f split c.requires.prepared.bounded.formed (c.values_have_their_numbers.ensures f) in
+    let low = writes_low f split c.requires.prepared.bounded.formed in
     let row : ℕ → List ℕ → List ℕ → List Span = λ step last ws. map {B = Span} (λ (n : ℕ). record { value = n; from = step; to = max step (get_or last n 0) }) ws in
     let last = c.args.last.now in
     c.in_ok-push_spans.ensures
@@ -35,7 +35,7 @@ push_spans-requires-in-loop-i c =
     let flat = c.args.whole.now.flat in
     let f = program_of flat in
     let split = c.args.whole.now.split in
-    let low = writes_low f split c.requires.prepared.bounded.formed (c.values_have_their_numbers.ensures f) in
+    let low = writes_low f split c.requires.prepared.bounded.formed in
     let i = c.loop-i.i in
     subst (λ (ns : List ℕ). All (λ (n : ℕ). n < length c.args.last.now) ns) (sym (c.deref-in-loop-i.ensures.value ∙ c.in_ok-numbers.ensures))
     (subst (λ (k : ℕ). All (λ (n : ℕ). n < k) (writes_at f split (suc i))) (sym c.requires.last.count) (low (suc i)))
@@ -45,7 +45,7 @@ loop-i-preserved c =
     let flat = c.args.whole.now.flat in
     let f = program_of flat in
     let split = c.args.whole.now.split in
-    let low = writes_low f split c.requires.prepared.bounded.formed (c.values_have_their_numbers.ensures f) in
+    let low = writes_low f split c.requires.prepared.bounded.formed in
     let row : ℕ → List ℕ → List ℕ → List Span = λ step last ws. map {B = Span} (λ (n : ℕ). record { value = n; from = step; to = max step (get_or last n 0) }) ws in
     let i = c.loop-i.i in
     let last = c.args.last.now in

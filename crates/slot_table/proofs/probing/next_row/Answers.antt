@@ -1,12 +1,9 @@
-use Rattle.std.proofs.Common.{◌≡◌, ℕ, ◌+◌, ◌<◌, ◌≤◌, false, Option, None, Some, is_some, inl, inr, refl, sym, ap, ◌∙◌, arith}
+use Rattle.std.proofs.Common.{◌≡◌, ℕ, ◌+◌, ◌<◌, ◌≤◌, false, None, is_some, inl, inr, refl, sym, ap, ◌∙◌, arith}
 use Rattle.std.proofs.lemmas.Bool.{cases_lt}
-use Rattle.slot_table.specs.Table.{held, Entry, Slots}
+use Rattle.slot_table.specs.Table.{held, Slots}
 use Rattle.slot_table.proofs.Held.{read}
+use Rattle.slot_table.proofs.Moves.{is_none}
 use Rattle.slot_table.proofs.probing.next_row.Goals as goal
-
-no_row : (o : Option Entry) → is_some o ≡ false → o ≡ None
-no_row None e = refl
-no_row (Some row) e = absurd (cc)
 
 -- one slot more without a row
 one_gap : (s : Slots) (from at : ℕ) → ((i : ℕ) → from ≤ i → i < at → held s i ≡ None) → held s at ≡ None
@@ -25,7 +22,7 @@ loop-at-preserved g c =
     record {
       behind = omega (arith, so_far.behind);
       within = omega arith;
-      gaps = one_gap s c.args.from at so_far.gaps (no_row (held s at) (ap is_some held_is ∙ sym c.is_some.ensures ∙ c.if-is_some.false));
+      gaps = one_gap s c.args.from at so_far.gaps (is_none (held s at) (ap is_some held_is ∙ sym c.is_some.ensures ∙ c.if-is_some.false));
     }
 
 pub returns-then-is_some : goal.returns-then-is_some

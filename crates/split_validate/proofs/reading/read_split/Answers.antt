@@ -5,7 +5,8 @@ use Rattle.split_validate.specs.SplitLines.{IsRefused, IsSplitText}
 use Rattle.split_validate.specs.SplitSteps.{ended}
 use Rattle.split_validate.specs.declared.reading.SplitTextError.TheVariants.{Line}
 use Rattle.split_validate.proofs.Gone.{at}
-use Rattle.split_validate.proofs.TextLines.{all_read, drop_inside, drop_more, ended_early, line_on, line_stop, read_is, read_only, taken_no, taken_yes, text_stop}
+use Rattle.split_validate.proofs.TextLines.{all_read, drop_more, ended_early, line_on, line_stop, read_is, read_only, taken_no, taken_yes, text_stop}
+use Rattle.lemmas.proofs.Lists.{line_within}
 use Rattle.split_validate.proofs.reading.read_split.Goals as goal
 
 pub loop-line-preserved : goal.loop-line-preserved
@@ -23,7 +24,7 @@ loop-line-preserved c =
     let turn = line_on c.len-count.result n ls rest l old.progress old.parts.items (at new.progress new.parts.items) i.small next i.fits i.told after in
     record {
       small = i.small;
-      within = omega (arith, drop_inside n l ls rest next);
+      within = omega (arith, line_within n l ls rest next);
       bytes = omega (arith, c.in-Some.ensures.shorter, i.bytes);
       ahead = drop_more n l ls rest next;
       fits = turn.fits;

@@ -1,7 +1,8 @@
 use Rattle.std.proofs.Common.{◌<◌, length, get_or, sym, ap, ◌∙◌, arith}
 use Rattle.flat_ir.specs.declared.program.Instr.{Instr}
 use Rattle.flat_ir.specs.Program.{Step, program_of, work_of}
-use Rattle.split_validate.proofs.Instructions.{fifth_rule, step_is}
+use Rattle.split_validate.proofs.Instructions.{fifth_rule}
+use Rattle.split_model.proofs.Steps.{step_is}
 use Rattle.split_validate.proofs.rules.breaks_5.Goals as goal
 
 pub returns-then-is_carried : goal.returns-then-is_carried

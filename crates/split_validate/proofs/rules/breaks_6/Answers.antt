@@ -1,6 +1,7 @@
 use Rattle.std.proofs.Common.{◌≡◌, ◌<◌, length, ap, arith}
 use Rattle.flat_ir.specs.Program.{Step, program_of, step_at}
-use Rattle.split_validate.proofs.Instructions.{same_count, step_is}
+use Rattle.split_validate.proofs.Instructions.{same_count}
+use Rattle.split_model.proofs.Steps.{step_is}
 use Rattle.split_validate.proofs.rules.breaks_6.Goals as goal
 
 pub bounds-guarded-one : goal.bounds-guarded-one

@@ -3,6 +3,7 @@ use Rattle.flat_ir.specs.declared.program.Block.{Block}
 use Rattle.flat_ir.specs.Program.{program_of}
 use Rattle.split_model.specs.Split.{is_post}
 use Rattle.split_validate.proofs.Guards.{above_guarded, block_is, parent_there}
+use Rattle.flat_ir.proofs.Laws.{lines_of_blocks-line}
 use Rattle.split_validate.proofs.rules.is_guarded.Goals as goal
 
 abbrev none : Block
@@ -21,5 +22,5 @@ returns-else-own c =
     let block = get_or c.as_slice.result.now c.args.k none in
     let out : is_post c.args.s.now block.cond.instruction ≡ false = sym c.is_post-own.ensures ∙ c.if-own.false in
     sym (ap (λ b. b || get_or c.args.marks.now block.parent false) out)
-    ∙ above_guarded f c.args.s.now c.args.k c.args.marks.now block c.requires.formed.parents (c.lines_of_blocks.ensures.line f.blocks c.args.k c.requires.formed.parents) c.requires.inside c.requires.marks
+    ∙ above_guarded f c.args.s.now c.args.k c.args.marks.now block c.requires.formed.parents (lines_of_blocks-line f.blocks c.args.k c.requires.formed.parents) c.requires.inside c.requires.marks
     (block_is f.blocks c.as_slice.result.now c.args.k none c.as_slice.ensures c.requires.inside)

@@ -1,4 +1,4 @@
-use Rattle.std.proofs.Common.{◌≡◌, ◌||◌, Bool, [], ◌∷◌, ◌∙◌, arith}
+use Rattle.std.proofs.Common.{◌||◌, Bool, [], ◌∷◌, arith}
 use Rattle.std.specs.List.{list_any}
 use Rattle.flat_ir.specs.declared.program.FieldValue.{FieldValue}
 use Rattle.flat_ir.specs.declared.program.ValueId.{ValueId}

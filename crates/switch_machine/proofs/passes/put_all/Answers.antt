@@ -1,7 +1,7 @@
 use Rattle.std.proofs.Common.{◌≡◌, ◌∙◌, ◌<◌, ◌+◌, ℕ, List, ◌∷◌, length, drop, slice_index, sym, ap, arith, add-one, drop-cons}
 use Rattle.transfer_header.specs.Registers.{placed, Registers}
 use Rattle.switch_machine.specs.Ready.{all_placed, paired}
-use Rattle.switch_machine.proofs.Lists.{none_ahead}
+use Rattle.lemmas.proofs.Lists.{drop_past}
 use Rattle.switch_machine.proofs.passes.put_all.Goals as goal
 
 ahead_at : (xs : List ℕ) (i : ℕ) → i < length xs → drop i xs ≡ slice_index xs i ∷ drop (i + 1) xs
@@ -28,5 +28,5 @@ pub returns : goal.returns
 returns c =
     let places = c.args.places.now in
     let numbers = c.args.numbers.now in
-    ap (λ (ps : List ℕ). all_placed c.loop-index.registers (paired ps (drop c.loop-index.index numbers))) (sym (none_ahead places c.loop-index.index (omega (arith, c.loop-index-test.false))))
+    ap (λ (ps : List ℕ). all_placed c.loop-index.registers (paired ps (drop c.loop-index.index numbers))) (sym (drop_past places c.loop-index.index (omega (arith, c.loop-index-test.false))))
     ∙ c.loop-index.invariant

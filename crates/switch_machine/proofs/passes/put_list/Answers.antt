@@ -1,6 +1,6 @@
 use Rattle.std.proofs.Common.{refl}
 use Rattle.flat_ir.specs.Registers.{results_of}
-use Rattle.switch_machine.proofs.PlacedSteps.{put_more}
+use Rattle.transfer_header.proofs.PlacedNumbers.{put_more}
 use Rattle.switch_machine.proofs.passes.put_list.Goals as goal
 
 pub loop-index-preserved : goal.loop-index-preserved

@@ -1,4 +1,4 @@
-use Rattle.std.proofs.Common.{false, map}
+use Rattle.std.proofs.Common.{map}
 use Rattle.flat_ir.specs.Registers.{packet_of}
 use Rattle.switch_machine.specs.Ready.{all_placed, reads_at, ready_gives, ready_of}
 use Rattle.switch_machine.proofs.PlacedSteps.{ready_can}
@@ -20,9 +20,7 @@ loop-step-preserved g c =
     let start = c.args.registers.now in
     let before = c.loop-step.registers in
     let step = c.step-item.result in
-    direct_more tables packet
-    (λ r r' work each. c.readings_that_agree.ensures.results r r' false tables packet work (c.readings_that_agree.ensures.operands r r' work each))
-    c.args.steps.now c.loop-step.step-index step start before c.run_directly.new.registers
+    direct_more tables packet c.args.steps.now c.loop-step.step-index step start before c.run_directly.new.registers
     (all_placed start (ready_gives (map ready_of c.args.steps.now) (reads_at start.numbers) tables packet)) c.loop-step-test.true c.step-item.is
     c.loop-step.invariant c.run_directly.ensures
 

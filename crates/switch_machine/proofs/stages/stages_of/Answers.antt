@@ -2,7 +2,7 @@ use Rattle.std.proofs.Common.{◌≤◌, ◌∙◌, ap, map, sym, length, arith,
 use Rattle.std.proofs.lemmas.List.{append-nil}
 use Rattle.switch_ir.specs.Code.{pass_step_of}
 use Rattle.switch_machine.specs.Staged.{of_stage, stage_at}
-use Rattle.switch_machine.proofs.Lists.{none_ahead}
+use Rattle.lemmas.proofs.Lists.{drop_past}
 use Rattle.switch_machine.proofs.stages.stages_of.Goals as goal
 
 pub returns : goal.returns
@@ -14,6 +14,6 @@ returns c =
       count = c.loop-step.invariant.count ∙ add-one c.args.highest;
       each = λ t le.
           sym (append-nil (stage_at stages t))
-          ∙ ap (λ ss. stage_at stages t ++ of_stage t (map pass_step_of ss)) (sym (none_ahead steps c.loop-step.step-index over_all))
+          ∙ ap (λ ss. stage_at stages t ++ of_stage t (map pass_step_of ss)) (sym (drop_past steps c.loop-step.step-index over_all))
           ∙ c.loop-step.invariant.placed t (omega (arith, le));
     }

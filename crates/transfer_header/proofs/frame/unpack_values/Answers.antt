@@ -3,8 +3,9 @@ use Rattle.split_model.specs.declared.layout.Crossing.{Crossing}
 use Rattle.transfer_header.specs.Bits.{bits_in}
 use Rattle.transfer_header.specs.Values.{total}
 use Rattle.transfer_header.specs.Registers.{Registers, value_in}
-use Rattle.transfer_header.proofs.LayoutValues.{IsSet, AreApartIn, value_bits-nil, total-more, value_within, bits_written, narrow_written, nothing_changed, one_changed, has_at, same_places, still_apart_in}
+use Rattle.transfer_header.proofs.LayoutValues.{IsSet, AreApartIn, value_bits-nil, value_within, bits_written, narrow_written, nothing_changed, one_changed, has_at, same_places, still_apart_in}
 use Rattle.transfer_header.proofs.Writes.{is_set, has_here}
+use Rattle.split_model.proofs.Sums.{bits_more}
 use Rattle.transfer_header.proofs.frame.unpack_values.Goals as goal
 
 pub loop-crossing-init : goal.loop-crossing-init
@@ -48,7 +49,7 @@ loop-crossing-preserved c =
     let set : IsSet into after crossing.number c.read_bits.result = is_set into after crossing.number c.read_bits.result c.set.ensures.all c.set.ensures.number c.set.ensures.others in
     let apart : AreApartIn into items = still_apart_in start into items (same_places start into c.loop-crossing.invariant.kept.plan c.loop-crossing.invariant.kept.count) (subst (AreApartIn start) (sym c.as_slice-crossing-items.ensures) c.requires.fits.apart) in
     record {
-      place = omega (arith, total-more items i crossing c.loop-crossing-test.true c.crossing-item.is);
+      place = omega (arith, bits_more items i crossing c.loop-crossing-test.true c.crossing-item.is);
       bits = bits_written items into after c.args.header.now i c.loop-crossing.at crossing c.read_bits.result apart c.loop-crossing-test.true c.crossing-item.is set c.loop-crossing.invariant.bits (rw width at c.read_bits.ensures.bits) ∙ ap (λ k. take (c.loop-crossing.at + k) (bits_in c.args.header.now)) (sym width);
       narrow = narrow_written items into after i crossing c.read_bits.result apart c.loop-crossing-test.true c.crossing-item.is set c.loop-crossing.invariant.narrow (rw width at c.read_bits.ensures.fits);
       kept = one_changed items start into after i crossing c.read_bits.result c.loop-crossing-test.true c.crossing-item.is set c.loop-crossing.invariant.kept;

@@ -23,7 +23,8 @@ use Rattle.chain_compose.proofs.Trees.{body_from, tree_at}
 use Rattle.chain_compose.proofs.Weights.{at_most_all, next_level, own_lighter}
 use Rattle.chain_compose.proofs.WireEnds.{no_element_written, pushed_one, closed_put, out_end, last_end, element_end, own_wires, none_sent, sent_put, test_put, no_test_put, first_and_rest}
 use Rattle.chain_compose.proofs.RoutesAt.{few_wires}
-use Rattle.chain_compose.proofs.Levels.{tree_of_let, tree_of_assign, tree_of_set_field, tree_of_look, tree_of_put, tree_of_del, tree_of_if, tree_of_repeat, tree_of_send, tree_of_drop, tree_of_local, tree_of_byte}
+use Rattle.chain_compose.proofs.Levels.{tree_of_let, tree_of_assign, tree_of_set_field, tree_of_look, tree_of_put, tree_of_del, tree_of_repeat, tree_of_send, tree_of_drop, tree_of_local, tree_of_byte}
+use Rattle.element_print.proofs.Ifs.{tree_of_if}
 use Rattle.chain_compose.proofs.parts.Parts.+place.Goals as goal
 
 pub put_body-put_stmt-requires : goal.put_body-put_stmt-requires

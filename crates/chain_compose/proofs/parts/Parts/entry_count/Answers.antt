@@ -5,8 +5,9 @@ use Rattle.element_chain.specs.declared.chain.Wire.{Wire}
 use Rattle.element_print.specs.Lengths.{capped}
 use Rattle.chain_compose.specs.Parts.{chain_of}
 use Rattle.chain_compose.specs.Tallies.{after_count, told_end, AreEndings, AllFigures, no_figures}
-use Rattle.chain_compose.proofs.Elements.{entry_told, all_within}
+use Rattle.chain_compose.proofs.Elements.{entry_told}
 use Rattle.chain_compose.proofs.WireEnds.{own_wires}
+use Rattle.chain_compose.proofs.DeepCaps.{all_within}
 use Rattle.chain_compose.proofs.parts.Parts.entry_count.Goals as goal
 
 pub returns : goal.returns

@@ -4,8 +4,9 @@ use Rattle.element_lang.specs.View.{tree}
 use Rattle.chain_compose.specs.declared.figures.Ending.{Ending}
 use Rattle.chain_compose.specs.Parts.{chain_of}
 use Rattle.chain_compose.specs.Tallies.{AllFigures, IsNext, no_figures, no_ending}
-use Rattle.chain_compose.proofs.Elements.{more_told, all_within}
+use Rattle.chain_compose.proofs.Elements.{more_told}
 use Rattle.chain_compose.proofs.Pushed.{one_longer, each_pushed}
+use Rattle.chain_compose.proofs.DeepCaps.{all_within}
 use Rattle.chain_compose.proofs.parts.Parts.more_endings.Goals as goal
 
 pub loop-element-preserved : goal.loop-element-preserved

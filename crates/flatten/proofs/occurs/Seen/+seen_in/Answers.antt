@@ -1,4 +1,4 @@
-use Rattle.std.proofs.Common.{◌≡◌, ◌||◌, ◌∙◌, ap, sym, refl, get_or, Bool, true, false, Vec, Global}
+use Rattle.std.proofs.Common.{◌≡◌, ◌||◌, ◌∙◌, ap, sym, refl, get_or, Bool, false, Vec, Global}
 use Rattle.packet_fields.specs.declared.field.Field.{Field}
 use Rattle.packet_fields.specs.Table.{field_index}
 use Rattle.element_lang.specs.declared.tree.Expr.{Expr}
@@ -6,11 +6,8 @@ use Rattle.element_lang.specs.declared.tree.Stmt.{Stmt, If}
 use Rattle.flatten.proofs.Trees.{tree_if, tree_set}
 use Rattle.element_lang.specs.View.{expr_tree, stmt_tree, body_tree}
 use Rattle.flatten.specs.Occurs.{same_field, is_in_expr, is_in_stmt, is_in_body}
+use Rattle.lemmas.proofs.Tests.{or_assoc}
 use Rattle.flatten.proofs.occurs.Seen.+seen_in.Goals as goal
-
-or_assoc : (a b c : Bool) → ((a || b) || c) ≡ (a || (b || c))
-or_assoc true b c = refl
-or_assoc false b c = refl
 
 two : (now mid old first second both : Bool) → now ≡ (mid || second) → mid ≡ (old || first) → both ≡ (first || second) → now ≡ (old || both)
 two now mid old first second both n m b = n ∙ ap (λ x. x || second) m ∙ or_assoc old first second ∙ ap (λ x. old || x) (sym b)

@@ -37,29 +37,21 @@ body-loop-s-preserved t c =
           (λ widths go. subst (λ (b : Bool). closed widths n.stretch.pending.items (started n.w) (if b then go n.stretch.place n.self n.w.state else placed n.self n.w.state) ≡ closed widths l.stretch.pending.items (started l.w) (pure.go_on widths l.w.state.ended l.stretch.place go l.self l.w.state)) c.if-not-goes.false (c.in_ok-goes.ensures.told widths go))
           c.in_ok-stmt.ensures.ok;
       start = ap (outermost n.stretch.pending.items) same ∙ c.in_ok-goes.ensures.start ∙ l.invariant.start;
-      wide = as_wide [] [] n.w u same ∙ as_wide l.stretch.pending.items n.stretch.pending.items l.w n.w c.in_ok-goes.ensures.start ∙ l.invariant.wide;
+      wide = as_wide [] [] n.w u same ∙ c.in_ok-goes.ensures.wide ∙ l.invariant.wide;
       sized = sized.1;
       fields = l.invariant.fields;
     }
 
 pub body-close-requires-clause-wide : goal.body-close-requires-clause-wide
-body-close-requires-clause-wide t c =
-    let l = c.loop-s in
-    let n = c.goes_on.new in
-    as_wide l.stretch.pending.items n.stretch.pending.items l.w n.w c.in_ok-goes.ensures.start ∙ l.invariant.wide
+body-close-requires-clause-wide t c = c.in_ok-goes.ensures.wide ∙ c.loop-s.invariant.wide
 
 pub turns-turn-requires : goal.turns-turn-requires
 turns-turn-requires t c =
-    let l = c.loop-turn in
-    let n = c.goes_on.new in
-    let wide : length n.w.state.locals ≡ length c.args.frame.now.locals.items = as_wide l.stretch.pending.items n.stretch.pending.items l.w n.w c.in_ok-goes.ensures.start ∙ l.invariant.wide in
+    let wide : length c.goes_on.new.w.state.locals ≡ length c.args.frame.now.locals.items = c.in_ok-goes.ensures.wide ∙ c.loop-turn.invariant.wide in
     search (rules, wide)
 
 pub turns-close-requires-clause-wide : goal.turns-close-requires-clause-wide
-turns-close-requires-clause-wide t c =
-    let l = c.loop-turn in
-    let n = c.goes_on.new in
-    as_wide l.stretch.pending.items n.stretch.pending.items l.w n.w c.in_ok-goes.ensures.start ∙ l.invariant.wide
+turns-close-requires-clause-wide t c = c.in_ok-goes.ensures.wide ∙ c.loop-turn.invariant.wide
 
 pub turns-returns-then-not-goes-clause-ok : goal.turns-returns-then-not-goes-clause-ok
 turns-returns-then-not-goes-clause-ok t c =
@@ -91,7 +83,7 @@ turns-loop-turn-preserved t c =
           (λ widths go. subst (λ (b : Bool). closed widths n.stretch.pending.items (started n.w) (if b then go n.stretch.place n.self n.w.state else placed n.self n.w.state) ≡ closed widths l.stretch.pending.items (started l.w) (pure.go_on widths l.w.state.ended l.stretch.place go l.self l.w.state)) c.if-not-goes.false (c.in_ok-goes.ensures.told widths go))
           c.in_ok-turn.ensures.ok;
       start = ap (outermost n.stretch.pending.items) same ∙ c.in_ok-goes.ensures.start ∙ l.invariant.start;
-      wide = as_wide [] [] n.w u same ∙ as_wide l.stretch.pending.items n.stretch.pending.items l.w n.w c.in_ok-goes.ensures.start ∙ l.invariant.wide;
+      wide = as_wide [] [] n.w u same ∙ c.in_ok-goes.ensures.wide ∙ l.invariant.wide;
       sized = l.invariant.sized;
       fields = l.invariant.fields;
     }

@@ -4,10 +4,10 @@ use Rattle.lossy_replay.proofs.line.Line.give.Goals as goal
 
 pub returns-clause-link : goal.returns-clause-link
 returns-clause-link c =
-    (after_give c.one_step_more.ensures c.args.self.now (record c.args.self.now { sender = c.give.new.self }) c.args.item c.requires.at_work
-    c.requires.few c.in_ok-number.ensures.ok refl refl refl).link
+    (after_give c.args.self.now (record c.args.self.now { sender = c.give.new.self }) c.args.item c.requires.at_work c.requires.few refl
+    c.in_ok-number.ensures.ok).link
 
 pub returns-clause-at_work : goal.returns-clause-at_work
 returns-clause-at_work c =
-    (after_give c.one_step_more.ensures c.args.self.now (record c.args.self.now { sender = c.give.new.self }) c.args.item c.requires.at_work
-    c.requires.few c.in_ok-number.ensures.ok refl refl refl).at_work
+    (after_give c.args.self.now (record c.args.self.now { sender = c.give.new.self }) c.args.item c.requires.at_work c.requires.few refl
+    c.in_ok-number.ensures.ok).at_work

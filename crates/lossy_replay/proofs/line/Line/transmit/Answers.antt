@@ -4,15 +4,12 @@ use Rattle.lossy_replay.specs.Lines.{link_of}
 use Rattle.lossy_replay.proofs.AtWork.{after_transmit}
 use Rattle.lossy_replay.proofs.line.Line.transmit.Goals as goal
 
-pub returns-in_ok-push-in-Some-clause-link : goal.returns-in_ok-push-in-Some-clause-link
-returns-in_ok-push-in-Some-clause-link c =
-    (after_transmit c.one_step_more.ensures c.args.self.now (record c.args.self.now { sent = c.push.new.self }) c.args.j c.in-Some.number c.requires.at_work (sym c.unknown_at.ensures ∙ c.in-Some.is) refl refl
-    c.in_ok-push-in-Some.ensures.items refl).link
-
-pub returns-in_ok-push-in-Some-clause-at_work : goal.returns-in_ok-push-in-Some-clause-at_work
-returns-in_ok-push-in-Some-clause-at_work c =
-    (after_transmit c.one_step_more.ensures c.args.self.now (record c.args.self.now { sent = c.push.new.self }) c.args.j c.in-Some.number c.requires.at_work (sym c.unknown_at.ensures ∙ c.in-Some.is) refl refl
-    c.in_ok-push-in-Some.ensures.items refl).at_work
+pub returns-in_ok-push-in-Some : goal.returns-in_ok-push-in-Some
+returns-in_ok-push-in-Some c =
+    let me = c.args.self.now in
+    let work = after_transmit me (record me { sent = c.push.new.self }) c.args.j c.in-Some.number c.requires.at_work
+    (sym c.unknown_at.ensures ∙ c.in-Some.is) refl c.in_ok-push-in-Some.ensures.items in
+    record { link = work.link; at_work = work.at_work }
 
 pub returns-in-None-clause-link : goal.returns-in-None-clause-link
 returns-in-None-clause-link c = sym (ap (with_sent (link_of c.args.self.now)) (sym c.unknown_at.ensures ∙ c.in-None.is))

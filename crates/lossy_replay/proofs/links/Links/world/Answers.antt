@@ -11,7 +11,7 @@ pub returns-in_default-clause-ok : goal.returns-in_default-clause-ok
 returns-in_default-clause-ok g c = λ schedule linking.
     let x = given_of c.args.job.now in
     let is = sym (c.let_by.ensures _ _ (whole x) linking.calls linking.st linking.links_are linking.shown) ∙ c.in_default.is in
-    not_let_on c.a_run_is_answered_by_its_calls.ensures.state_stays x schedule c.args.event c.args.self.now c.args.course.now
+    not_let_on x schedule c.args.event c.args.self.now c.args.course.now
     (g.S.SwitchPort.seen c.args.port.now) linking is
 
 pub returns-then-not-applies-clause-ok : goal.returns-then-not-applies-clause-ok
@@ -19,12 +19,12 @@ returns-then-not-applies-clause-ok g c = λ schedule linking.
     let x = given_of c.args.job.now in
     let is = sym (c.let_by.ensures _ _ (whole x) linking.calls linking.st linking.links_are linking.shown) ∙ c.in-Some.is in
     let fails = sym (c.applies.ensures linking.calls linking.st linking.shown) ∙ c.if-not-applies.true in
-    not_applied_on c.a_run_is_answered_by_its_calls.ensures.state_stays x schedule c.args.event c.in-Some.own c.args.self.now c.args.course.now
+    not_applied_on x schedule c.args.event c.in-Some.own c.args.self.now c.args.course.now
     (g.S.SwitchPort.seen c.args.port.now) linking is fails
 
 pub step-requires-clause-may_call : goal.step-requires-clause-may_call
 step-requires-clause-may_call g c =
-    may_call_there c.the_next_calls_may_be_made.ensures (given_of c.args.job.now) c.args.self.now c.args.course.now
+    may_call_there (given_of c.args.job.now) c.args.self.now c.args.course.now
     (g.S.SwitchPort.seen c.args.port.now) c.requires
 
 pub note-requires-clause-small : goal.note-requires-clause-small
@@ -34,7 +34,7 @@ note-requires-clause-small g c =
 pub returns-in_err-note-clause-fails : goal.returns-in_err-note-clause-fails
 returns-in_err-note-clause-fails g c =
     let p = err_from_is_err_and c.from_residual-in_err-note.result c.from_residual-in_err-note.ensures.1 in
-    rw (p.1, p.2) (fails_behind c.a_replay_goes_on.ensures (given_of c.args.job.now) c.in-Some.own c.in_ok-step.field-0 c.args.self.now
+    rw (p.1, p.2) (fails_behind (given_of c.args.job.now) c.in-Some.own c.in_ok-step.field-0 c.args.self.now
     c.args.course.now c.step.new.self (g.S.SwitchPort.seen c.args.port.now) (g.S.SwitchPort.seen c.step.new.port) c.requires c.in_ok-step.ensures.turned)
 
 pub returns-clause-ok : goal.returns-clause-ok
@@ -44,14 +44,6 @@ returns-clause-ok g c = λ schedule linking.
     let may = sym (c.applies.ensures linking.calls linking.st linking.shown) ∙ c.if-not-applies.false in
     let are = subst (λ (b : ℕ). AreLinks (length schedule + 1) (noted c.step.new.self b linking.linked c.args.event) c.note.new.self)
     (c.len-before.ensures ∙ c.args.course.now.up.ok.0) (c.in_ok-note.ensures (length schedule) linking.linked linking.links_are) in
-    world_on (record {
-      fast = c.passes_with_no_stages_end_at_once.ensures.fast;
-      slow = c.passes_with_no_stages_end_at_once.ensures.slow;
-      once = c.a_run_is_answered_by_its_calls.ensures.once;
-      fresh = c.a_run_is_answered_by_its_calls.ensures.fresh_up;
-      merged = c.a_batch_takes_up_others.ensures;
-      order = c.commands_are_applied_in_order.ensures;
-      state = c.a_run_is_answered_by_its_calls.ensures.state_stays;
-    }) c.a_run_is_answered_by_its_calls.ensures.gone c.a_replay_goes_on.ensures c.packets_are_where_they_are_told.ensures x schedule c.args.event c.in-Some.own c.args.self.now c.note.new.self
+    world_on x schedule c.args.event c.in-Some.own c.args.self.now c.note.new.self
     c.args.course.now c.step.new.self (g.S.SwitchPort.seen c.args.port.now) (g.S.SwitchPort.seen c.step.new.port) c.in_ok-step.field-0 linking
     c.in_ok-step.ensures.turned is may are

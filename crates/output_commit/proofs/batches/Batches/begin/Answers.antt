@@ -1,18 +1,19 @@
-use Rattle.std.proofs.Common.{◌<◌, ◌≤◌, ◌*◌, ◌^◌, ◌-◌, ◌∙◌, refl, sym, subst, ap, arith, length, take, drop}
+use Rattle.std.proofs.Common.{◌<◌, ◌^◌, ◌-◌, ◌∙◌, refl, sym, subst, ap, arith, length, take, drop}
 use Rattle.output_commit.specs.Spans.{AreJoined, AreTallied, first_of, total}
-use Rattle.output_commit.proofs.Beginning.{begins, few_taken, rest_is, takes_here, waiting_few, waiting_joined}
+use Rattle.output_commit.proofs.Beginning.{begins, few_taken, takes_here, waiting_few, waiting_joined}
+use Rattle.std.proofs.lemmas.List.{take_rest}
 use Rattle.output_commit.proofs.batches.Batches.begin.Goals as goal
 
 pub take_up-taken-requires-clause-few : goal.take_up-taken-requires-clause-few
 take_up-taken-requires-clause-few c =
     let b = c.args.self.now in
-    let rest = ap (λ l. take (length l - b.next) (drop b.next l)) c.deref.ensures.value ∙ rest_is b.spans.items b.next in
+    let rest = ap (λ l. take (length l - b.next) (drop b.next l)) c.deref.ensures.value ∙ take_rest b.spans.items b.next in
     subst (λ m. total m < 2 ^ 32) (sym rest) (waiting_few b c.requires.kept)
 
 pub take_up-taken-requires-clause-joined : goal.take_up-taken-requires-clause-joined
 take_up-taken-requires-clause-joined c =
     let b = c.args.self.now in
-    let rest = ap (λ l. take (length l - b.next) (drop b.next l)) c.deref.ensures.value ∙ rest_is b.spans.items b.next in
+    let rest = ap (λ l. take (length l - b.next) (drop b.next l)) c.deref.ensures.value ∙ take_rest b.spans.items b.next in
     subst (λ m. AreJoined (first_of m) m (length c.as_slice.result.now)) (sym rest)
     (subst (λ us. AreJoined (first_of (drop b.next b.spans.items)) (drop b.next b.spans.items) (length us)) (sym c.as_slice.ensures.value) (waiting_joined b c.requires.kept c.requires.waits))
 

@@ -1,17 +1,22 @@
-use Rattle.std.proofs.Common.{◌≡◌, length, arith, sym, ap, subst, ◌∙◌}
+use Rattle.std.proofs.Common.{◌≡◌, ◌≤◌, List, length, arith, refl, sym, ap, subst, ◌∙◌}
+use Rattle.std.proofs.lemmas.Bool.{le-leb}
 use Rattle.std.proofs.lemmas.Result.{err_from_is_err_and}
+use Rattle.packet_fields.specs.declared.packet.Packet.{Packet}
+use Rattle.run_model.specs.declared.event.Event.TheVariants as event
 use Rattle.switch_ir.specs.Port.{HasNoUpPass}
 use Rattle.replay_state.specs.declared.pass.Pass.{Pass}
 use Rattle.replay_contracts.specs.Replayer.{given_of}
-use Rattle.replay_course.proofs.Arms.{admit_idles, admit_turned, arriving}
+use Rattle.replay_course.proofs.Arms.{admit_turned, arriving, nothing_turned}
 use Rattle.replay_course.proofs.Failing.{fails_up}
 use Rattle.replay_course.proofs.course.Course.admit.Goals as goal
 
 pub returns-in_default-clause-turned : goal.returns-in_default-clause-turned
 returns-in_default-clause-turned g c =
     let count : c.len.result ≡ length c.args.self.now.fates.items = omega (arith, c.len.ensures, c.args.self.now.fates.ok.0) in
-    admit_idles _ _ c.args.self.now _ _ c.len.result c.as_slice.result.now c.requires.going count c.as_slice.ensures.value
-    c.in_default.ensures.lookup.3 c.idled.ensures.stepped c.idled.ensures.sound c.idled.ensures.unapplied c.idled.ensures.counted c.idled.ensures.shown
+    let past : length c.args.job.now.packets ≤ length c.args.self.now.fates.items =
+    subst (λ n. length c.args.job.now.packets ≤ n) count (subst (λ (l : List Packet). length l ≤ c.len.result) c.as_slice.ensures.value c.in_default.ensures.lookup.3) in
+    nothing_turned _ event.Admit _ c.args.self.now _ _ _ refl c.requires.going (le-leb _ _ past) c.idled.ensures.stepped c.idled.ensures.sound c.idled.ensures.unapplied
+    c.idled.ensures.counted c.idled.ensures.shown
 
 pub arrive-end-requires-clause-none : goal.arrive-end-requires-clause-none
 arrive-end-requires-clause-none g c =
@@ -22,10 +27,9 @@ returns-clause-turned g c =
     let count : c.len.result ≡ length c.args.self.now.fates.items = omega (arith, c.len.ensures, c.args.self.now.fates.ok.0) in
     let x = given_of c.args.job.now in
     let me = c.args.self.now in
-    let law = c.a_run_is_answered_by_its_calls.ensures in
     let first = c.in_ok-pass.ensures in
     let came = c.in_ok-come_in.ensures in
-    admit_turned law.once law.fresh_up law.gone x me c.admit_next.new.self c.come_in.new.self _ _ c.in-Some.packet.now c.in_ok-pass.pass c.arrive-end.result came.answers.0
+    admit_turned x me c.admit_next.new.self c.come_in.new.self _ _ c.in-Some.packet.now c.in_ok-pass.pass c.arrive-end.result came.answers.0
     came.answers.1 c.requires.going
     (arriving x me c.in-Some.packet.now c.len.result c.as_slice.result.now count c.as_slice.ensures.value c.in-Some.ensures.lookup.3.0 c.in-Some.ensures.lookup.1)
     first.pass c.arrive-end.ensures first.shown first.sound came.shown came.sound (came.unapplied ∙ first.unapplied) (came.counted ∙ first.counted)

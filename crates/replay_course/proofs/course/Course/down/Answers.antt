@@ -1,9 +1,10 @@
-use Rattle.std.proofs.Common.{◌≡◌, ◌<◌, ◌≤◌, Some, refl, sym, ap, ◌∙◌, length, arith}
-use Rattle.std.specs.Prelude.{slice_get}
-use Rattle.std.proofs.lemmas.Option.{slice_get-get_or}
+use Rattle.std.proofs.Common.{◌≤◌, refl, length, arith}
+use Rattle.std.proofs.lemmas.Bool.{le-leb}
+use Rattle.std.proofs.lemmas.Option.{slice_get_read}
+use Rattle.run_model.specs.declared.event.Event.TheVariants as event
 use Rattle.std.proofs.lemmas.Result.{err_from_is_err_and}
 use Rattle.replay_contracts.specs.Replayer.{given_of}
-use Rattle.replay_course.proofs.Arms.{not_less, down_idles_from, framed_down, down_turned}
+use Rattle.replay_course.proofs.Arms.{not_less, nothing_turned, framed_down, down_turned}
 use Rattle.replay_course.proofs.Failing.{fails_down}
 use Rattle.replay_course.proofs.course.Course.down.Goals as goal
 
@@ -13,39 +14,33 @@ returns-in_default-clause-turned g c =
     let beyond = not_less _ _ c.in_default.ensures.variant.1 in
     let past : length before.items ≤ c.args.j = omega (arith, beyond, before.ok.0) in
     let me = c.args.self.now in
-    down_idles_from _ _ _ me _ _ c.args.j (λ i. record me { down = c.in_default.ensures.unchanged i }) c.requires.going past c.idled.ensures.stepped c.idled.ensures.sound c.idled.ensures.unapplied c.idled.ensures.counted c.idled.ensures.shown
+    nothing_turned _ (event.Down c.args.j) _ _ me _ _ (λ i. record me { down = c.in_default.ensures.unchanged i }) c.requires.going (le-leb _ _ past)
+    c.idled.ensures.stepped c.idled.ensures.sound c.idled.ensures.unapplied c.idled.ensures.counted c.idled.ensures.shown
 
 pub come_down-end-requires-clause-frame : goal.come_down-end-requires-clause-frame
 come_down-end-requires-clause-frame g c =
     let before = c.args.self.now.down in
-    let lt = (c.in-Some.ensures).variant.0 refl in
-    let within : c.args.j < length before.items = omega (arith, lt, before.ok.0) in
-    let here : slice_get before.items c.args.j ≡ Some (c.in-Some.number, c.in-Some.frame) =
-    slice_get-get_or before.items c.args.j (c.in-Some.number, c.in-Some.frame) within ∙ ap (λ x. Some x) (sym (c.in-Some.ensures).value) in
+    let here = slice_get_read before.items (length before.items) c.args.j (c.in-Some.number, c.in-Some.frame) refl
+    (omega (arith, c.in-Some.ensures.variant.0 refl, before.ok.0)) c.in-Some.ensures.value in
     framed_down _ c.args.self.now _ c.args.j c.in-Some.number c.in-Some.frame c.requires.going here
 
 pub come_down-end-requires-clause-none : goal.come_down-end-requires-clause-none
 come_down-end-requires-clause-none g c =
     let before = c.args.self.now.down in
-    let lt = (c.in-Some.ensures).variant.0 refl in
-    let within : c.args.j < length before.items = omega (arith, lt, before.ok.0) in
-    let here : slice_get before.items c.args.j ≡ Some (c.in-Some.number, c.in-Some.frame) =
-    slice_get-get_or before.items c.args.j (c.in-Some.number, c.in-Some.frame) within ∙ ap (λ x. Some x) (sym (c.in-Some.ensures).value) in
+    let here = slice_get_read before.items (length before.items) c.args.j (c.in-Some.number, c.in-Some.frame) refl
+    (omega (arith, c.in-Some.ensures.variant.0 refl, before.ok.0)) c.in-Some.ensures.value in
     (c.requires.may_call.comes_down c.args.j (c.in-Some.number, c.in-Some.frame) here).0
 
 pub returns-clause-turned : goal.returns-clause-turned
 returns-clause-turned g c =
     let before = c.args.self.now.down in
-    let lt = (c.in-Some.ensures).variant.0 refl in
-    let within : c.args.j < length before.items = omega (arith, lt, before.ok.0) in
-    let here : slice_get before.items c.args.j ≡ Some (c.in-Some.number, c.in-Some.frame) =
-    slice_get-get_or before.items c.args.j (c.in-Some.number, c.in-Some.frame) within ∙ ap (λ x. Some x) (sym (c.in-Some.ensures).value) in
-    let law = c.a_run_is_answered_by_its_calls.ensures in
+    let here = slice_get_read before.items (length before.items) c.args.j (c.in-Some.number, c.in-Some.frame) refl
+    (omega (arith, c.in-Some.ensures.variant.0 refl, before.ok.0)) c.in-Some.ensures.value in
     let came = c.in_ok-come_out.ensures in
-    down_turned c.packets_are_where_they_are_told.ensures law.once law.step law.fresh_down law.gone (given_of c.args.job.now) c.args.self.now _ c.come_out.new.self _ _ c.args.j
+    down_turned (given_of c.args.job.now) c.args.self.now _ c.come_out.new.self _ _ c.args.j
     c.in-Some.number c.in-Some.frame c.entering-pass.result c.come_down-end.result came.answers.0 came.answers.1 c.requires.going here
     (c.requires.may_call.comes_down c.args.j (c.in-Some.number, c.in-Some.frame) here).1 c.entering-pass.ensures c.come_down-end.ensures
-    refl refl refl refl refl refl c.in-Some.ensures.items refl refl refl came.shown came.sound came.unapplied came.counted
+    refl c.in-Some.ensures.items came.shown came.sound came.unapplied came.counted
 
 pub returns-in_err-come_out-clause-fails : goal.returns-in_err-come_out-clause-fails
 returns-in_err-come_out-clause-fails g c =

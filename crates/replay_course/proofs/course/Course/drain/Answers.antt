@@ -5,31 +5,29 @@ use Rattle.replay_course.proofs.Failing.{fails_behind, goes_draining}
 use Rattle.replay_course.proofs.course.Course.drain.Goals as goal
 
 pub loop-event-init : goal.loop-event-init
-loop-event-init g c = (none_drained c.a_drain_goes_on.ensures.begins _ c.args.self.now _ c.requires.on_its_way.under_way.going, omega arith)
+loop-event-init g c = (none_drained _ c.args.self.now _ c.requires.on_its_way.under_way.going, omega arith)
 
 pub returns-clause-drained : goal.returns-clause-drained
-returns-clause-drained g c = has_drained c.a_drain_ends.ensures _ c.loop-event.count c.args.self.now c.loop-event.self _ _ c.loop-event.invariant.0 c.in_default.ensures
+returns-clause-drained g c = has_drained _ c.loop-event.count c.args.self.now c.loop-event.self _ _ c.loop-event.invariant.0 c.in_default.ensures
 
 pub step-requires-clause-events : goal.step-requires-clause-events
 step-requires-clause-events g c = few_drained _ c.loop-event.count c.args.self.now c.loop-event.self _ _ c.loop-event.invariant.0 c.loop-event.invariant.1 c.requires.few
 
 pub step-requires-clause-may_call : goal.step-requires-clause-may_call
 step-requires-clause-may_call g c =
-    drain_room c.the_next_calls_may_be_made.ensures _ c.loop-event.count c.args.self.now c.loop-event.self _ _ c.requires.on_its_way c.loop-event.invariant.0
+    drain_room _ c.loop-event.count c.args.self.now c.loop-event.self _ _ c.requires.on_its_way c.loop-event.invariant.0
 
 pub loop-event-smaller : goal.loop-event-smaller
 loop-event-smaller g c =
-    left_falls c.split_programs_have_their_laws.ensures c.a_run_is_answered_by_its_calls.ensures.state_stays c.whole_runs_are_sound.ensures.few_answered
-    c.drain_ends.ensures.falls _ c.loop-event.count c.in-Some.event _ c.args.self.now c.loop-event.self c.step.new.self _ _ _
+    left_falls _ c.loop-event.count c.in-Some.event _ c.args.self.now c.loop-event.self c.step.new.self _ _ _
     c.requires.on_its_way c.loop-event.invariant.0 c.in-Some.ensures c.in_ok-step.ensures.turned
 
 pub loop-event-preserved : goal.loop-event-preserved
 loop-event-preserved g c =
-    let falls = left_falls c.split_programs_have_their_laws.ensures c.a_run_is_answered_by_its_calls.ensures.state_stays c.whole_runs_are_sound.ensures.few_answered
-    c.drain_ends.ensures.falls _ c.loop-event.count c.in-Some.event _ c.args.self.now c.loop-event.self c.step.new.self _ _ _
+    let falls = left_falls _ c.loop-event.count c.in-Some.event _ c.args.self.now c.loop-event.self c.step.new.self _ _ _
     c.requires.on_its_way c.loop-event.invariant.0 c.in-Some.ensures c.in_ok-step.ensures.turned in
     let left = c.loop-event.invariant.1 in (
-      drains_more c.a_replay_goes_on.ensures c.a_drain_goes_on.ensures.more _ c.loop-event.count c.in-Some.event _ c.args.self.now c.loop-event.self c.step.new.self _ _ _
+      drains_more _ c.loop-event.count c.in-Some.event _ c.args.self.now c.loop-event.self c.step.new.self _ _ _
           c.loop-event.invariant.0 c.in-Some.ensures c.in_ok-step.ensures.turned,
       omega (arith, falls, left),
     )

@@ -2,14 +2,14 @@ use Rattle.std.proofs.Common.{sym, subst, take}
 use Rattle.std.proofs.lemmas.Option.{slice_get-get_or}
 use Rattle.replay_contracts.specs.Replayer.{given_of}
 use Rattle.replay_course.specs.UnderWay.{HasGone}
-use Rattle.replay_course.proofs.Lists.{take_next}
 use Rattle.replay_course.proofs.Going.{gone_on, room_by}
 use Rattle.std.proofs.lemmas.Result.{err_from_is_err_and}
 use Rattle.replay_course.proofs.Failing.{fails_behind, goes_gone}
+use Rattle.lemmas.proofs.Lists.{take_next}
 use Rattle.replay_course.proofs.course.Course.perform.Goals as goal
 
 pub step-requires-clause-may_call : goal.step-requires-clause-may_call
-step-requires-clause-may_call g c = room_by c.the_next_calls_may_be_made.ensures _ _ c.loop-event.self _ _ c.loop-event.invariant
+step-requires-clause-may_call g c = room_by _ _ c.loop-event.self _ _ c.loop-event.invariant
 
 pub loop-event-preserved : goal.loop-event-preserved
 loop-event-preserved g c =
@@ -17,7 +17,7 @@ loop-event-preserved g c =
     let items = c.as_slice-event-items.result.now in
     subst (λ es. HasGone (given_of c.args.job.now) es c.step.new.self (g.S.SwitchPort.seen c.args.port.now) (g.S.SwitchPort.seen c.step.new.port))
     (sym (take_next items i _ (slice_get-get_or items i _ c.loop-event-test.true)))
-    (gone_on c.a_replay_goes_on.ensures _ (take i items) _ _ c.loop-event.self c.step.new.self _ _ _ c.loop-event.invariant c.in_ok-step.ensures.turned)
+    (gone_on _ (take i items) _ _ c.loop-event.self c.step.new.self _ _ _ c.loop-event.invariant c.in_ok-step.ensures.turned)
 
 pub returns-in_err-step-clause-fails : goal.returns-in_err-step-clause-fails
 returns-in_err-step-clause-fails g c =

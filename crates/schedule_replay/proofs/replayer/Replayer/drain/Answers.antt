@@ -1,18 +1,16 @@
 use Rattle.std.proofs.Common.{◌++◌, sym, subst}
 use Rattle.replay_contracts.specs.Replayer.{HasEmptied, given_of}
 use Rattle.schedule_replay.specs.Replayer.{replayer_of}
-use Rattle.schedule_replay.proofs.Playing.{drain_performs, drain_short, drain_stands, drained_more, failed_stands, few_left, has_emptied, has_failed, way_there}
+use Rattle.schedule_replay.proofs.Playing.{drain_performs, drain_short, drain_stands, drained_more, failed_stands, few_left, has_emptied, has_failed}
 use Rattle.schedule_replay.proofs.replayer.Replayer.drain.Goals as goal
 
 pub drain-requires-clause-on_its_way : goal.drain-requires-clause-on_its_way
-drain-requires-clause-on_its_way g c =
-    let me = c.self.inside in
-    way_there (given_of me.job) me.course (g.S.SwitchPort.seen me.port) me.steps me.failed c.self.invariant c.in_default.is
+drain-requires-clause-on_its_way g c = record { events = c.self.invariant.events; under_way = (c.self.invariant.performed c.in_default.is).under_way }
 
 pub drain-requires-clause-few : goal.drain-requires-clause-few
 drain-requires-clause-few g c =
     let me = c.self.inside in
-    few_left c.few_events_are_left.ensures.bound (given_of me.job) me.course (g.S.SwitchPort.seen me.port) me.steps me.failed c.self.invariant c.in_default.is
+    few_left (given_of me.job) me.course (g.S.SwitchPort.seen me.port) me.steps me.failed c.self.invariant c.in_default.is
 
 pub returns-in-Ok-clause-emptied : goal.returns-in-Ok-clause-emptied
 returns-in-Ok-clause-emptied g c = rw (← c.self.view_is) λ events now.
@@ -23,8 +21,7 @@ returns-in-Ok-clause-emptied g c = rw (← c.self.view_is) λ events now.
     let more = drained_more x events c.in-Ok.events me.course c.drain.new.self old new me.steps c.in-Ok.ensures.drained now in (
       more,
       subst (λ n. HasEmptied (replayer_of x events me.steps old me.failed) n (replayer_of x (events ++ more) me.steps new me.failed)) (sym c.from.ensures)
-          (has_emptied c.a_journal_determines_its_replay.ensures c.a_run_is_answered_by_its_calls.ensures.once c.a_run_keeps_its_promises.ensures
-          c.a_quiet_switch_has_the_servers_tables.ensures x events c.in-Ok.events me.course c.drain.new.self old new me.steps me.failed
+          (has_emptied x events c.in-Ok.events me.course c.drain.new.self old new me.steps me.failed
           c.in_default.is c.in-Ok.ensures.drained now),
       drain_performs x events c.in-Ok.events me.course c.drain.new.self old new me.steps c.in-Ok.ensures.drained c.in-Ok.ensures.left now,
     )
@@ -33,7 +30,7 @@ pub returns-in-Ok-clause-bound : goal.returns-in-Ok-clause-bound
 returns-in-Ok-clause-bound g c =
     let me = c.self.inside in
     rw (← c.self.view_is, c.from.ensures)
-    (drain_short c.few_events_are_left.ensures.left (given_of me.job) c.in-Ok.events me.course c.drain.new.self (g.S.SwitchPort.seen me.port)
+    (drain_short (given_of me.job) c.in-Ok.events me.course c.drain.new.self (g.S.SwitchPort.seen me.port)
     me.steps me.failed c.in_default.is c.in-Ok.ensures.left c.self.invariant)
 
 pub invariant_of-self : goal.invariant_of-self

@@ -5,8 +5,8 @@ pub returns-in-Ok-clause-begun : goal.returns-in-Ok-clause-begun
 returns-in-Ok-clause-begun g c = copy_is_new _ _ _ _ _ c.in-Ok.ensures.same c.in-Ok.ensures.begun
 
 pub returns-in-Ok-clause-performed : goal.returns-in-Ok-clause-performed
-returns-in-Ok-clause-performed g c = copy_performs c.few_events_are_left.ensures.left _ _ _ _ _ c.in-Ok.ensures.same c.in-Ok.ensures.begun
+returns-in-Ok-clause-performed g c = copy_performs _ _ _ _ _ c.in-Ok.ensures.same c.in-Ok.ensures.begun
 
 pub invariant_of-result : goal.invariant_of-result
 invariant_of-result g c =
-    copy_stands c.few_events_are_left.ensures.left _ _ _ _ _ c.in-Ok.ensures.same c.in-Ok.ensures.begun c.requires.few_packets
+    copy_stands _ _ _ _ _ c.in-Ok.ensures.same c.in-Ok.ensures.begun c.requires.few_packets

@@ -1,16 +1,14 @@
 use Rattle.replay_contracts.specs.Replayer.{given_of}
-use Rattle.schedule_replay.proofs.Playing.{failed_stands, going_there, has_failed, has_reported, report_performs, report_stands}
+use Rattle.schedule_replay.proofs.Playing.{failed_stands, has_failed, has_reported, report_performs, report_stands}
 use Rattle.schedule_replay.proofs.replayer.Replayer.report.Goals as goal
 
 pub report-requires : goal.report-requires
-report-requires g c =
-    let me = c.self.inside in
-    record { going = going_there (given_of me.job) me.course (g.S.SwitchPort.seen me.port) me.steps me.failed c.self.invariant c.in_default.is }
+report-requires g c = record { going = (c.self.invariant.performed c.in_default.is).under_way.going }
 
 pub returns-in-Ok-clause-reported : goal.returns-in-Ok-clause-reported
 returns-in-Ok-clause-reported g c = rw (← c.self.view_is) λ events now.
     let me = c.self.inside in
-    has_reported c.a_journal_determines_its_replay.ensures c.a_told_replay_reports_the_run.ensures c.a_run_keeps_its_promises.ensures (given_of me.job) events
+    has_reported (given_of me.job) events
     c.in-Ok.replayed me.course (g.S.SwitchPort.seen me.port) (g.S.SwitchPort.seen c.report.new.port) me.steps me.failed c.in_default.is c.in-Ok.ensures.reports now
 
 pub returns-in-Ok-clause-performed : goal.returns-in-Ok-clause-performed

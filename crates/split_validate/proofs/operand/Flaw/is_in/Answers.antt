@@ -1,14 +1,15 @@
 use Rattle.std.proofs.Common.{◌≡◌, ◌∙◌, ◌+◌, ◌≤◌, ◌||◌, drop, sym, ap, arith, length, false, true}
 use Rattle.flat_ir.specs.Program.{work_of, operands}
 use Rattle.split_validate.specs.Flaws.{any_flawed, has_flaw}
-use Rattle.split_validate.proofs.Operands.{ahead, at_end}
+use Rattle.split_validate.proofs.Operands.{ahead}
+use Rattle.lemmas.proofs.Lists.{drop_past}
 use Rattle.split_validate.proofs.operand.Flaw.is_in.Goals as goal
 
 pub returns : goal.returns
 returns c =
     let all = operands (work_of c.args.kind.now) in
     let past : length all ≤ c.loop-place.place = omega (arith, c.operand_count-place-end.ensures) in
-    sym (ap (any_flawed c.args.self c.args.s.now) (at_end all c.loop-place.place past)) ∙ c.loop-place.invariant
+    sym (ap (any_flawed c.args.self c.args.s.now) (drop_past all c.loop-place.place past)) ∙ c.loop-place.invariant
 
 pub returns-then-is_of : goal.returns-then-is_of
 returns-then-is_of c =

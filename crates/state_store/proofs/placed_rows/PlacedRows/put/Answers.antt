@@ -4,16 +4,17 @@ use Rattle.state_store.specs.Fitted.{fits_row, keep_answer, kept_row}
 use Rattle.state_store.specs.Kept.{have_widths}
 use Rattle.state_store.specs.Placed.{placed_rows}
 use Rattle.state_store.proofs.PackSteps.{same_count}
-use Rattle.state_store.proofs.PlacedLaws.{misfit_answer, misfit_after, full_answer, full_after, stored_answer, stored_after}
+use Rattle.state_store.proofs.PlacedLaws.{full_answer, full_after, stored_answer, stored_after}
+use Rattle.state_store.proofs.FittedLaws.{put_misfit_after, put_misfit_answer}
 use Rattle.state_store.proofs.placed_rows.PlacedRows.put.Goals as goal
 
 pub returns-then-not-fits-clause-answer : goal.returns-then-not-fits-clause-answer
 returns-then-not-fits-clause-answer c =
-    misfit_answer c.args.self.now c.args.key.now c.args.values.now (sym c.fits.ensures ∙ c.if-not-fits.true)
+    put_misfit_answer c.args.self.now c.args.key.now c.args.values.now (sym c.fits.ensures ∙ c.if-not-fits.true)
 
 pub returns-then-not-fits-clause-after : goal.returns-then-not-fits-clause-after
 returns-then-not-fits-clause-after c =
-    misfit_after c.args.self.now c.args.key.now c.args.values.now (sym c.fits.ensures ∙ c.if-not-fits.true)
+    put_misfit_after c.args.self.now c.args.key.now c.args.values.now (sym c.fits.ensures ∙ c.if-not-fits.true)
 
 pub set-requires-clause-within : goal.set-requires-clause-within
 set-requires-clause-within c = omega (arith, c.in-Some.ensures.within, c.len.ensures)

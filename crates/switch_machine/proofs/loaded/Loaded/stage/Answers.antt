@@ -8,7 +8,7 @@ use Rattle.switch_machine.specs.Kept.{KeepsTables}
 use Rattle.switch_machine.specs.Sides.{staging, IsOf}
 use Rattle.switch_machine.specs.Staging.{UpIsPlanned}
 use Rattle.switch_machine.specs.UnderWay.{passes_on, Puts, Stages, Steps}
-use Rattle.switch_machine.proofs.Flying.{found_at}
+use Rattle.lemmas.proofs.Tests.{value_of_some}
 use Rattle.switch_machine.proofs.LoadedCode.{stays_both}
 use Rattle.switch_machine.proofs.Telling.{going_is, going_left, planned_of, settles_last}
 use Rattle.switch_machine.proofs.loaded.Loaded.stage.Goals as goal
@@ -44,7 +44,7 @@ returns-then-is_going-clause-stages c =
 
 pub note-requires : goal.note-requires
 note-requires c =
-    let found = found_at (passes_on c.args.side c.args.self.now) c.args.number c.requires.there in
+    let found = value_of_some (passes_on c.args.side c.args.self.now c.args.number) c.requires.there in
     subst (IsOf c.args.side) (sym c.end.ensures) (c.in_ok-outcome.ensures.steps found.0 found.1).of
 
 pub returns-clause-stays : goal.returns-clause-stays
@@ -66,7 +66,7 @@ returns-clause-stages c =
 
 pub returns-clause-side : goal.returns-clause-side
 returns-clause-side c =
-    let found = found_at (passes_on c.args.side c.args.self.now) c.args.number c.requires.there in
+    let found = value_of_some (passes_on c.args.side c.args.self.now c.args.number) c.requires.there in
     subst (IsOf c.args.side) (sym (c.in_ok-end.ensures.end ∙ c.end.ensures)) (c.in_ok-outcome.ensures.steps found.0 found.1).of
 
 pub returns-clause-plan : goal.returns-clause-plan

@@ -11,9 +11,8 @@ use Rattle.switch_machine.specs.Sides.{is_going, side_of, up_of, IsOf}
 use Rattle.switch_machine.specs.Staging.{CanTake, Takes}
 use Rattle.switch_machine.specs.UnderWay.{passes_on}
 use Rattle.switch_machine.proofs.Ending.{is_of}
-use Rattle.switch_machine.proofs.Lists.{ok_weaker}
+use Rattle.std.proofs.lemmas.Result.{IfOk-weaker, on_err_weaker}
 use Rattle.switch_machine.proofs.LoadedCode.{closed}
-use Rattle.switch_machine.proofs.Machines.{err_weaker}
 use Rattle.switch_machine.proofs.Telling.{takes_failed, undone}
 use Rattle.switch_machine.proofs.loaded.Loaded.take.Goals as goal
 
@@ -27,7 +26,7 @@ returns-then-fails-clause-takes c =
     let l = c.args.self.now in
     let e = c.args.event.now in
     let passes = passes_on (side_of e) l in
-    ok_weaker (λ end. end ≡ Failed) (λ end. Takes e (code_of l.code) c.args.tables.now end passes passes) c.note.result
+    IfOk-weaker c.note.result (λ end. end ≡ Failed) (λ end. Takes e (code_of l.code) c.args.tables.now end passes passes)
     (λ end is. subst (λ (x : UpEnd). Takes e (code_of l.code) c.args.tables.now x passes passes) (sym is) (takes_failed e (code_of l.code) c.args.tables.now passes))
     c.note.ensures.end
 
@@ -63,7 +62,7 @@ returns-in_ok-outcome-in-Up-clause-kept c =
     let Was : Event → Type 0 =
     λ e. OnErr c.close.result (passes_on (side_of e) last ≡ (if is_going outcome then with_pass number None (passes_on (side_of e) between) else passes_on (side_of e) between)) in
     subst (λ (e : Event). OnErr c.close.result (passes_on (side_of e) last ≡ passes_on (side_of e) l)) (sym c.in-Up.is)
-    (err_weaker _ _ c.close.result
+    (on_err_weaker c.close.result
     (undone Before (code_of l.code) c.args.tables.now c.in-Up.whole number (record { port = c.in-Up.port; bytes = c.in-Up.packet.now }) nothing outcome
     (passes_on Before l) (passes_on Before between) (passes_on Before last) c.in_ok-outcome-in-Up.ensures.enters can.1)
     (subst Was c.in-Up.is c.close.ensures.undone))
@@ -100,7 +99,7 @@ returns-in_ok-made-in-Down-clause-kept c =
     let Was : Event × ℕ → Type 0 =
     λ (e, n). OnErr c.close-in-Down.result (passes_on (side_of e) last ≡ (if is_going outcome then with_pass n None (passes_on (side_of e) between) else passes_on (side_of e) between)) in
     subst (λ (e : Event). OnErr c.close-in-Down.result (passes_on (side_of e) last ≡ passes_on (side_of e) l)) (sym c.in-Down.is)
-    (err_weaker _ _ c.close-in-Down.result
+    (on_err_weaker c.close-in-Down.result
     (undone Behind (code_of l.code) c.args.tables.now c.in-Down.whole f.number _ _ outcome (passes_on Behind l) (passes_on Behind between) (passes_on Behind last)
     (c.in_ok-made-in-Down.ensures.enters f.number f.port f.values f.packet f.is) (λ whole. can.1 whole f.number f.port f.values f.packet f.is))
     (subst Was (λ i. (c.in-Down.is i, c.in_ok-made-in-Down.ensures.number f.number f.port f.values f.packet f.is i)) c.close-in-Down.ensures.undone))

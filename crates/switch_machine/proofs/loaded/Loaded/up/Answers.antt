@@ -8,7 +8,7 @@ use Rattle.switch_machine.specs.declared.sides.Side.TheVariants.{Before}
 use Rattle.switch_machine.specs.Sides.{up_of}
 use Rattle.switch_machine.specs.UnderWay.{passes_of, Enters}
 use Rattle.switch_machine.proofs.Crossings.{both_stay, nothing_given, passes_stay}
-use Rattle.switch_machine.proofs.Lists.{err_on}
+use Rattle.std.proofs.lemmas.Result.{on_err_weaker}
 use Rattle.switch_machine.proofs.LoadedCode.{made_stays, pass_is, pass_stays}
 use Rattle.switch_machine.proofs.loaded.Loaded.up.Goals as goal
 
@@ -35,18 +35,10 @@ returns-clause-enters c =
 pub returns-clause-err : goal.returns-clause-err
 returns-clause-err c =
     let l = c.args.self.now in
-    err_on (passes_of (code_of l.code) c.begin.new.self) (passes_of (code_of l.code) c.clear.new.self) (passes_of (code_of l.code) l.before) c.begin.result
-    (passes_stay (code_of l.code) l.before c.clear.new.self c.clear.ensures.made c.clear.ensures.flights) c.begin.ensures.err
+    on_err_weaker c.begin.result (λ same. same ∙ passes_stay (code_of l.code) l.before c.clear.new.self c.clear.ensures.made c.clear.ensures.flights) c.begin.ensures.err
 
-pub invariant_of-self : goal.invariant_of-self
-invariant_of-self c =
+pub invariant_of-self-clause-pre : goal.invariant_of-self-clause-pre
+invariant_of-self-clause-pre c =
     let l = c.args.self.now in
-    let made = both_stay l.before c.clear.new.self c.begin.new.self c.clear.ensures.made c.begin.ensures.made in
-    record {
-      can = l.can;
-      few = l.few;
-      ordered = l.ordered;
-      pre = made_stays Before (code_of l.code) l.code.pre.plan l.before c.begin.new.self made l.pre;
-      post = l.post;
-      given_stage = l.given_stage;
-    }
+    made_stays Before (code_of l.code) l.code.pre.plan l.before c.begin.new.self (both_stay l.before c.clear.new.self c.begin.new.self c.clear.ensures.made c.begin.ensures.made)
+    l.pre

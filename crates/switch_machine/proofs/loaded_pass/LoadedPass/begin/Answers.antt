@@ -15,7 +15,7 @@ use Rattle.switch_machine.specs.Sides.{staging, up_of, EndsOn}
 use Rattle.switch_machine.specs.UnderWay.{passes_of, Enters, HasEnd}
 use Rattle.switch_machine.proofs.Crossings.{both_stay, passes_stay}
 use Rattle.switch_machine.proofs.Ending.{at_end, going_ends, is_of, none_left, some_left}
-use Rattle.switch_machine.proofs.Lists.{ok_weaker}
+use Rattle.std.proofs.lemmas.Result.{IfOk-weaker}
 use Rattle.switch_machine.proofs.loaded_pass.LoadedPass.begin.Goals as goal
 use Rattle.switch_machine.proofs.loaded_pass.LoadedPass.begin.Goals.{then-whole-via-then-whole, then-whole-via-else-whole+then-len-eq1}
 
@@ -35,7 +35,7 @@ returns-then-whole-clause-enters c given begin =
       | then-whole-via-then-whole w ↦ none_left c.args.whole _ (λ e. absurd (true≢false (sym w.if-whole.true ∙ e)))
       | then-whole-via-else-whole+then-len-eq1 w ↦ none_left c.args.whole _ (λ e. omega (arith, w.if-len-eq1.true, w.len.ensures, c.requires.pass.ready.count))
     ] in
-    ok_weaker _ (λ outcome. Enters l.side code c.args.tables.now c.args.whole c.args.number packet given (up_of outcome) (passes_of code l) (passes_of code marked)) c.end.result
+    IfOk-weaker c.end.result _ (λ outcome. Enters l.side code c.args.tables.now c.args.whole c.args.number packet given (up_of outcome) (passes_of code l) (passes_of code marked))
     (λ outcome h. at_end l.side code c.args.tables.now c.args.whole c.args.number packet given outcome (passes_of code l) (passes_of code marked) h
     (passes_stay code l marked made (marks.flights ∙ c.run.ensures.flights)) none)
     (subst HasIts made.side (c.end.ensures.ends reads held))

@@ -6,12 +6,8 @@ use Rattle.switch_machine.proofs.loaded_pass.LoadedPass.clear.Goals as goal
 pub returns-clause-made : goal.returns-clause-made
 returns-clause-made c = record { side = refl; stages = refl; ranges = refl; plan = c.clear.ensures.plan; marks = refl }
 
-pub invariant_of-self : goal.invariant_of-self
-invariant_of-self c =
+pub invariant_of-self-clause-flown : goal.invariant_of-self-clause-flown
+invariant_of-self-clause-flown c =
     let l = c.args.self.now in
-    record {
-      can = l.can;
-      room = l.room;
-      flown = subst (λ n. AreFlights (length l.stages) n (flights_in l.flights))
-          (sym (ap length c.clear.ensures.numbers ∙ length-replicate (length l.registers.numbers) 0)) l.flown;
-    }
+    subst (λ n. AreFlights (length l.stages) n (flights_in l.flights))
+    (sym (ap length c.clear.ensures.numbers ∙ length-replicate (length l.registers.numbers) 0)) l.flown

@@ -13,9 +13,10 @@ use Rattle.switch_machine.specs.Ready.{all_placed, reads_at, ready_at, ready_giv
 use Rattle.switch_machine.specs.Sides.{staging}
 use Rattle.switch_machine.specs.UnderWay.{held, numbers_at_last}
 use Rattle.switch_machine.proofs.Flying.{placed_as, same_flight}
-use Rattle.switch_machine.proofs.LoadedCode.{ready_for}
 use Rattle.switch_machine.proofs.PlacedSteps.{can_of_stage, count_after, plan_after}
 use Rattle.switch_machine.proofs.StageRegisters.{held_by}
+use Rattle.switch_machine.proofs.Laws.{a_pass_ends}
+use Rattle.switch_machine.proofs.Placing.{step_by_place}
 use Rattle.switch_machine.proofs.loaded_pass.LoadedPass.compute_last.Goals as goal
 
 pub copy_numbers-requires : goal.copy_numbers-requires
@@ -76,13 +77,12 @@ returns-clause-values c code found is safe there =
     ∙ ap (λ (q : Packet). all_placed rs (ready_gives own (reads_at rs.numbers) view q)) c.arrival.ensures.packet
     ∙ ap (λ (ss : List ReadyStep). all_placed rs (ready_gives (map ready_of ss) (reads_at rs.numbers) view packet)) c.stage.ensures
     ∙ ap (λ n. all_placed rs (ready_gives (ready_at l.stages n) (reads_at rs.numbers) view packet)) (add-one f.stage)
-    ∙ c.a_pass_by_place.ensures.one l.numbering is.plan p.code.steps p.code.highest l.stages view packet rs (suc f.stage) is.ready is.planned_by
-    (omega (arith, flown.numbers, c.are_few.ensures.few)) (omega (arith, is.ready.count, flown.below)) in
+    ∙ step_by_place l.numbering is.plan p.code.steps p.code.highest l.stages is.ready view packet rs is.planned_by
+    (omega (arith, flown.numbers, c.are_few.ensures.few)) (suc f.stage) (omega (arith, is.ready.count, flown.below)) in
     same_flight (flights_in l.flights) c.args.number f found c.flight_of-flight.ensures there
     (λ x. AreHeld l.numbering c.run_stage.new.registers (numbers_at_last code told l x) (kept p))
     (held_by l.numbering (stage_done l.numbering p.code.steps (suc f.stage) view packet rs) c.run_stage.new.registers (numbers_at_last code told l f) (kept p) done
-    (c.a_pass_goes_by_stages.ensures.last code l.side l.numbering rs told f.bit packet f.stage (ready_for code l rs is refl) safe
-    (placed_as l.registers rs refl flown.numbers c.are_few.ensures.placed)
+    (a_pass_ends code l is rs refl (placed_as l.registers rs refl flown.numbers c.are_few.ensures.placed) told safe packet f.bit f.stage
     (omega (arith, is.ready.count, c.requires.last f c.flight_of-flight.ensures))))
 
 pub invariant_of-self : goal.invariant_of-self

@@ -4,19 +4,22 @@ use Rattle.transfer_header.specs.Frames.{IsFrameOf}
 use Rattle.transfer_header.specs.Registers.{content_of, value_in}
 use Rattle.transfer_header.specs.Values.{low_bits}
 use Rattle.switch_ir.specs.Code.{code_of}
-use Rattle.switch_ir.specs.declared.port.UpEnd.TheVariants.{Finished}
+use Rattle.switch_ir.specs.declared.port.UpEnd.TheVariants.{Finished, Up}
+use Rattle.switch_machine.specs.declared.sides.Side.{Side}
 use Rattle.switch_machine.specs.Numbers.{reads_by}
-use Rattle.switch_machine.proofs.Ending.{ends_on, ends_up_on, fits_on, is_of, sent_on, up_is_of, writable_on}
-use Rattle.switch_machine.proofs.LoadedCode.{ready_for}
+use Rattle.switch_machine.specs.Sides.{IsOf}
+use Rattle.switch_machine.proofs.Ending.{before_of, ends_on, ends_up_on, is_of, sent_on, writable_on}
+use Rattle.switch_machine.proofs.Laws.{what_goes_up_fits}
+use Rattle.switch_machine.proofs.OfSides.{ranged_of}
+use Rattle.transfer_header.proofs.Laws.{frames_of_low_bits-frame}
 use Rattle.switch_machine.proofs.loaded_pass.LoadedPass.end.Goals as goal
 
 pub pack_up-requires-clause-fits : goal.pack_up-requires-clause-fits
 pack_up-requires-clause-fits c =
     let l = c.args.self.now in
     let code = code_of c.args.code.now in
-    let fits = fits_on l.side code l.numbering l.registers (reads_by l.numbering (content_of l.registers)) (ready_for code l l.registers c.requires.pass refl)
-    (sym c.requires.leaves ∙ c.if-leaves.true) (λ ready. c.what_crosses_fits.ensures.up code l.numbering l.registers ready) in
-    fits.among
+    let before = before_of l.side code (reads_by l.numbering (content_of l.registers)) (sym c.requires.leaves ∙ c.if-leaves.true) in
+    (what_goes_up_fits code l c.requires.pass l.registers refl before).among
 
 pub returns-then-leaves : goal.returns-then-leaves
 returns-then-leaves c = record {
@@ -27,13 +30,12 @@ returns-then-leaves c = record {
       let arrival = c.args.arrival.now in
       let bytes = arrival.bytes.now in
       let left = sym c.requires.leaves ∙ c.if-leaves.true in
-      let is = c.frames_of_low_bits.ensures.frame 1 code.up c.args.number arrival.port values bytes c.ranges.number.fits c.fits.ensures c.requires.size in
+      let is = frames_of_low_bits-frame 1 code.up c.args.number arrival.port values bytes c.ranges.number.fits c.fits.ensures c.requires.size in
       record {
         goes = refl;
-        of = up_is_of l.side code (reads_by l.numbering (content_of l.registers)) c.in_ok-frame.frame left;
+        of = subst (λ (s : Side). IsOf s (Up c.in_ok-frame.frame)) (sym (before_of l.side code (reads_by l.numbering (content_of l.registers)) left)) tt;
         frame = (low_bits values, subst (IsFrameOf 1 code.up c.args.number arrival.port (low_bits values) bytes) (sym c.in_ok-frame.ensures.bytes) is);
-        told = ends_up_on (λ r r' f k each. c.readings_that_agree.ensures.live f r r' k each) code l.numbering l.registers l.side
-            (ready_for code l l.registers c.requires.pass refl) left c.args.number (packet_of arrival) c.in_ok-frame.frame c.in_ok-frame.ensures.reading reads same;
+        told = ends_up_on code l.numbering l.registers l.side c.requires.pass.can c.requires.pass.ordered (ranged_of code l c.requires.pass) left c.args.number (packet_of arrival) c.in_ok-frame.frame c.in_ok-frame.ensures.reading reads same;
       };
 }
 
@@ -50,7 +52,7 @@ returns c = record {
         goes = refl;
         of = is_of l.side (Finished c.leave.result) tt;
         frame = tt;
-        told = ends_on (λ r r' f k each. c.readings_that_agree.ensures.live f r r' k each) code l.numbering l.registers l.side
+        told = ends_on code l.numbering l.registers l.side
             (sym c.requires.leaves ∙ c.if-leaves.false) c.args.number packet c.leave.result
             (c.leave.ensures ∙ sent_on l.side c.args.code.now c.out_of-out.result.now c.out_of-out.ensures (reads_by l.numbering (content_of l.registers)) packet) reads same;
       };

@@ -7,15 +7,16 @@ use Rattle.transfer_header.specs.Registers.{Registers}
 use Rattle.switch_ir.specs.Staged.{IsEntered}
 use Rattle.switch_ir.specs.Tables.{seen_tables, view_of}
 use Rattle.switch_machine.specs.declared.ready.ReadyStep.{ReadyStep}
-use Rattle.switch_machine.specs.Flights.{flights_in, numbers_in, with_pass, AreFlights, IsBegun}
+use Rattle.switch_machine.specs.Flights.{flights_in, numbers_in, AreFlights, IsBegun}
 use Rattle.switch_machine.specs.Planned.{stage_done}
 use Rattle.switch_machine.specs.Ready.{all_placed, reads_at, ready_gives, ready_of, targets_of, HoldResults}
 use Rattle.switch_machine.specs.Sides.{staging}
 use Rattle.switch_machine.specs.UnderWay.{held, passes_by, shown}
 use Rattle.switch_machine.proofs.Flying.{entered_as, passes_changed, tried_flights}
-use Rattle.switch_machine.proofs.LoadedCode.{ready_for}
-use Rattle.switch_machine.proofs.Lists.{on_weaker}
+use Rattle.std.proofs.lemmas.Result.{on_ok_weaker}
 use Rattle.switch_machine.proofs.PlacedSteps.{can_of_stage, count_after, plan_after}
+use Rattle.switch_machine.proofs.Laws.{a_pass_enters}
+use Rattle.switch_machine.proofs.Placing.{step_by_place}
 use Rattle.switch_machine.proofs.loaded_pass.LoadedPass.enter.Goals as goal
 
 pub run_stage-requires-clause-can : goal.run_stage-requires-clause-can
@@ -54,15 +55,15 @@ returns-clause-enters c code is safe =
     c.run_stage.ensures.written
     ∙ ap (λ (now : Store). all_placed l.registers (ready_gives (map ready_of c.stage.result.now) (reads_at l.registers.numbers) now packet)) c.as_seen.ensures
     ∙ ap (λ (own : List ReadyStep). all_placed l.registers (ready_gives (map ready_of own) (reads_at l.registers.numbers) seen packet)) c.stage.ensures
-    ∙ c.a_pass_by_place.ensures.one l.numbering is.plan p.code.steps p.code.highest l.stages seen packet l.registers 0 is.ready is.planned_by c.are_few.ensures.few (omega arith) in
+    ∙ step_by_place l.numbering is.plan p.code.steps p.code.highest l.stages is.ready seen packet l.registers is.planned_by c.are_few.ensures.few 0 (omega arith) in
     let own : held l.registers.plan f ≡ stage_done l.numbering p.code.steps 0 seen packet l.registers =
     (λ i. record { plan = sym plan_is i; numbers = begun.numbers_are i }) ∙ same in
-    on_weaker (flights_in c.put_in.new.flights ≡ with_pass c.args.number (Some f) (flights_in l.flights)) _ c.put_in.result
+    on_ok_weaker c.put_in.result
     (λ put. (
       shown p l.numbering l.registers.plan f,
       λ given begin. entered_as p l.numbering l.registers.plan given packet told after.numbers f begun
           (subst (λ (rs : Registers). IsEntered p given seen packet (numbers_in p l.numbering 0 rs)) (sym own)
-          (c.a_pass_goes_by_stages.ensures.entry code l.side l.numbering l.registers told packet given (ready_for code l l.registers is refl) safe c.are_few.ensures.placed begin)),
+          (a_pass_enters code l is l.registers refl c.are_few.ensures.placed told safe packet given begin)),
       ap (λ (plan : Option RegisterPlan). passes_by p l.numbering plan (flights_in c.put_in.new.flights)) plan_is
           ∙ passes_changed p l.numbering l.registers.plan (flights_in l.flights) (flights_in c.put_in.new.flights) c.args.number (Some f) put,
     ))

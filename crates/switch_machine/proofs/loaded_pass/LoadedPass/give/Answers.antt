@@ -14,18 +14,16 @@ use Rattle.switch_machine.specs.Planned.{BeginsWith}
 use Rattle.switch_machine.specs.Ready.{all_placed, ready_gives, ready_of}
 use Rattle.switch_machine.specs.Sides.{staging}
 use Rattle.switch_machine.specs.Staged.{of_stage}
-use Rattle.switch_machine.specs.Workplaces.{IsReadyFor}
-use Rattle.switch_machine.proofs.LoadedCode.{ready_for}
 use Rattle.switch_machine.proofs.PlacedSteps.{can_of_stage, count_after, plan_after}
 use Rattle.switch_machine.proofs.StageRegisters.{given_is}
+use Rattle.switch_machine.proofs.Laws.{what_is_given}
+use Rattle.switch_machine.proofs.Placing.{stage_by_place}
 use Rattle.switch_machine.proofs.loaded_pass.LoadedPass.give.Goals as goal
 
 pub run_steps-requires-clause-can : goal.run_steps-requires-clause-can
 run_steps-requires-clause-can c =
-    let l = c.args.self.now in
-    let code = code_of c.args.code.now in
     can_of_stage c.args.given.now 0 c.steps.result.now (c.steps.ensures ∙ c.stage.ensures)
-    (c.a_pass_by_place.ensures.can l.numbering c.args.code.now.post.plan code.post.given 0 c.args.given.now 0 c.requires.given c.requires.pass.can.given (omega (arith, c.requires.given.count)))
+    (c.requires.given.can c.requires.pass.can.given 0 (omega arith))
 
 pub returns-clause-made : goal.returns-clause-made
 returns-clause-made c = record {
@@ -48,21 +46,16 @@ returns-clause-given c =
     let same : c.run_steps.new.registers ≡ pairs_written registers gives =
     c.run_steps.ensures.written
     ∙ ap (all_placed registers) (given_is c.args.given.now packet c.none-none.result c.none-none.ensures c.steps.result.now (c.steps.ensures ∙ c.stage.ensures))
-    ∙ c.a_pass_by_place.ensures.stage l.numbering c.args.code.now.post.plan given 0 c.args.given.now nothing [] packet registers 0 c.requires.given c.requires.planned
-    c.are_few.ensures.few (omega arith) in
+    ∙ stage_by_place l.numbering c.args.code.now.post.plan given 0 c.args.given.now c.requires.given [] packet registers c.requires.planned
+    c.are_few.ensures.few 0 (omega arith) nothing in
     let Begins : Side × Registers → Type 0 =
     λ (s, rs). BeginsWith l.numbering (begins l.numbering (staging s code)) (down_given code (value_in registers) packet) rs in
     subst Begins (λ i. (sym c.requires.side i, sym same i))
-    (c.what_crosses_fits.ensures.given code l.numbering registers packet
-    (subst (λ (s : Side). IsReadyFor code s l.numbering registers) c.requires.side (ready_for code l registers c.requires.pass refl)) c.are_few.ensures.placed)
+    (what_is_given code l c.requires.pass registers refl c.are_few.ensures.placed c.requires.side packet)
 
-pub invariant_of-self : goal.invariant_of-self
-invariant_of-self c =
+pub invariant_of-self-clause-flown : goal.invariant_of-self-clause-flown
+invariant_of-self-clause-flown c =
     let l = c.args.self.now in
-    record {
-      can = l.can;
-      room = l.room;
-      flown = subst (λ n. AreFlights (length l.stages) n (flights_in l.flights))
-          (sym (count_after l.registers c.run_steps.new.registers
-          (ready_gives (map ready_of c.steps.result.now) nothing (seen_tables c.none-none.result) (packet_of c.args.arrival.now)) c.run_steps.ensures.written)) l.flown;
-    }
+    subst (λ n. AreFlights (length l.stages) n (flights_in l.flights))
+    (sym (count_after l.registers c.run_steps.new.registers
+    (ready_gives (map ready_of c.steps.result.now) nothing (seen_tables c.none-none.result) (packet_of c.args.arrival.now)) c.run_steps.ensures.written)) l.flown

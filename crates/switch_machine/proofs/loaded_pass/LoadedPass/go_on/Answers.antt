@@ -12,8 +12,9 @@ use Rattle.switch_machine.specs.Ready.{reads_at, ready_at, ready_gives, HoldResu
 use Rattle.switch_machine.specs.Sides.{staging}
 use Rattle.switch_machine.specs.UnderWay.{held, shown}
 use Rattle.switch_machine.proofs.Flying.{gone_as, held_placed, passes_changed, placed_as, put_flights, shown_as, with_update}
-use Rattle.switch_machine.proofs.LoadedCode.{ready_for}
 use Rattle.switch_machine.proofs.PlacedSteps.{count_placed}
+use Rattle.switch_machine.proofs.Laws.{a_pass_goes_on}
+use Rattle.switch_machine.proofs.Placing.{step_by_place}
 use Rattle.switch_machine.proofs.loaded_pass.LoadedPass.go_on.Goals as goal
 
 pub step-requires : goal.step-requires
@@ -41,11 +42,10 @@ returns-clause-goes_on c code is safe =
     let steps = c.step.ensures.steps in
     let own : held plan g ≡ stage_done l.numbering p.code.steps (suc f.stage) view packet rs =
     held_placed plan f g (ready_gives (ready_at l.stages (suc f.stage)) (reads_at rs.numbers) view packet) (ap (λ (x : Flight). x.registers.numbers) steps)
-    ∙ c.a_pass_by_place.ensures.one l.numbering is.plan p.code.steps p.code.highest l.stages view packet rs (suc f.stage) is.ready is.planned_by
-    (omega (arith, flown.numbers, c.are_few.ensures.few)) (omega (arith, is.ready.count, flown.below)) in
+    ∙ step_by_place l.numbering is.plan p.code.steps p.code.highest l.stages is.ready view packet rs is.planned_by
+    (omega (arith, flown.numbers, c.are_few.ensures.few)) (suc f.stage) (omega (arith, is.ready.count, flown.below)) in
     let staged = subst (λ (x : Registers). IsStaged p (suc f.stage) (numbers_in p l.numbering f.stage rs) view packet (numbers_in p l.numbering (suc f.stage) x)) (sym own)
-    (c.a_pass_goes_by_stages.ensures.stage code l.side l.numbering rs told f.bit packet f.stage (ready_for code l rs is refl) safe
-    (placed_as l.registers rs refl flown.numbers c.are_few.ensures.placed)) in (
+    (a_pass_goes_on code l is rs refl (placed_as l.registers rs refl flown.numbers c.are_few.ensures.placed) told safe packet f.bit f.stage) in (
       shown p l.numbering plan g,
       λ before told_is. subst (λ (b : PassState). HasGoneOn p (Some told) b (shown p l.numbering plan g))
           (shown_as p l.numbering plan (flights_in l.flights) c.args.number f before there told_is)

@@ -15,8 +15,9 @@ use Rattle.switch_machine.specs.Sides.{staging, up_of, EndsOn}
 use Rattle.switch_machine.specs.UnderWay.{numbers_at_last, HasEnd, Steps}
 use Rattle.switch_machine.proofs.Crossings.{both_stay}
 use Rattle.switch_machine.proofs.Ending.{going_ends, is_of}
-use Rattle.switch_machine.proofs.Flying.{ended_as, found_at, shown_as}
-use Rattle.switch_machine.proofs.Lists.{ok_weaker}
+use Rattle.switch_machine.proofs.Flying.{ended_as, shown_as}
+use Rattle.lemmas.proofs.Tests.{value_of_some}
+use Rattle.std.proofs.lemmas.Result.{IfOk-weaker}
 use Rattle.switch_machine.proofs.LoadedCode.{pass_stays}
 use Rattle.switch_machine.proofs.loaded_pass.LoadedPass.next.Goals as goal
 
@@ -26,7 +27,7 @@ pub returns-then-has_stages_left-clause-steps : goal.returns-then-has_stages_lef
 returns-then-has_stages_left-clause-steps c before told =
     let l = c.args.self.now in
     let code = code_of c.args.code.now in
-    let f = found_at (flights_in l.flights) c.args.number c.requires.there in
+    let f = value_of_some (flights_in l.flights c.args.number) c.requires.there in
     let is = shown_as (staging l.side code) l.numbering l.registers.plan (flights_in l.flights) c.args.number f.0 before f.1 told in
     record {
       goes = lt-ltb (suc before.stage) (staging l.side code).code.highest
@@ -62,7 +63,7 @@ returns-clause-steps c before told =
     let held = subst Holds (λ i. (sym marks.made.ranges i, sym marks.registers i, sym made.side i)) (c.compute_last.ensures.values code f c.requires.pass c.requires.safe there) in
     let HasIts : Side × Packet → Type 0 =
     λ (s, q). IfOk c.end.result (λ outcome. HasEnd s code c.args.number q false (EndsOn s code reads c.args.number q) (up_of outcome)) in
-    ok_weaker _ (λ outcome. Steps l.side code tables c.args.number before (up_of outcome)) c.end.result
+    IfOk-weaker c.end.result _ (λ outcome. Steps l.side code tables c.args.number before (up_of outcome))
     (λ outcome h. record {
       goes = subst (λ left. GoesUp left (up_of outcome)) (sym none) h.goes;
       of = h.of;

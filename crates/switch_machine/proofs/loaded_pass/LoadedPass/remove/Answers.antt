@@ -13,12 +13,8 @@ returns-clause-passes c code =
     passes_changed (staging l.side code) l.numbering l.registers.plan (flights_in l.flights) (flights_in c.remove.new.self) c.args.number None
     (with_update l.flights c.remove.new.self c.args.number None c.remove.ensures.updates.0)
 
-pub invariant_of-self : goal.invariant_of-self
-invariant_of-self c =
+pub invariant_of-self-clause-flown : goal.invariant_of-self-clause-flown
+invariant_of-self-clause-flown c =
     let l = c.args.self.now in
-    record {
-      can = l.can;
-      room = l.room;
-      flown = removed_flights (length l.stages) (length l.registers.numbers) (flights_in l.flights) (flights_in c.remove.new.self) c.args.number
-          (with_update l.flights c.remove.new.self c.args.number None c.remove.ensures.updates.0) l.flown;
-    }
+    removed_flights (length l.stages) (length l.registers.numbers) (flights_in l.flights) (flights_in c.remove.new.self) c.args.number
+    (with_update l.flights c.remove.new.self c.args.number None c.remove.ensures.updates.0) l.flown

@@ -9,9 +9,10 @@ use Rattle.switch_machine.specs.Keeping.{kept}
 use Rattle.switch_machine.specs.Planned.{registers_at}
 use Rattle.switch_machine.specs.Ready.{placed_at, HoldResults}
 use Rattle.switch_machine.specs.Sides.{staging}
-use Rattle.switch_machine.proofs.LoadedCode.{ready_for}
 use Rattle.switch_machine.proofs.PlacedSteps.{count_placed_at, plan_placed_at}
 use Rattle.switch_machine.proofs.StageRegisters.{held_by}
+use Rattle.switch_machine.proofs.Laws.{a_pass_is_computed}
+use Rattle.switch_machine.proofs.Placing.{pass_by_place}
 use Rattle.switch_machine.proofs.loaded_pass.LoadedPass.run.Goals as goal
 
 pub returns-clause-made : goal.returns-clause-made
@@ -37,9 +38,8 @@ returns-clause-values c code given is safe begin =
     (pass_values p.code given (seen_tables told) packet) (kept p)
     (c.run_pass.ensures.written
     ∙ ap (λ (seen : Store). placed_at l.stages seen packet registers (length l.stages)) c.as_seen.ensures
-    ∙ c.a_pass_by_place.ensures.pass l.numbering is.plan p.code l.stages (seen_tables told) packet registers is.ready is.planned_by c.are_few.ensures.few)
-    (c.a_pass_goes_by_stages.ensures.computed code l.side l.numbering registers told packet given (ready_for code l registers is refl)
-    safe c.are_few.ensures.placed begin)
+    ∙ pass_by_place l.numbering is.plan p.code l.stages is.ready (seen_tables told) packet registers is.planned_by c.are_few.ensures.few)
+    (a_pass_is_computed code l is registers refl c.are_few.ensures.placed told safe packet given begin)
 
 pub invariant_of-self : goal.invariant_of-self
 invariant_of-self c =

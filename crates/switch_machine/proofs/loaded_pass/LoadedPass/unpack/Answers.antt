@@ -3,31 +3,21 @@ use Rattle.transfer_header.specs.Frames.{IsUnpacked}
 use Rattle.transfer_header.specs.Registers.{Registers}
 use Rattle.transfer_header.specs.declared.frame.Head.{Head}
 use Rattle.switch_ir.specs.Code.{code_of}
-use Rattle.switch_machine.specs.declared.sides.Side.{Side}
 use Rattle.switch_machine.specs.Flights.{flights_in, AreFlights}
-use Rattle.switch_machine.specs.Workplaces.{IsReadyFor}
 use Rattle.switch_machine.proofs.Lists.{either_way}
-use Rattle.switch_machine.proofs.LoadedCode.{ready_for}
+use Rattle.switch_machine.proofs.Laws.{what_comes_down_fits}
 use Rattle.switch_machine.proofs.loaded_pass.LoadedPass.unpack.Goals as goal
 
 pub unpack_down-requires : goal.unpack_down-requires
 unpack_down-requires c =
-    let l = c.args.self.now in
-    let code = code_of c.args.code.now in
-    let registers = c.clear.new.self.registers in
-    c.what_crosses_fits.ensures.down code l.numbering registers
-    (subst (λ (s : Side). IsReadyFor code s l.numbering registers) c.requires.side (ready_for code l registers c.requires.pass c.clear.ensures.made.plan))
+    what_comes_down_fits (code_of c.args.code.now) c.args.self.now c.requires.pass c.clear.new.self.registers c.clear.ensures.made.plan c.requires.side
 
-pub invariant_of-self : goal.invariant_of-self
-invariant_of-self c =
+pub invariant_of-self-clause-flown : goal.invariant_of-self-clause-flown
+invariant_of-self-clause-flown c =
     let cleared = c.clear.new.self in
     let before = cleared.registers in
     let after = c.unpack_down.new.into in
     let count : length after.numbers ≡ length before.numbers =
     either_way (λ (head : Head). IsUnpacked 2 c.args.code.now.down c.args.frame.now before after head) (after ≡ before) (length after.numbers ≡ length before.numbers)
     c.unpack_down.result c.unpack_down.ensures.ok c.unpack_down.ensures.kept (λ head is. is.kept.count) (λ same. ap (λ (rs : Registers). length rs.numbers) same) in
-    record {
-      can = cleared.can;
-      room = cleared.room;
-      flown = subst (λ n. AreFlights (length cleared.stages) n (flights_in cleared.flights)) (sym count) cleared.flown;
-    }
+    subst (λ n. AreFlights (length cleared.stages) n (flights_in cleared.flights)) (sym count) cleared.flown

@@ -8,9 +8,6 @@ use Rattle.switch_machine.proofs.machine.ModelSwitch.try_rows.Goals as goal
 pub returns-clause-rows : goal.returns-clause-rows
 returns-clause-rows c code d is replicated =
     let tables = c.args.self.now.tables in
-    let pair = pair_at tables.pairs c.args.object in
-    let law = c.what_a_lookup_sees.ensures in
     let sound = (can_of c.args.self.now.loaded code is).tables c.args.object d replicated.declared in
     subst (AreRowsOf d) (sym c.in_ok-rows.ensures)
-    (rows_of d pair ((c.args.self.now.safe code is).rows c.args.object d replicated.declared) (law.main pair) (law.staged pair) (law.others pair)
-    tables.bit sound.size)
+    (rows_of d (pair_at tables.pairs c.args.object) ((c.args.self.now.safe code is).rows c.args.object d replicated.declared) tables.bit sound.size)

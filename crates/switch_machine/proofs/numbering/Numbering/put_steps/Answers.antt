@@ -4,7 +4,7 @@ use Rattle.switch_ir.specs.Code.{pass_step_of}
 use Rattle.switch_machine.specs.declared.numbering.ValueRange.{ValueRange}
 use Rattle.switch_machine.specs.Numbers.{range_at}
 use Rattle.switch_machine.specs.Ranges.{entered, from_first, step_entry, with_entry, Entry}
-use Rattle.switch_machine.proofs.Lists.{ahead}
+use Rattle.lemmas.proofs.Lists.{folded_item}
 use Rattle.switch_machine.proofs.numbering.Numbering.put_steps.Goals as goal
 
 pub loop-step-preserved : goal.loop-step-preserved
@@ -19,5 +19,5 @@ loop-step-preserved c =
     λ p i. (c.in_ok-put.ensures i
     ∙ ap (λ (n : ℕ). cond (i == s.instruction) (from_first s.first (max (before i).count n)) (before i)) c.value_count-count.ensures) p in
     λ i. ap (λ (after : ℕ → ValueRange). entered (by_steps (drop (k + 1) steps)) after i) put
-    ∙ ap (λ (ss : List PassStep). entered (by_steps ss) before i) (sym (ahead steps k s c.loop-step-test.true c.step-item.is))
+    ∙ sym (folded_item (λ ss. entered (by_steps ss) before i) steps k s c.loop-step-test.true c.step-item.is)
     ∙ c.loop-step.invariant i

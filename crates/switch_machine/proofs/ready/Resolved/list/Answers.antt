@@ -1,4 +1,4 @@
-use Rattle.std.proofs.Common.{◌∙◌, ◌∷◌, ◌+◌, ◌++◌, [], List, ℕ, ap, map, refl, sym}
+use Rattle.std.proofs.Common.{◌∙◌, ◌∷◌, ◌+◌, ◌++◌, [], List, ℕ, ap, refl, sym}
 use Rattle.std.proofs.lemmas.List.FromFn.{map-range_with_len_more}
 use Rattle.switch_machine.specs.Ready.{place_in}
 use Rattle.switch_machine.proofs.ready.Resolved.list.Goals as goal

@@ -1,5 +1,0 @@
-pub mod Spellings
-pub mod WordSpans
-pub mod WordTokens
-pub mod OneTokenList
-pub mod FoundTokens
