@@ -16,30 +16,9 @@ use Rattle.flatten.specs.declared.place.Ending.{Ending}
 use Rattle.flatten.specs.declared.place.Ending.TheVariants.{No, Yes}
 use Rattle.flatten.specs.Flatten.{Given, Valued, Scoped, Merged, EndedAt, result_of, nought, one, nought_port, emit, give, opened, same_id, merge_id, merge_option, merge_ids, merge_ended, ended_id, select_ended, constants}
 use Rattle.flatten.proofs.Growth.{Grows, then_grows, emit_length, blank_step, blank_block, merge_option_grows, merge_ids_grow}
-use Rattle.flatten.proofs.Views.{HasId, IsThere, there_cons, alike_cons}
+use Rattle.flatten.proofs.Views.{HasOption, AllHave, option_map, all_map, HasId, IsThere, there_cons, alike_cons}
 use Rattle.flatten.proofs.Written.{same_ids, same_itself}
 use Rattle.lemmas.proofs.Lists.{each_weaker}
-
--- ## Values of variables
-
-abbrev pub HasOption : (ℕ → ValueId → Type 0) → ℕ → Option ValueId → Type 0
-HasOption P w None = Unit {0}
-HasOption P w (Some v) = P w v
-
--- there is a place for each width, and this holds of each value that is there
-abbrev pub AllHave : (ℕ → ValueId → Type 0) → List ℕ → List (Option ValueId) → Type 0
-AllHave P [] [] = Unit {0}
-AllHave P (w ∷ ws) (i ∷ is) = HasOption P w i × AllHave P ws is
-AllHave _ _ _ = ⊥
-
-option_map : (P Q : ℕ → ValueId → Type 0) → ((w : ℕ) (v : ValueId) → P w v → Q w v) → (w : ℕ) (i : Option ValueId) → HasOption P w i → HasOption Q w i
-option_map P Q go w None h = tt
-option_map P Q go w (Some v) h = go w v h
-
-pub all_map : (P Q : ℕ → ValueId → Type 0) → ((w : ℕ) (v : ValueId) → P w v → Q w v) → (ws : List ℕ) (is : List (Option ValueId)) → AllHave P ws is → AllHave Q ws is
-all_map P Q go [] [] h = tt
-all_map P Q go (w ∷ ws) (i ∷ is) h = (option_map P Q go w i h.0, all_map P Q go ws is h.1)
-all_map _ _ go _ _ h = h
 
 module _ (F : Program) where
   abbrev pub whole : Given
@@ -197,7 +176,7 @@ module _ (F : Program) where
   abbrev step_in : Place → Work → Step
   step_in p work = record { block = p.block; looped = p.looped; work = work }
 
-  step_emitted : (p : Place) (work : Work) (g : Given) → IsPart (emit p work g) → step_at F (length g.code) ≡ step_in p work
+  pub step_emitted : (p : Place) (work : Work) (g : Given) → IsPart (emit p work g) → step_at F (length g.code) ≡ step_in p work
   step_emitted p work g part =
       let lt : length g.code < length (emit p work g).code = omega (arith, emit_length p work g) in
       part.steps (length g.code) lt ∙ get_or-append_seam g.code (step_in p work) [] blank_step
@@ -247,7 +226,7 @@ module _ (F : Program) where
   opened_length : (p : Place) (v : ValueId) (polarity : Bool) (g : Given) → length (opened p v polarity g).blocks ≡ suc (length g.blocks)
   opened_length p v polarity g = omega (arith, length-append g.blocks (block_in p v polarity ∷ []))
 
-  block_opened : (p : Place) (v : ValueId) (polarity : Bool) (g : Given) → IsPart (opened p v polarity g) → block_at F.blocks (length g.blocks) ≡ block_in p v polarity
+  pub block_opened : (p : Place) (v : ValueId) (polarity : Bool) (g : Given) → IsPart (opened p v polarity g) → block_at F.blocks (length g.blocks) ≡ block_in p v polarity
   block_opened p v polarity g part =
       let lt : length g.blocks < length (opened p v polarity g).blocks = omega (arith, opened_length p v polarity g) in
       part.blocks (length g.blocks) lt ∙ get_or-append_seam g.blocks (block_in p v polarity) [] blank_block

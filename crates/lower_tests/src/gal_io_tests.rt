@@ -1,67 +1,11 @@
 //! What no clause can say: that calls succeed with ample memory, and what the system's files and writers do.
 use gal_io::{
     Bytes, Files, HostFiles, HostSink, MemFiles, MemSink, NoMemory, ReadEnd, Sink, SinkEnd, Text,
-    is_skipped, number_up_to, split_line,
 };
 use std::alloc::Global;
 use std::io::Write;
 use std::test::Fail;
 use std::{fs, io};
-
-const NUMBERS: [(&[u8], u64, Option<u64>); 11] = [
-    (b"0", 255, Some(0)),
-    (b"255", 255, Some(255)),
-    (b"256", 255, None),
-    (b"", 255, None),
-    (b"00", 255, None),
-    (b"01", 255, None),
-    (b"+1", 255, None),
-    (b"1 ", 255, None),
-    (b"1a", 255, None),
-    (b"18446744073709551615", u64::MAX, Some(u64::MAX)),
-    (b"18446744073709551616", u64::MAX, None),
-];
-
-#[test]
-fn numbers(rt: HostRuntime) {
-    for (digits, most, wanted) in NUMBERS {
-        assert!(rt; number_up_to(digits, most) == wanted, "at {digits:?}");
-    }
-}
-
-// Texts with their first line and what is behind it.
-const LINES: [(&[u8], &[u8], &[u8]); 6] = [
-    (b"a", b"a", b""),
-    (b"a\n", b"a", b""),
-    (b"a\r\nb", b"a", b"b"),
-    (b"a\r\r\n\nb", b"a\r", b"\nb"),
-    (b"\nb", b"", b"b"),
-    (b"a\rb\r", b"a\rb", b""),
-];
-
-fn is_split(text: &[u8], line: &[u8], rest: &[u8]) -> bool {
-    match split_line(text) {
-        Some((first, behind)) => first == line && behind == rest,
-        None => false,
-    }
-}
-
-#[test]
-fn lines(rt: HostRuntime) {
-    for (text, line, rest) in LINES {
-        assert!(rt; is_split(text, line, rest), "at {text:?}");
-    }
-    assert!(rt; split_line(b"").is_none());
-}
-
-const SKIPPED: [(&[u8], bool); 4] = [(b"", true), (b"# a", true), (b"a", false), (b" ", false)];
-
-#[test]
-fn blank_lines_and_comments(rt: HostRuntime) {
-    for (line, skipped) in SKIPPED {
-        assert!(rt; is_skipped(line) == skipped, "at {line:?}");
-    }
-}
 
 fn are_bytes_joined(alloc: Global) -> Result<bool, NoMemory> {
     let mut bytes = Bytes::from_slice(alloc, b"12")?;

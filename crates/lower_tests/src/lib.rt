@@ -2,17 +2,11 @@
 #![tactic(auto)]
 
 #[cfg(test)]
-mod gal_bits_tests;
-#[cfg(test)]
 mod gal_io_tests;
 #[cfg(test)]
 mod output_commit_tests;
 #[cfg(test)]
-mod packet_fields_tests;
-#[cfg(test)]
 mod samples;
-#[cfg(test)]
-mod slot_table_tests;
 #[cfg(test)]
 mod state_store_tests;
 #[cfg(test)]

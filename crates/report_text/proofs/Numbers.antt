@@ -1,5 +1,5 @@
 -- Numbers as they are read.
-use Rattle.std.proofs.Common.{◌≡◌, ℕ, ◌<◌, ◌≤◌, ◌^◌, true, List, [], ◌∷◌, length, get_or, Some, sym, ap, ◌∙◌, arith}
+use Rattle.std.proofs.Common.{◌≡◌, ℕ, ◌<◌, ◌^◌, true, List, [], ◌∷◌, length, get_or, Some, sym, ap, ◌∙◌, arith}
 use Rattle.std.specs.Fmt.{decimal}
 use Rattle.std.specs.Str.{all_ascii_digits}
 use Rattle.std.specs.Str.Parse.{digits_value}
@@ -17,9 +17,6 @@ record IsNumeral (text : List ℕ) : Type 0 where
 numeral_of : (text : List ℕ) → is_number text ≡ true → IsNumeral text
 numeral_of [] h = cc
 numeral_of (first ∷ rest) h = record { some = omega arith; digits = grind (arith, nat_tests); unpadded = grind (arith, nat_tests) }
-
-pub number_small : (most n : ℕ) (text : List ℕ) → number_up_to most text ≡ Some n → n ≤ most
-number_small most n text h = (bounded_twice (is_number text) (digits_value 10 text) most n h).2
 
 pub number_printed : (most n : ℕ) (text : List ℕ) → number_up_to most text ≡ Some n → most < 2 ^ 64 → text ≡ decimal n
 number_printed most n text h fits =

@@ -43,10 +43,6 @@ pub all_told : (ls : List (List ℕ)) → AllByRecursion IsTold ls → told_of l
 all_told [] h = refl
 all_told (l ∷ ls) h = rw h.0.told (ap (λ m. l ∷ m) (all_told ls h.1))
 
-pub told_both : (xs ys : List (List ℕ)) → AllByRecursion IsTold xs → AllByRecursion IsTold ys → AllByRecursion IsTold (xs ++ ys)
-told_both [] ys h k = k
-told_both (x ∷ xs) ys h k = (h.0, told_both xs ys h.1 k)
-
 -- ---- bytes of lines
 
 number_plain : (n : ℕ) (rest : List ℕ) → n < 2 ^ 64 → list_all plain rest ≡ true → list_all plain (decimal n ++ rest) ≡ true
@@ -109,16 +105,11 @@ name_plain : (name : List ℕ) → is_plain name ≡ true → list_all plain nam
 name_plain [] h = refl
 name_plain (b ∷ bs) h = let hp = and_parts (ltb 32 b) (is_plain bs) h in let rest = name_plain bs hp.1 in grind (arith, nat_tests, rest, hp.0)
 
-pub object_plain : (name : List ℕ) (count : ℕ) → is_plain name ≡ true → count < 2 ^ 32 → IsTold (part_told (codes "object ") name count)
-object_plain name count h small = record {
-  whole = list_all_append plain name _ (name_plain name h) (number_plain count [] (omega arith) refl);
-  told = refl;
-}
-
-pub switch_plain : (name : List ℕ) (count : ℕ) → is_plain name ≡ true → count < 2 ^ 32 → IsTold (part_told (codes "switch ") name count)
-switch_plain name count h small = record {
-  whole = list_all_append plain name _ (name_plain name h) (number_plain count [] (omega arith) refl);
-  told = refl;
+pub part_plain : (word name : List ℕ) (count : ℕ) → list_all plain word ≡ true → ((rest : List ℕ) → is_skipped (word ++ rest) ≡ false) → is_plain name ≡ true → count < 2 ^ 32
+    → IsTold (part_told word name count)
+part_plain word name count plain_word told h small = record {
+  whole = list_all_append plain word _ plain_word (list_all_append plain name _ (name_plain name h) (number_plain count [] (omega arith) refl));
+  told = told (name ++ (codes " " ++ (decimal count ++ [])));
 }
 
 keys_plain : (ns rest : List ℕ) → AllByRecursion (λ n. n < 2 ^ 64) ns → list_all plain rest ≡ true → list_all plain (key_text ns ++ rest) ≡ true

@@ -26,7 +26,7 @@ fn space_at(line: &[u8]) -> usize
 }
 
 /// The number up to the first space, where it is at most `most`, and what follows from that space on.
-#[tactic(auto, unfolding(crate::specs::Parse::number_at), using(crate::proofs::Numbers::number_small))]
+#[tactic(auto, unfolding(crate::specs::Parse::number_at), using(run_text::proofs::Numbers::number_small))]
 pub(crate) fn number_at(most: u64, line: &[u8]) -> Option<(u64, &[u8])>
     ensures small { IfSome result (λ found. found.0 ≤ most) }
     ensures found { MatchOption result (number_at most line.now ≡ None)

@@ -1,6 +1,6 @@
 -- Each packet of a trace may arrive.
 use Rattle.std.proofs.Common.{◌≡◌, ap, refl, ℕ, ◌≤◌, true, false, inl, inr, List, [], ◌∷◌, length, arith}
-use Rattle.std.specs.Prelude.{IfOk, IfSome, Option, Some, None, Result, Ok, Err, codes, nat_le, if◌then◌else◌}
+use Rattle.std.specs.Prelude.{IfOk, Option, Some, None, Result, Ok, Err, codes, nat_le, if◌then◌else◌}
 use Rattle.std.specs.List.{after_first, before_first, list_any}
 use Rattle.std.specs.Str.{bytes_eq}
 use Rattle.std.proofs.lemmas.Bool.Decides.{nat_tests}
@@ -49,13 +49,13 @@ arrives_with : (port : ℕ) (given : Result (List ℕ) LineKind) → port ≤ 25
 arrives_with port (Ok bytes) small h = record { port = omega arith; bytes = h.bytes; size = h.size }
 arrives_with port (Err kind) small h = tt
 
-arrives_by : (port : Option ℕ) (body : List ℕ) → IfSome port (λ n. n ≤ 255) → IfOk (packet_by port body) IsArrival
+arrives_by : (port : Option ℕ) (body : List ℕ) → ((n : ℕ) → port ≡ Some n → n ≤ 255) → IfOk (packet_by port body) IsArrival
 arrives_by None body small = tt
-arrives_by (Some port) body small = arrives_with port (body_of body) small (is_body body)
+arrives_by (Some port) body small = arrives_with port (body_of body) (small port refl) (is_body body)
 
 line_arrives : (line : List ℕ) → IfOk (packet_line line) IsArrival
 line_arrives line = elim (list_any is_space line) as (λ b. IfOk (if b then packet_by (number_up_to 255 (before_first is_space line)) (after_first is_space line) else Err Form) IsArrival) [
-  | true ↦ arrives_by (number_up_to 255 (before_first is_space line)) (after_first is_space line) (number_small 255 (before_first is_space line))
+  | true ↦ arrives_by (number_up_to 255 (before_first is_space line)) (after_first is_space line) (λ n is. number_small 255 n (before_first is_space line) is)
   | false ↦ tt
 ]
 

@@ -6,5 +6,4 @@ pub mod Arriving
 pub mod PrintedLines
 pub mod PrintedBack
 pub mod LinkSchedules
-pub mod Numbered
 pub mod AtOnce

@@ -1,14 +1,12 @@
 -- Numbers as they are printed, and read again.
-use Rattle.std.proofs.Common.{◌≡◌, ℕ, ◌<◌, ◌≤◌, ◌^◌, true, inl, inr, List, [], ◌∷◌, length, get_or, Some, arith}
-use Rattle.std.specs.Prelude.{IfSome, Option, None, nat_le, if◌then◌else◌, option_and_then}
+use Rattle.std.proofs.Common.{◌≡◌, ℕ, ◌<◌, ◌≤◌, ◌^◌, true, List, [], ◌∷◌, length, get_or, Some, arith}
 use Rattle.std.specs.Fmt.{decimal}
 use Rattle.std.specs.Str.{all_ascii_digits}
 use Rattle.std.specs.Str.Parse.{digits_value}
 use Rattle.std.proofs.lemmas.Fmt.{digits_decimal, digits_value-decimal, decimal_nonempty}
 use Rattle.std.proofs.lemmas.Bool.Decides.{nat_tests}
-use Rattle.std.proofs.lemmas.Bool.{cases_Bool}
-use Rattle.gal_io.specs.Number.{is_number, number_of, number_up_to}
-use Rattle.lemmas.proofs.Numbers.{decimal_digits as own, no_zero_first as unpadded}
+use Rattle.gal_io.specs.Number.{is_number, number_up_to}
+use Rattle.lemmas.proofs.Numbers.{decimal_digits as own, no_zero_first as unpadded, bounded_twice}
 
 pub decimal_digits : (number : ℕ) → number < 2 ^ 64 → all_ascii_digits (decimal number) ≡ true
 decimal_digits number fits = digits_decimal own number fits
@@ -24,13 +22,5 @@ read_again most number small fits =
     let value : digits_value 10 (decimal number) ≡ number = digits_value-decimal own number (omega arith) in
     rw (is, value) (grind (arith, nat_tests))
 
--- a number that is read is at most so large
-small_of : (most : ℕ) (number : Option ℕ) → IfSome (option_and_then (λ n. if nat_le n most then Some n else None) number) (λ n. n ≤ most)
-small_of most None = tt
-small_of most (Some n) = elim (cases_Bool (nat_le n most)) [
-  | inl small ↦ rw small (grind (arith, nat_tests))
-  | inr large ↦ rw large tt
-]
-
-pub number_small : (most : ℕ) (text : List ℕ) → IfSome (number_up_to most text) (λ n. n ≤ most)
-number_small most text = small_of most (number_of text)
+pub number_small : (most n : ℕ) (text : List ℕ) → number_up_to most text ≡ Some n → n ≤ most
+number_small most n text h = (bounded_twice (is_number text) (digits_value 10 text) most n h).2

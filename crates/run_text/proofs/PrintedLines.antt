@@ -3,13 +3,13 @@ use Rattle.std.proofs.Common.{◌≡◌, ℕ, zero, suc, ◌+◌, ◌-◌, ◌<�
 use Rattle.std.specs.Prelude.{All, Result, Ok}
 use Rattle.std.specs.List.{list_all, list_any, onto_first, position_or_len, before_first, after_first}
 use Rattle.std.proofs.lemmas.Bool.{cases_lt, and_parts, leb-true}
-use Rattle.std.proofs.lemmas.List.{get_or_default}
+use Rattle.std.proofs.lemmas.List.{get_or_default, append-nil}
 use Rattle.std.proofs.lemmas.Bool.Decides.{nat_tests}
 use Rattle.gal_io.specs.Lines.{fed_lines, lines, without_return}
 use Rattle.run_text.specs.declared.refusal.LineKind.{LineKind}
 use Rattle.run_text.specs.Printed.{IsLineOf, lined}
-use Rattle.run_text.specs.Trace.{is_space}
-use Rattle.run_text.proofs.LineSteps.{ahead_values}
+use Rattle.run_text.specs.Trace.{is_space, line_values}
+use Rattle.run_text.proofs.LineSteps.{ahead_values, not_ended}
 use Rattle.lemmas.proofs.Lists.{drop_front, take_front}
 
 abbrev pub plain : ℕ → Bool
@@ -69,6 +69,15 @@ values_lined ends value text_of (x ∷ xs) n behind h goes none =
     let rest = values_lined ends value text_of xs (n + 1) behind (behind_line value text_of x xs h) goes none in
     rw (goes x) (rw one.told (rw one.says (rw rest refl)))
 
+-- the lines of values alone
+pub values_back : {X : Type 0} (value : List ℕ → Result X LineKind) (text_of : X → List ℕ) (xs : List X) → AreLines value text_of xs
+    → line_values value 1 (lines (lined (map text_of xs))) ≡ Ok xs
+values_back value text_of xs h =
+    let text = lined (map text_of xs) in
+    sym (not_ended (λ _. false) value false 1 (lines text) (λ l. refl))
+    ∙ ap (ahead_values (λ _. false) value false 1) (ap lines (sym (append-nil text)) ∙ lines_lined value text_of xs [] h)
+    ∙ values_lined (λ _. false) value text_of xs 1 [] h (λ x. refl) (λ m. refl)
+
 pub none_lined : {X : Type 0} (ends : List ℕ → Bool) (text_of : X → List ℕ) (xs : List X) (behind : List (List ℕ)) → ((x : X) → ends (text_of x) ≡ false)
     → list_any ends (map text_of xs ++ behind) ≡ list_any ends behind
 none_lined ends text_of [] behind goes = refl
@@ -85,19 +94,25 @@ space_there [] back = refl
 space_there (byte ∷ front) back = let rest = space_there front back in
     elim (eqb byte 32) as (λ b. (b || list_any is_space (front ++ (32 ∷ back))) ≡ true) [ true ↦ refl | false ↦ rest ]
 
-pub space_place : (front back : List ℕ) → list_all unspaced front ≡ true → position_or_len is_space (front ++ (32 ∷ back)) ≡ length front
-space_place [] back h = refl
-space_place (byte ∷ front) back h =
+-- nothing, or a space and more
+abbrev pub is_cut : List ℕ → Bool
+is_cut [] = true
+is_cut (b ∷ bs) = eqb b 32
+
+pub space_place : (front rest : List ℕ) → list_all unspaced front ≡ true → is_cut rest ≡ true → position_or_len is_space (front ++ rest) ≡ length front
+space_place [] [] h cut = refl
+space_place [] (b ∷ rest) h cut = rw cut refl
+space_place (byte ∷ front) rest h cut =
     let parts = and_parts (unspaced byte) (list_all unspaced front) h in
-    let rest = space_place front back parts.1 in
+    let later = space_place front rest parts.1 cut in
     rw parts.0 (omega arith)
 
 pub before_space : (front back : List ℕ) → list_all unspaced front ≡ true → before_first is_space (front ++ (32 ∷ back)) ≡ front
-before_space front back h = ap (λ n. take n (front ++ (32 ∷ back))) (space_place front back h) ∙ take_front front (32 ∷ back)
+before_space front back h = ap (λ n. take n (front ++ (32 ∷ back))) (space_place front (32 ∷ back) h refl) ∙ take_front front (32 ∷ back)
 
 pub after_space : (front back : List ℕ) → list_all unspaced front ≡ true → after_first is_space (front ++ (32 ∷ back)) ≡ back
 after_space front back h =
-    let place : position_or_len is_space (front ++ (32 ∷ back)) + 1 ≡ suc (length front) = let at = space_place front back h in omega arith in
+    let place : position_or_len is_space (front ++ (32 ∷ back)) + 1 ≡ suc (length front) = let at = space_place front (32 ∷ back) h refl in omega arith in
     ap (λ n. drop n (front ++ (32 ∷ back))) place ∙ drop_front front 32 back
 
 -- ---- all bytes of joined lists

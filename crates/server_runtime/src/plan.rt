@@ -15,7 +15,7 @@ ghost use Rattle.server_runtime.specs.Plans.{AreReplicated, IsPrepared};
 ghost use Rattle.server_runtime.specs.Registers.{AreFirsts};
 ghost use Rattle.server_runtime.specs.Serving.{evaluated_steps, followed_writes, is_followed};
 
-use crate::spans::{Course, course_of};
+use crate::allocation::{Allocation, allocate};
 use flat_ir::{FieldValue, Flat, InstrKind, ValueId};
 use gal_io::NoMemory;
 use split_model::{Layout, Split, down_layout, replicated, up_layout};
@@ -23,12 +23,12 @@ use std::alloc::Global;
 use std::marker::Model;
 use transfer_header::{ReadyStep, Regs};
 
-/// A turn that a run takes at an instruction, with the places of its operands and results among the registers.
+/// A step that a run takes at an instruction, with the places of its operands and results among the registers.
 #[derive(Debug, Drop)]
-pub(crate) struct Turn {
+pub(crate) struct PlannedStep {
     /// The instruction's place in the code.
     pub instruction: u32,
-    pub step: ReadyStep,
+    pub ready: ReadyStep,
 }
 
 /// A split program, and what is looked up in it at each packet.
@@ -43,8 +43,8 @@ pub(crate) struct PreparedProgram {
     pub firsts: Vec<u32>,
     /// Where the number of each instruction's first value stands among the registers. Empty until these are planned.
     pub seats: Vec<u32>,
-    /// The turns that a run takes, in order. Empty until registers are planned.
-    pub turns: Vec<Turn>,
+    /// The steps that a run takes, in order. Empty until registers are planned.
+    pub steps: Vec<PlannedStep>,
     /// The fields that the server sets.
     pub fields: Vec<FieldValue>,
     /// Whether the object is replicated, for each object.
@@ -67,8 +67,8 @@ impl Model for ServerPlan {
     ghost use Rattle.server_runtime.specs.Plans as plans;
     ghost use Rattle.server_runtime.specs.Plans.{IsPrepared};
     ghost use Rattle.server_runtime.specs.Registers.{AreServing};
-    ghost use Rattle.server_runtime.specs.Resolved.{turns_at, AreResolved};
-    ghost use Rattle.server_runtime.specs.Walks.{AreTurns};
+    ghost use Rattle.server_runtime.specs.Resolved.{instructions_of, AreResolved};
+    ghost use Rattle.server_runtime.specs.Walks.{AreDue};
 
     ghost Value = { plans.ServerPlan };
 
@@ -76,8 +76,8 @@ impl Model for ServerPlan {
 
     ghost invariant = { λ plan. IsPrepared plan.whole
         × AreServing (program_of plan.whole.flat) plan.whole.split plan.values
-        × AreResolved (program_of plan.whole.flat) plan.whole.seats.items plan.whole.turns.items plan.values
-        × AreTurns (program_of plan.whole.flat) plan.whole.split (turns_at plan.whole.turns.items) };
+        × AreResolved (program_of plan.whole.flat) plan.whole.seats.items plan.whole.steps.items plan.values
+        × AreDue (program_of plan.whole.flat) plan.whole.split (instructions_of plan.whole.steps.items) };
 }
 
 impl ServerPlan {
@@ -89,12 +89,12 @@ impl ServerPlan {
         ensures split { IfOk result (λ plan. plan.split ≡ s.now) }
     {
         let mut whole = PreparedProgram::of(alloc, f, s)?;
-        let Course {
+        let Allocation {
             values,
             seats,
-            turns,
-        } = course_of(alloc, &whole)?;
-        whole.take_course(seats, turns);
+            steps,
+        } = allocate(alloc, &whole)?;
+        whole.take_allocation(seats, steps);
         Ok(ServerPlan { whole, values })
     }
 }
@@ -260,7 +260,7 @@ impl PreparedProgram {
             down: layouts.down,
             firsts: lists.firsts,
             seats: Vec::new(alloc),
-            turns: Vec::new(alloc),
+            steps: Vec::new(alloc),
             fields: lists.fields,
             followed: lists.followed,
             writes,
@@ -268,17 +268,17 @@ impl PreparedProgram {
         })
     }
 
-    // Takes the places of the instructions' first values, and the turns of a run.
-    fn take_course(&mut self, seats: Vec<u32>, turns: Vec<Turn>)
+    // Takes the places of the instructions' first values, and the steps of a run.
+    fn take_allocation(&mut self, seats: Vec<u32>, steps: Vec<PlannedStep>)
         requires { IsPrepared self.old }
         ensures prepared { IsPrepared self.new }
         ensures seats { self.new.seats ≡ seats }
-        ensures turns { self.new.turns ≡ turns }
+        ensures steps { self.new.steps ≡ steps }
         ensures flat { self.new.flat ≡ self.old.flat }
         ensures split { self.new.split ≡ self.old.split }
     {
         self.seats = seats;
-        self.turns = turns;
+        self.steps = steps;
     }
 
     /// The number of an instruction's first value.

@@ -2,7 +2,6 @@
 use Rattle.std.specs.FinMap as map
 use Rattle.std.specs.Prelude as prelude
 use Rattle.switch_ir.specs.declared.port.DownEnd.TheVariants as down
-use Rattle.switch_ir.specs.declared.port.RowsEnd.TheVariants as rows
 use Rattle.std.proofs.Common.{subst, sym, ◌∙◌, ap, arith, refl}
 use Rattle.std.specs.List.{AllByRecursion as Each}
 use Rattle.std.specs.Prelude.{Bool, List, Some, [], false, length, suc, take, true, ℕ, ◌++◌, ◌^◌, ◌∷◌, ◌≡◌, ◌≤◌, ◌<◌}
@@ -18,7 +17,7 @@ use Rattle.replay_state.specs.Program.{IsSplitProgram, Manner, plain, setup_of}
 use Rattle.replay_state.specs.State.{State, applied_commands, seen, store_at}
 use Rattle.replay_state.specs.Step.{applies}
 use Rattle.replay_state.specs.Tables.{LookupsShow}
-use Rattle.replay_state.specs.Told.{HasFrames, IsRight, IsTied, Tells}
+use Rattle.replay_state.specs.Tied.{HasFrames, IsRight, IsTied, Tells}
 use Rattle.run_model.specs.declared.event.Event.{Event}
 use Rattle.run_model.specs.declared.event.Event.TheVariants.{Stage}
 use Rattle.server_runtime.proofs.Laws.{a_served_packet_is_the_whole_run, what_the_switch_is_told_fits-few}
@@ -33,7 +32,7 @@ use Rattle.state_store.specs.declared.object.Row.{Row}
 use Rattle.switch_ir.specs.Code.{Code}
 use Rattle.switch_ir.specs.Emitted.{emitted}
 use Rattle.switch_ir.specs.Meaning.{down_given}
-use Rattle.switch_ir.specs.Port.{EndsDown, EndsSeen, EndsUp, IsCommandOf, IsHandedDown, IsNothing, IsReplicatedIn, IsUpdateOf, OfItsParts}
+use Rattle.switch_ir.specs.Port.{AreSeen, EndsDown, EndsUp, IsCommandOf, IsHandedDown, IsNothing, IsReplicatedIn, IsUpdateOf, OfItsParts}
 use Rattle.switch_ir.specs.Staged.{EndsBy, EndsDownBy, post_staging, pre_staging, last_numbers}
 use Rattle.switch_ir.specs.Tables.{IsStart, Told, has_room_in, pair_at, told_after, view_of, start_pair}
 use Rattle.switch_ir.specs.UnderWay.{EndsWith, HasEntered, HasGoneOn, PassState}
@@ -187,7 +186,7 @@ pub told_rows_are_the_visible_stores : (f : Program) (split : List Part) (writeb
     → is_replicated f split o ≡ true
     → seen_after o (first_pair f.objects writeback o) commands (length commands)
     ≡ (object_at st o).contents
-    → EndsSeen told o (rows.Rows list) → list ≡ rows_of (object_at st o)
+    → AreSeen told o list → list ≡ rows_of (object_at st o)
 told_rows_are_the_visible_stores f split writeback st commands told o list is through shown seen ends =
     ends ∙ ap (λ (c : Contents). rows_from (map.entries c)) (contents_seen f split writeback is commands told through o shown ∙ seen)
 

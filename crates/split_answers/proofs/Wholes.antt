@@ -20,8 +20,8 @@ use Rattle.split_model.specs.Passes.{sent_down, AgreeOnShown}
 use Rattle.split_model.specs.Shown.{is_replicated, writes_to}
 use Rattle.server_runtime.specs.Serving.{frame_run, packet_frame, served_frame, updates_of, IsWholeRun}
 use Rattle.replay_state.specs.Program.{IsSplitRun}
-use Rattle.replay_state.specs.Sound.{IsAlike}
-use Rattle.replay_state.specs.Told.{IsFramed}
+use Rattle.replay_state.specs.SoundAnswers.{IsAlike}
+use Rattle.replay_state.specs.Tied.{IsFramed}
 use Rattle.split_answers.specs.Whole.{whole_of, IsSplit}
 use Rattle.split_answers.proofs.Follows.{Follows}
 use Rattle.split_answers.proofs.Declared.{replicated_parts, shown_there}

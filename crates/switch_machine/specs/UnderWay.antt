@@ -68,9 +68,7 @@ Begins number IsNew old new end = new ≡ old
 -- a pass that took a stage goes on, as this says, or is under way no longer
 abbrev pub Settles : ℕ → (PassState → Type 0) → Passes → Passes → UpEnd → Type 0
 Settles number IsNew old new up.Going = Puts number IsNew old new
-Settles number IsNew old new (up.Up frame) = new ≡ with_pass number None old
-Settles number IsNew old new (up.Finished verdict) = new ≡ with_pass number None old
-Settles number IsNew old new end = new ≡ old
+Settles number IsNew old new end = new ≡ with_pass number None old
 
 -- how a call ends over the packet of this number, whose pass has stages left or has none, by what this tells
 pub record HasEnd (side : Side) (code : Code) (number : ℕ) (packet : Packet) (left : Bool) (IsTold : UpEnd → Type 0) (end : UpEnd) : Type 0 where

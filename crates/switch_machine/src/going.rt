@@ -14,7 +14,7 @@ ghost use Rattle.switch_machine.specs.Flights.{flights_in, with_pass};
 ghost use Rattle.switch_machine.specs.Keeping.{kept};
 ghost use Rattle.switch_machine.specs.Kept.{KeepsTables};
 ghost use Rattle.switch_machine.specs.Numbers.{reads_by, AreHeld};
-ghost use Rattle.switch_machine.specs.Sides.{of_side, staging, up_of, EndsOn};
+ghost use Rattle.switch_machine.specs.Sides.{of_side, staging, EndsOn};
 ghost use Rattle.switch_machine.specs.UnderWay.{leaves_on, numbers_at_last, passes_of, Entered, Enters, GoneOn};
 ghost use Rattle.switch_machine.specs.UnderWay.{HasEnd, HasStagesLeft, IsAtLast, IsGiven, Puts, Steps};
 ghost use Rattle.switch_machine.specs.Workplaces.{IsPassOf, StaysMade};
@@ -24,12 +24,12 @@ use crate::live::leaves_work;
 use crate::loaded_pass::LoadedPass;
 use crate::passes::{are_few, run_pass, run_stage};
 use crate::run::Run;
-use crate::sides::{Outcome, Side};
+use crate::sides::Side;
 use crate::tables::{SwitchTables, View};
 use flat_ir::{Arrival, Out, leave};
 use gal_io::NoMemory;
 use std::alloc::Global;
-use switch_ir::SwitchCode;
+use switch_ir::{SwitchCode, UpEnd};
 use transfer_header::pack_up;
 
 impl LoadedPass {
@@ -53,14 +53,14 @@ impl LoadedPass {
         number: u32,
         arrival: &Arrival<'_>,
         whole: bool,
-    ) -> Result<Outcome, NoMemory>
+    ) -> Result<UpEnd, NoMemory>
         requires size { length arrival.now.bytes.now ≤ largest_packet }
         requires shape { arrival.now.shape ≡ shape_of arrival.now.bytes.now }
         requires pass { IsPassOf (code_of code.now) self.old }
         requires safe { KeepsTables (code_of code.now) tables.now }
         ensures made { StaysMade self.old self.new }
-        ensures enters { (given : Reading) → IsGiven (code_of code.now) self.old given → IfOk result (λ outcome.
-            Enters self.old.side (code_of code.now) tables.now whole number (packet_of arrival.now) given (up_of outcome)
+        ensures enters { (given : Reading) → IsGiven (code_of code.now) self.old given → IfOk result (λ end.
+            Enters self.old.side (code_of code.now) tables.now whole number (packet_of arrival.now) given end
             (passes_of (code_of code.now) self.old) (passes_of (code_of code.now) self.new)) }
         ensures err { OnErr result (passes_of (code_of code.now) self.new ≡ passes_of (code_of code.now) self.old) }
     {
@@ -70,7 +70,7 @@ impl LoadedPass {
             return self.end(alloc, code, leaves, number, arrival);
         }
         self.enter(alloc, tables, number, arrival)?;
-        Ok(Outcome::Going)
+        Ok(UpEnd::Going)
     }
 
     // Computes all stages, over the tables as lookups see them.
@@ -186,17 +186,17 @@ impl LoadedPass {
         code: &SwitchCode,
         tables: &SwitchTables,
         number: u32,
-    ) -> Result<Outcome, NoMemory>
+    ) -> Result<UpEnd, NoMemory>
         requires pass { IsPassOf (code_of code.now) self.old }
         requires safe { KeepsTables (code_of code.now) tables.now }
         requires there { IsSome (flights_in self.old.flights number) }
         ensures made { StaysMade self.old self.new }
         ensures flights { self.new.flights ≡ self.old.flights }
         ensures steps { (before : PassState) → passes_of (code_of code.now) self.old number ≡ Some before
-            → IfOk result (λ outcome. Steps self.old.side (code_of code.now) tables.now number before (up_of outcome)) }
+            → IfOk result (Steps self.old.side (code_of code.now) tables.now number before) }
     {
         if self.has_stages_left(number) {
-            return Ok(Outcome::Going);
+            return Ok(UpEnd::Going);
         }
         self.compute_last(tables, number);
         let leaves = self.leaves_work(code);
@@ -239,7 +239,7 @@ impl LoadedPass {
         leaves: bool,
         number: u32,
         arrival: &Arrival<'_>,
-    ) -> Result<Outcome, NoMemory>
+    ) -> Result<UpEnd, NoMemory>
         requires size { length arrival.now.bytes.now ≤ largest_packet }
         requires shape { arrival.now.shape ≡ shape_of arrival.now.bytes.now }
         requires pass { IsPassOf (code_of code.now) self.now }
@@ -247,15 +247,15 @@ impl LoadedPass {
             ≡ leaves_on self.now.side (code_of code.now) (reads_by self.now.numbering (content_of self.now.registers)) }
         ensures ends { (reads : Reading)
             → AreHeld self.now.numbering self.now.registers reads (kept (staging self.now.side (code_of code.now)))
-            → IfOk result (λ outcome. HasEnd self.now.side (code_of code.now) number (packet_of arrival.now) false
-            (EndsOn self.now.side (code_of code.now) reads number (packet_of arrival.now)) (up_of outcome)) }
+            → IfOk result (HasEnd self.now.side (code_of code.now) number (packet_of arrival.now) false
+            (EndsOn self.now.side (code_of code.now) reads number (packet_of arrival.now))) }
     {
         if leaves {
             let port = arrival.port;
             fits(port);
             let registers = &self.registers;
             let frame = pack_up(alloc, &code.up, number, port, registers, arrival.bytes)?;
-            return Ok(Outcome::Up(frame));
+            return Ok(UpEnd::Up(frame));
         }
         let run = Run {
             numbering: &self.numbering,
@@ -263,7 +263,7 @@ impl LoadedPass {
         };
         let copy = arrival.bytes.to_vec(alloc)?;
         let out = out_of(code, self.side);
-        Ok(Outcome::Verdict(leave(out, arrival, &run, copy)))
+        Ok(UpEnd::Finished(leave(out, arrival, &run, copy)))
     }
 }
 

@@ -11,7 +11,7 @@ use Rattle.switch_machine.specs.declared.sides.Side.{Side}
 use Rattle.switch_machine.specs.Flights.{flights_in}
 use Rattle.switch_machine.specs.Keeping.{kept}
 use Rattle.switch_machine.specs.Numbers.{AreHeld}
-use Rattle.switch_machine.specs.Sides.{staging, up_of, EndsOn}
+use Rattle.switch_machine.specs.Sides.{staging, EndsOn}
 use Rattle.switch_machine.specs.UnderWay.{numbers_at_last, HasEnd, Steps}
 use Rattle.switch_machine.proofs.Crossings.{both_stay}
 use Rattle.switch_machine.proofs.Ending.{going_ends, is_of}
@@ -62,12 +62,12 @@ returns-clause-steps c before told =
     let Holds : List ValueRange × Registers × Side → Type 0 = λ (ranges, rs, s). AreHeld ranges rs reads (kept (staging s code)) in
     let held = subst Holds (λ i. (sym marks.made.ranges i, sym marks.registers i, sym made.side i)) (c.compute_last.ensures.values code f c.requires.pass c.requires.safe there) in
     let HasIts : Side × Packet → Type 0 =
-    λ (s, q). IfOk c.end.result (λ outcome. HasEnd s code c.args.number q false (EndsOn s code reads c.args.number q) (up_of outcome)) in
-    IfOk-weaker c.end.result _ (λ outcome. Steps l.side code tables c.args.number before (up_of outcome))
-    (λ outcome h. record {
-      goes = subst (λ left. GoesUp left (up_of outcome)) (sym none) h.goes;
+    λ (s, q). IfOk c.end.result (HasEnd s code c.args.number q false (EndsOn s code reads c.args.number q)) in
+    IfOk-weaker c.end.result _ (Steps l.side code tables c.args.number before)
+    (λ end h. record {
+      goes = subst (λ left. GoesUp left end) (sym none) h.goes;
       of = h.of;
-      frame = subst (λ (q : Packet). IsUpFrame code c.args.number q.port q.bytes (up_of outcome)) (ap (λ (b : PassState). b.packet) is) h.frame;
-      told = ended_as p l.numbering l.registers.plan tables f before (λ b numbers. EndsOn l.side code numbers c.args.number b.packet (up_of outcome)) is h.told;
+      frame = subst (λ (q : Packet). IsUpFrame code c.args.number q.port q.bytes end) (ap (λ (b : PassState). b.packet) is) h.frame;
+      told = ended_as p l.numbering l.registers.plan tables f before (λ b numbers. EndsOn l.side code numbers c.args.number b.packet end) is h.told;
     })
     (subst HasIts (λ i. (made.side i, c.arrival.ensures.packet i)) (c.end.ensures.ends reads held))
