@@ -19,7 +19,7 @@ use Rattle.gallium_cli.proofs.Told.{some_then}
 use Rattle.gallium_cli.proofs.Exact.{early_is_fault, open_ends, shut_ends}
 use Rattle.gallium_cli.proofs.Listed.{compiled_is, source_names}
 use Rattle.gallium_cli.proofs.Ranges.{told_in_range}
-use Rattle.partition.proofs.Chosen.{low_stages}
+use Rattle.partition.proofs.Chosen.{few_stages_within_limits}
 
 -- ## Told contents
 
@@ -54,7 +54,7 @@ choice_spelled told s l m allowed shrink split writeback plan choice =
     let count = choice.legal.count in (
       split,
       compiled_is f split writeback (source_names source.0 m source.1.1) count
-          (low_stages f allowed split count ranges choice.keeps),
+          (few_stages_within_limits f allowed split count ranges choice.keeps),
       record { legal = choice.legal; keeps = choice.keeps },
     )
 

@@ -46,7 +46,7 @@ use Rattle.gallium_cli.proofs.Reported.{split_is_source}
 use Rattle.gallium_cli.proofs.Runnable.{few_served, split_served, split_within}
 use Rattle.gallium_cli.proofs.Told.{meet, some_then}
 use Rattle.gallium_cli.proofs.Untrue.{IsSameInput}
-use Rattle.partition.proofs.Chosen.{low_stages}
+use Rattle.partition.proofs.Chosen.{few_stages_within_limits}
 
 -- ## Splits
 
@@ -62,7 +62,7 @@ split_is m split writeback bounded kept (inr (choice, rows)) =
 few_stages : (f : Program) (split : List Part) (writeback : ℕ) → length split ≡ length f.code → MayReplay f split writeback
     → HasFewStages split
 few_stages f split writeback count (inl (allowed, accepted, ranges, rows)) =
-    low_stages f allowed split count ranges accepted.keeps
+    few_stages_within_limits f allowed split count ranges accepted.keeps
 few_stages f split writeback count (inr (choice, rows)) = few_served f split choice.least
 
 -- ## Events
