@@ -84,7 +84,7 @@ decls_append (o ∷ os) ps = omega (arith, decls_append os ps)
 abbrev pub lengths_of_names : List ObjectDecl → List ℕ
 lengths_of_names = map (λ (o : ObjectDecl). length o.name)
 
--- those of one element more
+-- the names of the objects of one element more
 pub names_told : (ms : List Middlebox) (i : ℕ) (m : Middlebox) (had had' all : List ℕ) → i < length ms → m ≡ slice_index_or ms i m
     → had' ≡ had ++ lengths_of_names (named_objects i m.objects)
     → had ++ lengths_of_names (objects_from i (map tree (drop i ms))) ≡ all → had' ++ lengths_of_names (objects_from (i + 1) (map tree (drop (i + 1) ms))) ≡ all

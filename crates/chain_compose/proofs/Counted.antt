@@ -30,6 +30,7 @@ use Rattle.chain_compose.specs.declared.gauge.Gauge.{Gauge}
 use Rattle.chain_compose.specs.declared.gauge.Gauge.TheVariants.{Statements, Locals, Uses, Bytes}
 use Rattle.chain_compose.specs.Counts.{used_by_expr, used_by_exprs, weight, turns, body_count, placed_stmt_count, placed_count, whole_lengths, port_length, drop_weight, test_weight, tests_count, sent_count, closing_count, clearing_count, element_count, end_count, entry_count}
 use Rattle.element_chain.proofs.GoodStmts.{length-numbers}
+use Rattle.chain_compose.proofs.SeenFields.{as_field}
 
 -- ## Statements one after the other
 
@@ -40,10 +41,7 @@ followed_counts g l (stmt s a) b = omega (arith, followed_counts g l a b)
 -- the first statements decide whether there are some
 followed_some : (a b : BodyTree) → is_empty a ≡ false → is_empty (followed a b) ≡ false
 followed_some (stmt s a) b some = refl
-followed_some done b some = some_none some
-  where
-    some_none : is_empty done ≡ false → is_empty b ≡ false
-    some_none e = cc
+followed_some done b some = cc
 
 -- ## Operators
 
@@ -83,26 +81,15 @@ module _ (port : Option ℕ) (names : List ℕ) where
   same_counts no_expr = refl
   same_counts (expr e es) = ap suc (same_counts es)
 
-  by_seen : (P : ExprTree → Bool) → ((f : Field) → P (field f) ≡ false) → ((input : ℕ) → P (lit input 8) ≡ false) → (f : Field) → P (seen port f) ≡ P (field f)
-  by_seen P fields literals f = with_port port
-    where
-      by_test : (input : ℕ) (b : Bool) → P (cond b (lit input 8) (field f)) ≡ P (field f)
-      by_test input true = literals input ∙ sym (fields f)
-      by_test input false = refl
-
-      with_port : (p : Option ℕ) → P (seen p f) ≡ P (field f)
-      with_port None = refl
-      with_port (Some input) = by_test input (field_index f == field_index MetaPort)
-
-  same_infix : (e : ExprTree) → has_infix (nameless (renamed port names e)) ≡ has_infix (nameless e)
-  same_infix (field f) = by_seen (λ (e : ExprTree). has_infix (nameless e)) (λ g. refl) (λ input. refl) f
+  pub same_infix : (e : ExprTree) → has_infix (nameless (renamed port names e)) ≡ has_infix (nameless e)
+  same_infix (field f) = as_field (λ (e : ExprTree). has_infix (nameless e)) port f (λ input. refl)
   same_infix _ = refl
 
   same_turned : (e : ExprTree) → is_turned (nameless (renamed port names e)) ≡ is_turned (nameless e)
-  same_turned (field f) = by_seen (λ (e : ExprTree). is_turned (nameless e)) (λ g. refl) (λ input. refl) f
+  same_turned (field f) = as_field (λ (e : ExprTree). is_turned (nameless e)) port f (λ input. refl)
   same_turned _ = refl
 
-  same_brackets : (place : Place) (e : ExprTree) → needs_brackets place (nameless (renamed port names e)) ≡ needs_brackets place (nameless e)
+  pub same_brackets : (place : Place) (e : ExprTree) → needs_brackets place (nameless (renamed port names e)) ≡ needs_brackets place (nameless e)
   same_brackets Whole e = refl
   same_brackets Operand e = same_infix e
   same_brackets Turned e =
@@ -115,9 +102,7 @@ module _ (xs : List ℕ) (base : ℕ) (port : Option ℕ) (names : List ℕ) whe
     same_length (field f) = seen_reads xs base port f
     same_length (byte index) = omega (arith, same_length index)
     same_length (shift op by arg) =
-        let inner = same_length arg in
-        let brackets : brackets_length (needs_brackets Operand (nameless (renamed port names arg))) ≡ brackets_length (needs_brackets Operand (nameless arg)) = ap brackets_length (same_infix port names arg) in
-        omega arith
+        omega (arith, same_length arg, ap brackets_length (same_infix port names arg))
     same_length (apply op width args) =
         let j : Joins op = joins op in
         j.is (whole xs base port) width (all_renamed port names args)
@@ -129,44 +114,20 @@ module _ (xs : List ℕ) (base : ℕ) (port : Option ℕ) (names : List ℕ) whe
     pub same_parts : (place : Place) (es : Exprs) → parts_length (whole xs base port) place (all_renamed port names es) ≡ parts_length (own xs base port) place es
     same_parts place no_expr = refl
     same_parts place (expr e es) =
-        let brackets : brackets_length (needs_brackets place (nameless (renamed port names e))) ≡ brackets_length (needs_brackets place (nameless e)) = ap brackets_length (same_brackets port names place e) in
-        let first = same_length e in
-        let rest = same_parts place es in
-        omega arith
+        omega (arith, ap brackets_length (same_brackets port names place e), same_length e, same_parts place es)
 
   same_exprs : (es : Exprs) → exprs_length (whole xs base port) (all_renamed port names es) ≡ exprs_length (own xs base port) es
-  same_exprs es =
-      let count : between_length marks.Comma (count_of (all_renamed port names es)) ≡ between_length marks.Comma (count_of es) = ap (between_length marks.Comma) (same_counts port names es) in
-      let parts = same_parts Whole es in
-      omega arith
-
-  -- an object, numbered from the first one of the element on
-  same_object : (object : ℕ) → slice_index (drop base xs) object ≡ slice_index xs (base + object)
-  same_object object = get_or-drop base xs object 0
+  same_exprs es = omega (arith, ap (between_length marks.Comma) (same_counts port names es), same_parts Whole es)
 
   same_keyed : (object : ℕ) (keys : Exprs) → keyed_length (whole xs base port) (base + object) (all_renamed port names keys) ≡ keyed_length (own xs base port) object keys
-  same_keyed object keys =
-      let named = same_object object in
-      let inner = same_exprs keys in
-      omega arith
+  same_keyed object keys = omega (arith, get_or-drop base xs object 0, same_exprs keys)
 
 -- ## Uses
 
 module _ (port : Option ℕ) (names : List ℕ) where
-  seen_uses : (f : Field) → length (used_by_expr (seen port f)) ≡ 0
-  seen_uses f = with_port port
-    where
-      by_test : (input : ℕ) (b : Bool) → length (used_by_expr (cond b (lit input 8) (field f))) ≡ 0
-      by_test input true = refl
-      by_test input false = refl
-
-      with_port : (p : Option ℕ) → length (used_by_expr (seen p f)) ≡ 0
-      with_port None = refl
-      with_port (Some input) = by_test input (field_index f == field_index MetaPort)
-
   mutual
     pub same_uses : (e : ExprTree) → length (used_by_expr (renamed port names e)) ≡ length (used_by_expr e)
-    same_uses (field f) = seen_uses f
+    same_uses (field f) = as_field (λ (e : ExprTree). length (used_by_expr e)) port f (λ input. refl)
     same_uses (byte index) = same_uses index
     same_uses (shift op by arg) = same_uses arg
     same_uses (apply op width args) = all_uses args
@@ -174,21 +135,13 @@ module _ (port : Option ℕ) (names : List ℕ) where
 
     all_uses : (es : Exprs) → length (used_by_exprs (all_renamed port names es)) ≡ length (used_by_exprs es)
     all_uses no_expr = refl
-    all_uses (expr e es) =
-        let made = length-append (used_by_expr (renamed port names e)) (used_by_exprs (all_renamed port names es)) in
-        let had = length-append (used_by_expr e) (used_by_exprs es) in
-        let first = same_uses e in
-        let rest = all_uses es in
-        omega arith
+    all_uses (expr e es) = simp length-append (omega (arith, same_uses e, all_uses es))
 
 -- locals have no bytes
 names_same : (l : Lengths) (i : ℕ) (xs : List ℕ) → l.locals ≡ [] → names_length l (numbers i xs) ≡ names_length l xs
 names_same l i [] none = refl
 names_same l i (x ∷ xs) none =
-    let rest = names_same l (suc i) xs none in
-    let left : slice_index l.locals i ≡ 0 = ap (λ (ns : List ℕ). slice_index ns i) none in
-    let right : slice_index l.locals x ≡ 0 = ap (λ (ns : List ℕ). slice_index ns x) none in
-    omega arith
+    omega (arith, names_same l (suc i) xs none, ap (λ (ns : List ℕ). slice_index ns i) none, ap (λ (ns : List ℕ). slice_index ns x) none)
 
 no_names : (xs : List ℕ) (base : ℕ) (port : Option ℕ) (into : List ℕ) → names_length (whole xs base port) into ≡ names_length (own xs base port) into
 no_names xs base port [] = refl
@@ -215,30 +168,14 @@ module _ (xs : List ℕ) (base : ℕ) (port : Option ℕ) (names : List ℕ) whe
 
   look_weighs : (g : Gauge) (v found : ℕ) (into : List ℕ) (object : ℕ) (keys : Exprs) → weight g (whole xs base port) (look v (numbers (suc v) into) (base + object) (all_renamed port names keys)) ≡ weight g (own xs base port) (look found into object keys)
   look_weighs Locals v found into object keys = ap suc (length-numbers (suc v) into)
-  look_weighs Uses v found into object keys =
-      let made = length-append (numbers (suc v) into) (used_by_exprs (all_renamed port names keys)) in
-      let had = length-append into (used_by_exprs keys) in
-      let first = length-numbers (suc v) into in
-      let rest = all_uses port names keys in
-      omega arith
+  look_weighs Uses v found into object keys = simp length-append (omega (arith, length-numbers (suc v) into, all_uses port names keys))
   look_weighs Bytes v found into object keys =
-      let listed = names_same (whole xs base port) (suc v) into refl in
-      let unnamed = no_names xs base port into in
-      let keyed = same_keyed xs base port names object keys in
-      omega arith
+      omega (arith, names_same (whole xs base port) (suc v) into refl, no_names xs base port into, same_keyed xs base port names object keys)
   look_weighs _ v found into object keys = refl
 
   put_weighs : (g : Gauge) (v ok object : ℕ) (keys values : Exprs) → weight g (whole xs base port) (put v (base + object) (all_renamed port names keys) (all_renamed port names values)) ≡ weight g (own xs base port) (put ok object keys values)
-  put_weighs Uses v ok object keys values =
-      let made = length-append (used_by_exprs (all_renamed port names keys)) (used_by_exprs (all_renamed port names values)) in
-      let had = length-append (used_by_exprs keys) (used_by_exprs values) in
-      let first = all_uses port names keys in
-      let rest = all_uses port names values in
-      omega arith
-  put_weighs Bytes v ok object keys values =
-      let keyed = same_keyed xs base port names object keys in
-      let listed = same_exprs xs base port names values in
-      omega arith
+  put_weighs Uses v ok object keys values = simp length-append (omega (arith, all_uses port names keys, all_uses port names values))
+  put_weighs Bytes v ok object keys values = omega (arith, same_keyed xs base port names object keys, same_exprs xs base port names values)
   put_weighs _ v ok object keys values = refl
 
   del_weighs : (g : Gauge) (v was object : ℕ) (keys : Exprs) → weight g (whole xs base port) (del v (base + object) (all_renamed port names keys)) ≡ weight g (own xs base port) (del was object keys)
@@ -248,9 +185,7 @@ module _ (xs : List ℕ) (base : ℕ) (port : Option ℕ) (names : List ℕ) whe
 
   choose_weighs : (g : Gauge) (test : ExprTree) (a b first second : BodyTree) → is_empty b ≡ is_empty second → weight g (whole xs base port) (choose (renamed port names test) a b) ≡ weight g (own xs base port) (choose test first second)
   choose_weighs Uses test a b first second same = same_uses port names test
-  choose_weighs Bytes test a b first second same =
-      let otherwise : else_length (is_empty b) ≡ else_length (is_empty second) = ap else_length same in
-      omega (arith, same_length xs base port names test)
+  choose_weighs Bytes test a b first second same = omega (arith, ap else_length same, same_length xs base port names test)
   choose_weighs _ test a b first second same = refl
 
   repeat_weighs : (g : Gauge) (v index count : ℕ) (a b : BodyTree) → weight g (whole xs base port) (repeat v count a) ≡ weight g (own xs base port) (repeat index count b)

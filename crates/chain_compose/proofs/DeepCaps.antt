@@ -1,5 +1,5 @@
 -- Depths that stop at the greatest that 64 bits can hold.
-use Rattle.std.proofs.Common.{Bool, true, ◌≡◌, ◌<◌, ◌≤◌, ℕ, zero, suc, ◌+◌, ◌-◌, ◌^◌, max, min, List, [], ◌∷◌, length, map, replicate, refl, sym, ap, subst, ◌∙◌, arith, slice_index}
+use Rattle.std.proofs.Common.{Bool, true, ◌≡◌, ◌≤◌, ℕ, zero, suc, ◌+◌, ◌-◌, ◌^◌, max, min, List, [], ◌∷◌, length, map, replicate, refl, sym, ap, subst, ◌∙◌, arith, slice_index}
 use Rattle.std.proofs.lemmas.List.{length-map}
 use Rattle.std.specs.List.{All}
 use Rattle.std.proofs.lemmas.List.Elements.{All-head, All-tail, All-weaker}
@@ -21,7 +21,7 @@ use Rattle.chain_compose.specs.Depths.{placed_depth, tests_depth, element_depth,
 use Rattle.chain_compose.specs.SendLevels.{further_in, stmt_level, level_in, IsOwn, port_depth, has_wires, with_tests, told_depth, own_depth, own_level, AreDepths}
 use Rattle.chain_compose.proofs.DeepBodies.{whole_depth}
 use Rattle.chain_compose.proofs.DeepLevels.{body_as_placed, body_alike, as_suc, element_by_level, level_most}
-use Rattle.chain_compose.proofs.RoutesAt.{wires_all}
+use Rattle.chain_compose.proofs.RoutesAt.{own_within}
 
 -- ## tests
 with_capped : (own level t u : ℕ) → capped t ≡ capped u → capped (with_tests own level t) ≡ capped (with_tests own level u)
@@ -48,9 +48,6 @@ told_target c zero depths are Out within = refl
 told_target c (suc n) depths are Out within = refl
 told_target c n depths are (Element e) within = omega (arith, are.each e within)
 
-abbrev Within : ℕ → Wire → Type 0
-Within count w = (w.from < count) × IsWithin count w.to
-
 -- an element before those that are told of
 told_element : (c : Connected) (n : ℕ) (depths : List ℕ) → AreWithin (length c.elements) c.wires → AreDepths c n depths → (e : ℕ)
     → capped (element_depth c (told_depth depths) e) ≡ capped (element_depth c (end_depth c n) e)
@@ -58,7 +55,8 @@ told_element c n depths within are e =
     let count = length c.elements in
     let ws = wires_of c.wires e in
     let tests = tests_capped (told_depth depths) (end_depth c n) ws
-    (All-weaker (Within count) (Agree (told_depth depths) (end_depth c n)) (λ w there. told_target c n depths are w.to there.1) ws (wires_all (Within count) c.wires e within)) in
+    (All-weaker (λ (w : Wire). IsWithin count w.to) (Agree (told_depth depths) (end_depth c n)) (λ w there. told_target c n depths are w.to there) ws
+    (own_within c.wires count e within)) in
     ap capped (element_by_level c (told_depth depths) e)
     ∙ with_capped (own_depth c e) (own_level c e) (tests_depth (told_depth depths) ws) (tests_depth (end_depth c n) ws) tests
     ∙ sym (ap capped (element_by_level c (end_depth c n) e))

@@ -13,7 +13,7 @@ use Rattle.chain_compose.specs.declared.figures.Ending.{Ending}
 use Rattle.chain_compose.specs.Counts.{body_count, whole_lengths, closing_count, clearing_count}
 use Rattle.chain_compose.specs.Parts.{chain_of}
 use Rattle.chain_compose.specs.Tallies.{sent_in, bare_count, after_count, has_wire, all_names, lengths_at, AreFigures, AllFigures, no_figures, no_ending, told_end, AreEndings, IsNext, IsLevel, AreLevels}
-use Rattle.chain_compose.proofs.Caps.{capped_again, add_capped, mul_capped}
+use Rattle.chain_compose.proofs.Caps.{capped_again, mul_capped}
 use Rattle.chain_compose.proofs.Pushed.{one_longer, each_pushed}
 use Rattle.chain_compose.proofs.Rises.{bare_told}
 use Rattle.chain_compose.proofs.SentFirst.{clearing_bare}
@@ -55,11 +55,7 @@ clearing_told g parts names b result names_are body_is result_is =
 pub next_fixed : (cleared all own closing sent after : ℕ) (x behind whole : ℕ) → cleared ≡ capped all → x ≡ capped (sent * capped after) → behind ≡ capped (closing + x) → whole ≡ capped (own + behind)
     → capped (cleared + whole) ≡ capped (all + (own + (closing + sent * after)))
 next_fixed cleared all own closing sent after x behind whole cleared_is x_is behind_is whole_is =
-    let product = sent * after in
-    let x_same : capped x ≡ capped product = ap capped x_is ∙ capped_again (sent * capped after) ∙ mul_capped sent (capped after) sent after refl (capped_again after) in
-    let behind_same : capped behind ≡ capped (closing + product) = ap capped behind_is ∙ capped_again (closing + x) ∙ add_capped closing x closing product refl x_same in
-    let whole_same : capped whole ≡ capped (own + (closing + product)) = ap capped whole_is ∙ capped_again (own + behind) ∙ add_capped own behind own (closing + product) refl behind_same in
-    add_capped cleared whole all (own + (closing + product)) (ap capped cleared_is ∙ capped_again all) whole_same
+    omega (arith, cleared_is, x_is, behind_is, whole_is, mul_capped sent (capped after) sent after refl (capped_again after))
 
 pub more_told : (g : Gauge) (c : Connected) (n : ℕ) (fs : List Figures) (es made : List Ending) → AreWithin (length c.elements) c.wires → AreEndings g c n es
     → AllFigures g c (length c.elements) fs → length made ≡ length c.elements
@@ -79,9 +75,9 @@ entry_told g c fs es f x y z result within are figures some is x_is y_is z_is re
     let after = after_count g (told_end g es) (wires_of c.wires 0) in
     let read = f.reads * field_length MetaPort in
     let own : AreFigures g c 0 f = subst (λ (k : Figures). AreFigures g c 0 k) is (figures.each 0 some) in
-    let y_same : capped y ≡ capped (f.sent * after) = ap capped y_is ∙ capped_again (f.sent * capped after) ∙ mul_capped f.sent (capped after) f.sent after refl (capped_again after) in
-    let z_same : capped z ≡ capped (f.own + read) = ap capped z_is ∙ capped_again (f.own + x) ∙ add_capped f.own x f.own read refl (ap capped x_is ∙ capped_again read) in
-    result_is ∙ add_capped z y (f.own + read) (f.sent * after) z_same y_same ∙ whole_told g c es within are f own
+    let product = mul_capped f.sent (capped after) f.sent after refl (capped_again after) in
+    let same : result ≡ capped ((f.own + read) + f.sent * after) = omega (arith, x_is, y_is, z_is, result_is, product) in
+    same ∙ whole_told g c es within are f own
 
 pub no_levels : (g : Gauge) (c : Connected) → AreLevels g c 0 []
 no_levels g c = record { many = refl; each = λ n below. absurd (omega (arith, below)) }

@@ -1,5 +1,6 @@
 -- The first element of which something holds.
-use Rattle.std.proofs.Common.{◌≡◌, ◌<◌, ◌≤◌, ◌⊎◌, inl, inr, ℕ, zero, suc, ◌+◌, ◌||◌, Bool, true, false, List, length, map, slice_index_or, refl, sym, ap, subst, ◌∙◌, arith, true≢false}
+use Rattle.std.proofs.Common.{◌≡◌, ◌<◌, ◌≤◌, inl, inr, ℕ, zero, suc, ◌+◌, Bool, true, false, List, length, map, slice_index_or, sym, ap, subst, ◌∙◌, arith, true≢false}
+use Rattle.std.proofs.lemmas.Bool.{or_from, or_left, or_right}
 use Rattle.std.proofs.lemmas.List.{length-map}
 use Rattle.element_lang.specs.declared.tree.Middlebox.{Middlebox}
 use Rattle.element_lang.specs.declared.tree.Stmt.{Stmt}
@@ -10,49 +11,26 @@ use Rattle.element_chain.specs.Laws.{any_uses_bytes}
 use Rattle.chain_compose.specs.Refusals.{ReadsBehind, IsFirst}
 use Rattle.chain_compose.specs.Reach.{some_below}
 use Rattle.chain_compose.proofs.Trees.{tree_at}
+use Rattle.lemmas.proofs.Numbers.{below_suc}
 
 -- ## numbers below another
 -- it holds of none
 pub none_more : (P : ℕ → Type 0) (i : ℕ) → ((e : ℕ) → e < i → P e → ⊥) → (P i → ⊥) → (e : ℕ) → e < i + 1 → P e → ⊥
 none_more P i below here e lt holds =
-    elim (split e i (omega (arith, lt))) [ inl low ↦ below e low holds | inr same ↦ here (subst P same holds) ]
-  where
-    split : (a b : ℕ) → a < suc b → (a < b) ⊎ (a ≡ b)
-    split zero zero lt = inr refl
-    split zero (suc b) lt = inl (omega arith)
-    split (suc a) zero lt = absurd (omega (arith, lt))
-    split (suc a) (suc b) lt = elim (split a b (omega (arith, lt))) [ inl low ↦ inl (omega (arith, low)) | inr same ↦ inr (ap suc same) ]
+    elim (below_suc e i (omega (arith, lt))) [ inl low ↦ below e low holds | inr same ↦ here (subst P same holds) ]
 
 -- as tests
 pub some_at : (n : ℕ) (holds : ℕ → Bool) (i : ℕ) → i < n → holds i ≡ true → some_below n holds ≡ true
 some_at zero holds i lt h = absurd (omega (arith, lt))
-some_at (suc n) holds i lt h = elim (split i n lt) [
-  | inl low ↦ either_left (some_below n holds) (holds n) (some_at n holds i low h)
-  | inr same ↦ either_right (some_below n holds) (holds n) (ap holds (sym same) ∙ h)
+some_at (suc n) holds i lt h = elim (below_suc i n lt) [
+  | inl low ↦ or_left (some_below n holds) (holds n) (some_at n holds i low h)
+  | inr same ↦ or_right (some_below n holds) (holds n) (ap holds (sym same) ∙ h)
 ]
-  where
-    split : (a b : ℕ) → a < suc b → (a < b) ⊎ (a ≡ b)
-    split zero zero lt = inr refl
-    split zero (suc b) lt = inl (omega arith)
-    split (suc a) zero lt = absurd (omega (arith, lt))
-    split (suc a) (suc b) lt = elim (split a b (omega (arith, lt))) [ inl low ↦ inl (omega (arith, low)) | inr same ↦ inr (ap suc same) ]
-
-    either_left : (a b : Bool) → a ≡ true → (a || b) ≡ true
-    either_left true b h = refl
-    either_left false b h = absurd (true≢false (sym h))
-
-    either_right : (a b : Bool) → b ≡ true → (a || b) ≡ true
-    either_right true b h = refl
-    either_right false b h = h
 
 pub none_so_far : (holds : ℕ → Bool) (i : ℕ) → some_below i holds ≡ false → holds i ≡ false → some_below (i + 1) holds ≡ false
 none_so_far holds i below here =
     let next : i + 1 ≡ suc i = omega arith in
-    ap (λ (n : ℕ). some_below n holds) next ∙ neither (some_below i holds) (holds i) below here
-  where
-    neither : (a b : Bool) → a ≡ false → b ≡ false → (a || b) ≡ false
-    neither true b h k = h
-    neither false b h k = k
+    ap (λ (n : ℕ). some_below n holds) next ∙ or_from (some_below i holds) (holds i) below here
 
 -- ## elements that read bytes
 reads_of : (ms : List Middlebox) (e : ℕ) (m : Middlebox) (b : List Stmt) (r : Bool) → e < length ms → m ≡ slice_index_or ms e m → b ≡ m.body.items → r ≡ any_uses_bytes (body_tree b)

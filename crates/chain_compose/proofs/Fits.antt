@@ -1,6 +1,7 @@
 -- Chains that can be composed.
-use Rattle.std.proofs.Common.{◌≡◌, ◌<◌, ◌≤◌, ◌^◌, ℕ, zero, suc, ◌&&◌, Bool, true, false, IsTrue, List, [], ◌∷◌, length, map, refl, sym, subst, arith, true≢false}
+use Rattle.std.proofs.Common.{◌≡◌, ◌<◌, ◌≤◌, ◌^◌, ℕ, zero, suc, Bool, true, false, IsTrue, List, [], ◌∷◌, length, map, refl, sym, subst, arith}
 use Rattle.std.specs.List.{All, list_all}
+use Rattle.std.proofs.lemmas.Bool.{and_from}
 use Rattle.std.proofs.lemmas.List.{length-map}
 use Rattle.std.proofs.lemmas.List.Elements.{All-head, All-tail}
 use Rattle.element_lang.specs.declared.tree.Middlebox.{Middlebox}
@@ -24,11 +25,7 @@ at_each P (m ∷ ms) all (suc e) lt = at_each P ms (All-tail (λ (k : Middlebox)
 
 pub all_good : (ms : List Middlebox) → All (λ (m : Middlebox). IsTrue (is_good (tree m))) ms → list_all (λ (m : Middlebox). is_good (tree m)) ms ≡ true
 all_good [] all = refl
-all_good (m ∷ ms) all = both (is_good (tree m)) _ (All-head (λ (k : Middlebox). IsTrue (is_good (tree k))) m ms all) (all_good ms (All-tail (λ (k : Middlebox). IsTrue (is_good (tree k))) m ms all))
-  where
-    both : (a b : Bool) → a ≡ true → b ≡ true → (a && b) ≡ true
-    both true b h k = k
-    both false b h k = absurd (true≢false (sym h))
+all_good (m ∷ ms) all = and_from (is_good (tree m)) _ (All-head (λ (k : Middlebox). IsTrue (is_good (tree k))) m ms all) (all_good ms (All-tail (λ (k : Middlebox). IsTrue (is_good (tree k))) m ms all))
 
 none_uses : (ms : List Middlebox) (wires : List Wire) → NoneReads (connected ms wires) → (e : ℕ) → 0 < e → (b : Bool) → any_uses_bytes (element_at (map tree ms) e).body ≡ b → any_uses_bytes (element_at (map tree ms) e).body ≡ false
 none_uses ms wires none e behind false is = is

@@ -1,7 +1,6 @@
 -- What each gauge counts.
 use Rattle.std.proofs.Common.{◌≡◌, ℕ, ◌*◌, ◌++◌, length, refl, ap, arith, length-append}
 use Rattle.element_lang.specs.Sizes.{writes_of, writes_in}
-use Rattle.element_lang.specs.Tree as trees
 use Rattle.element_lang.specs.Tree.{StmtTree, BodyTree}
 use Rattle.element_lang.specs.Tree.StmtTree.{choose, repeat}
 use Rattle.element_lang.specs.Tree.BodyTree.{done, stmt}

@@ -1,9 +1,8 @@
 -- Where bytes aren't counted, the input doesn't matter.
 use Rattle.std.proofs.Common.{◌≡◌, ◌≢◌, ℕ, zero, suc, ◌+◌, ◌*◌, ◌<◌, List, [], ◌∷◌, length, refl, ap, ◌∙◌, arith, Some}
-use Rattle.element_lang.specs.Tree as trees
 use Rattle.element_lang.specs.Tree.{ExprTree, StmtTree, BodyTree}
 use Rattle.element_lang.specs.Tree.ExprTree.{lit}
-use Rattle.element_lang.specs.Tree.StmtTree.{let_local, assign, set_field, look, put, del, choose, repeat, send}
+use Rattle.element_lang.specs.Tree.StmtTree.{let_local, choose, repeat, send}
 use Rattle.element_lang.specs.Tree.BodyTree.{done, stmt}
 use Rattle.element_print.specs.Lengths.{Lengths, capped}
 use Rattle.element_chain.specs.declared.chain.Wire.{Wire}
@@ -16,26 +15,19 @@ use Rattle.chain_compose.specs.declared.gauge.Gauge.TheVariants.{Statements, Wri
 use Rattle.chain_compose.specs.Counts.{weight, turns, placed_stmt_count, placed_count, whole_lengths, own_lengths, tests_count, sent_count, closing_count, clearing_count, end_count}
 use Rattle.chain_compose.specs.Tallies.{told, AreLevels}
 
+of_gauge : (g : Gauge) → g ≢ Bytes → (P : Gauge → Type 0) → P Statements → P Writes → P Locals → P Uses → P g
+of_gauge Statements other P s w l u = s
+of_gauge Writes other P s w l u = w
+of_gauge Locals other P s w l u = l
+of_gauge Uses other P s w l u = u
+of_gauge Bytes other P s w l u = absurd (other refl)
+
 module _ (g : Gauge) (unread : g ≢ Bytes) where
   plain_weight : (l m : Lengths) (s : StmtTree) → weight g l s ≡ weight g m s
-  plain_weight l m s = by_gauge g unread
-    where
-      by_gauge : (k : Gauge) → k ≢ Bytes → weight k l s ≡ weight k m s
-      by_gauge Statements other = refl
-      by_gauge Writes other = refl
-      by_gauge Locals other = refl
-      by_gauge Uses other = refl
-      by_gauge Bytes other = absurd (other refl)
+  plain_weight l m s = of_gauge g unread (λ k. weight k l s ≡ weight k m s) refl refl refl refl
 
   plain_out : (l : Lengths) (i j : ℕ) → weight g l (send (lit i 8)) ≡ weight g l (send (lit j 8))
-  plain_out l i j = by_gauge g unread
-    where
-      by_gauge : (k : Gauge) → k ≢ Bytes → weight k l (send (lit i 8)) ≡ weight k l (send (lit j 8))
-      by_gauge Statements other = refl
-      by_gauge Writes other = refl
-      by_gauge Locals other = refl
-      by_gauge Uses other = refl
-      by_gauge Bytes other = absurd (other refl)
+  plain_out l i j = of_gauge g unread (λ k. weight k l (send (lit i 8)) ≡ weight k l (send (lit j 8))) refl refl refl refl
 
   module _ (l m : Lengths) (a b : ExprTree → ℕ) (each : (port : ExprTree) → a port ≡ b port) where
     mutual
@@ -46,13 +38,7 @@ module _ (g : Gauge) (unread : g ≢ Bytes) where
           let inner = ap (λ (k : ℕ). turns g count * k) (plain_body body) in
           omega (arith, plain_weight l m (repeat index count body), inner)
       plain_stmt (send port) = each port
-      plain_stmt (let_local x value) = plain_weight l m (let_local x value)
-      plain_stmt (assign x value) = plain_weight l m (assign x value)
-      plain_stmt (set_field f value) = plain_weight l m (set_field f value)
-      plain_stmt (look found into object keys) = plain_weight l m (look found into object keys)
-      plain_stmt (put ok object keys values) = plain_weight l m (put ok object keys values)
-      plain_stmt (del was object keys) = plain_weight l m (del was object keys)
-      plain_stmt trees.drop = plain_weight l m trees.drop
+      plain_stmt s = plain_weight l m s
 
       plain_body : (b' : BodyTree) → placed_count g l a b' ≡ placed_count g m b b'
       plain_body done = refl

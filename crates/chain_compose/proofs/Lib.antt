@@ -2,6 +2,7 @@ pub mod Trees
 pub mod Placing
 pub mod RoutesAt
 pub mod Below
+pub mod SeenFields
 pub mod Counted
 pub mod Caps
 pub mod Rises

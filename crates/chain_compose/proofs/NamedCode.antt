@@ -3,7 +3,7 @@ use Rattle.std.proofs.Common.{◌≡◌, ◌<◌, ◌≤◌, ℕ, zero, suc, ◌
 use Rattle.std.proofs.lemmas.List.{take_more, take_all, length-map}
 use Rattle.std.proofs.lemmas.Bool.{cases_lt}
 use Rattle.std.specs.List.{list_all, All}
-use Rattle.std.proofs.lemmas.List.Elements.{All-weaker, All-head, All-tail}
+use Rattle.std.proofs.lemmas.List.Elements.{All-head, All-tail}
 use Rattle.element_print.specs.Lengths.{capped}
 use Rattle.element_lang.specs.Rules.{is_good, is_good_body}
 use Rattle.element_lang.specs.Tree.{BodyTree}
@@ -25,7 +25,7 @@ use Rattle.chain_compose.specs.Counts.{used_in, end_count}
 use Rattle.chain_compose.specs.Tallies.{told}
 use Rattle.chain_compose.specs.Parts.{chain_of}
 use Rattle.chain_compose.specs.NamedFrom.{is_from, Spans, Namings, tests_span, tests_from, Naming, stepped, all_stepped, started, own_steps, body_steps, element_from, end_from, count_from, AreTold, IsTally}
-use Rattle.chain_compose.proofs.RoutesAt.{wires_all, routes_at}
+use Rattle.chain_compose.proofs.RoutesAt.{own_within, own_wires}
 use Rattle.chain_compose.specs.SendLevels.{has_wires}
 use Rattle.chain_compose.proofs.NamedSteps.{run_append}
 use Rattle.chain_compose.proofs.NamedRange.{counts_one, counts_none}
@@ -111,14 +111,6 @@ all_good parts = record { each = at_each parts.classes.now parts.good }
     at_each (m ∷ ms) h zero = good_body_of (tree m) (and_first (is_good (tree m)) (list_all (λ (k : Middlebox). is_good (tree k)) ms) h)
     at_each (m ∷ ms) h (suc e) = at_each ms (and_second (is_good (tree m)) (list_all (λ (k : Middlebox). is_good (tree k)) ms) h) e
 
--- wires lead to elements that are there
-abbrev Within : ℕ → Wire → Type 0
-Within count w = (w.from < count) × IsWithin count w.to
-
-pub own_within : (wires : List Wire) (count e : ℕ) → AreWithin count wires → All (λ (w : Wire). IsWithin count w.to) (wires_of wires e)
-own_within wires count e all =
-    All-weaker (Within count) (λ (w : Wire). IsWithin count w.to) (λ w h. h.1) (wires_of wires e) (wires_all (Within count) wires e all)
-
 -- ## in the code
 -- an element after a wire, which is gone through
 pub walked_end : (c : Connected) (least levels e input before exact count : ℕ) → least ≤ 2 ^ 64 - 1 → before < least → before ≡ capped exact → 0 < levels
@@ -164,15 +156,11 @@ pub told_after : (g : Gauge) (c : Connected) (count : ℕ) (table : List (List �
 told_after g c count table levels e input t all fits there is =
     all.each levels e input fits (subst (IsWithin count) is there) ∙ sym (ap (λ (u : Target). capped (end_count g c levels u input)) is)
 
--- the wires of an element, and where one of them leads
-pub wires_told : (parts : Parts) (e : ℕ) (wires : List Wire) → e < length parts.classes.now → wires ≡ slice_index_or parts.routes.now e [] → wires ≡ wires_of (chain_of parts).wires e
-wires_told parts e wires there is =
-    is ∙ ap (λ (r : List (List Wire)). slice_index_or r e []) parts.routed ∙ routes_at (chain_of parts).wires (length parts.classes.now) e there
-
+-- where the wires of an element lead
 pub wires_within : (parts : Parts) (e : ℕ) (wires : List Wire) → e < length parts.classes.now → wires ≡ slice_index_or parts.routes.now e [] → AreWithin (length parts.classes.now) parts.chain.now.wires
     → All (λ (w : Wire). IsWithin (length parts.classes.now) w.to) wires
 wires_within parts e wires there is within =
-    subst (All (λ (w : Wire). IsWithin (length parts.classes.now) w.to)) (sym (wires_told parts e wires there is)) (own_within parts.chain.now.wires (length parts.classes.now) e within)
+    subst (All (λ (w : Wire). IsWithin (length parts.classes.now) w.to)) (sym (own_wires parts e wires there is)) (own_within parts.chain.now.wires (length parts.classes.now) e within)
 
 pub within_at : (count : ℕ) (ws : List Wire) (i : ℕ) (d : Wire) → All (λ (w : Wire). IsWithin count w.to) ws → i < length ws → IsWithin count (slice_index_or ws i d).to
 within_at count [] i d all lt = absurd (omega (arith, lt))

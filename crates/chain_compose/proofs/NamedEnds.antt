@@ -1,7 +1,7 @@
 -- How often locals are named in the whole, and where that is told by tables alone.
-use Rattle.std.proofs.Common.{◌≡◌, ◌<◌, ◌≤◌, ℕ, zero, suc, ◌+◌, Bool, true, false, cond, List, [], length, Option, Some, None, refl, sym, ap, ◌∙◌, arith}
+use Rattle.std.proofs.Common.{◌≡◌, ◌≤◌, ℕ, zero, suc, ◌+◌, Bool, true, false, cond, List, [], length, Option, Some, None, refl, sym, ap, ◌∙◌, arith}
 use Rattle.std.specs.List.{filter}
-use Rattle.std.proofs.lemmas.List.Elements.{All-nil}
+use Rattle.std.proofs.lemmas.Bool.{true≢false}
 use Rattle.packet_fields.specs.Table.{all_fields}
 use Rattle.element_lang.specs.Tree.{BodyTree}
 use Rattle.element_lang.specs.Tree.StmtTree.{drop}
@@ -15,8 +15,9 @@ use Rattle.chain_compose.specs.declared.gauge.Gauge.TheVariants.{Locals, Uses}
 use Rattle.chain_compose.specs.Counts.{used_in, end_count, element_count}
 use Rattle.chain_compose.specs.SendLevels.{has_wires}
 use Rattle.chain_compose.specs.NamedFrom.{count_from, Spans, Namings, Naming, all_stepped, started, own_steps, element_from, end_from}
+use Rattle.chain_compose.proofs.Widened.{ends_widened}
 use Rattle.chain_compose.proofs.NamedSteps.{used_followed, at, body_run, AreEndsTold, sent_run}
-use Rattle.chain_compose.proofs.NamedTotals.{steps_next, locals_of_element, uses_of_element, clearing_from, no_clearing_locals, no_clearing_uses, no_closing_locals, no_closing_uses}
+use Rattle.chain_compose.proofs.NamedTotals.{locals_of_element, uses_of_element, clearing_from, no_clearing_uses, no_closing_uses}
 use Rattle.chain_compose.proofs.NamedRange.{AreKnown, known_body, none_yet, all_count, none_counts}
 
 closed_from : (least : ℕ) (b : Bool) (a : BodyTree) → count_from least (used_in (cond b a (followed a (one drop)))) ≡ count_from least (used_in a)
@@ -37,20 +38,6 @@ element_run c least end span from told port e widths =
 
 -- an element behind a wire, where it is told of those behind it
 module _ (c : Connected) (least n : ℕ) (told : AreEndsTold least (ends_within c n) (end_count Locals c n) (end_from c least n)) where
-  next_wide : (t : Target) (input : ℕ) (widths : List ℕ) → length (ends_within c (suc n) t input widths).widths ≡ length widths + end_count Locals c (suc n) t input
-  next_wide Out input widths = omega arith
-  next_wide (Element e) input widths =
-      let span = end_count Locals c n in
-      let run = element_run c least (ends_within c n) span (end_from c least n) told (Some input) e widths in
-      omega (
-        arith,
-        ap (λ (k : Naming). k.next) run,
-        steps_next least span (end_from c least n) (wires_of c.wires e) (own_steps c e) (started (length widths)),
-        locals_of_element c span (Some input) e,
-        no_clearing_locals c,
-        no_closing_locals (element_at c.elements e).body,
-      )
-
   next_often : (t : Target) (input : ℕ) (widths : List ℕ) → count_from least (used_in (ends_within c (suc n) t input widths).body) ≡ end_from c least (suc n) t input (length widths)
   next_often Out input widths = refl
   next_often (Element e) input widths =
@@ -60,17 +47,13 @@ module _ (c : Connected) (least n : ℕ) (told : AreEndsTold least (ends_within 
       let run = element_run c least (ends_within c n) (end_count Locals c n) (end_from c least n) told (Some input) e widths in
       omega (arith, used_followed least (clearing fs) (closed m.body own.body), clearing_from least fs, closed_from least (ends_always m.body) own.body, ap (λ (k : Naming). k.count) run)
 
-last_wide : (c : Connected) (t : Target) (input : ℕ) (widths : List ℕ) → length (ends_within c zero t input widths).widths ≡ length widths + end_count Locals c zero t input
-last_wide c Out input widths = omega arith
-last_wide c (Element e) input widths = omega arith
-
 last_often : (c : Connected) (least : ℕ) (t : Target) (input : ℕ) (widths : List ℕ) → count_from least (used_in (ends_within c zero t input widths).body) ≡ end_from c least zero t input (length widths)
 last_often c least Out input widths = refl
 last_often c least (Element e) input widths = refl
 
 ends_told : (c : Connected) (least n : ℕ) → AreEndsTold least (ends_within c n) (end_count Locals c n) (end_from c least n)
-ends_told c least zero = record { wide = last_wide c; often = last_often c least }
-ends_told c least (suc n) = record { wide = next_wide c least n (ends_told c least n); often = next_often c least n (ends_told c least n) }
+ends_told c least zero = record { wide = ends_widened c zero; often = last_often c least }
+ends_told c least (suc n) = record { wide = ends_widened c (suc n); often = next_often c least n (ends_told c least n) }
 
 -- the whole
 pub whole_from : (c : Connected) (least : ℕ)
@@ -87,7 +70,7 @@ pub record AreGood (c : Connected) : Type 0 where
 pub own_known : (c : Connected) → AreGood c → (e : ℕ) → AreKnown 0 (own_steps c e)
 own_known c good e =
     let m = element_at c.elements e in
-    known_body m (has_wires (wires_of c.wires e)) [] 0 m.body (All-nil (λ (y : ℕ). y < 0)) (good.each e)
+    known_body m (has_wires (wires_of c.wires e)) [] 0 m.body (λ y none. absurd (true≢false (sym none))) (good.each e)
 
 -- where all numbers are large enough
 pub all_named : (c : Connected) → AreGood c → (least n : ℕ) (t : Target) (input before : ℕ) → least ≤ before → end_from c least n t input before ≡ end_count Uses c n t input

@@ -1,22 +1,24 @@
 -- A copy of an element that keeps the rules names no local but those that it declares, and those after it.
-use Rattle.std.proofs.Common.{◌≡◌, ◌<◌, ◌≤◌, ℕ, zero, suc, ◌+◌, Bool, true, false, cond, ◌==◌, ◌⊎◌, inl, inr, List, [], ◌∷◌, ◌++◌, length, slice_index, refl, sym, ap, subst, ◌∙◌, arith, true≢false, nat_le}
-use Rattle.std.specs.List.{All, list_any}
-use Rattle.std.proofs.lemmas.Bool.{eqb-true, le-leb, leb-true, or_cases}
+use Rattle.std.proofs.Common.{◌≡◌, ◌<◌, ◌≤◌, ℕ, suc, ◌+◌, Bool, true, false, cond, inl, inr, List, [], ◌∷◌, ◌++◌, length, slice_index, refl, sym, ap, subst, ◌∙◌, arith, nat_le}
+use Rattle.std.proofs.lemmas.Bool.{le-leb, leb-true}
 use Rattle.std.proofs.lemmas.List.{length_push, get_or_append_left, get_or_push}
-use Rattle.std.proofs.lemmas.List.Elements.{All-nil, All-cons, All-head, All-tail, All-weaker}
 use Rattle.element_lang.specs.Tree.{ExprTree, Exprs, StmtTree, BodyTree, Tree}
 use Rattle.element_lang.specs.Tree.ExprTree.{local, byte, shift, apply}
 use Rattle.element_lang.specs.Tree.Exprs.{no_expr, expr}
 use Rattle.element_lang.specs.Tree.StmtTree.{let_local, assign, set_field, look, put, del, choose, repeat, send, drop}
 use Rattle.element_lang.specs.Tree.BodyTree.{done, stmt}
-use Rattle.element_lang.specs.Rules.{is_good_expr, are_good_exprs, is_good_stmt, is_good_body, counted_from, declared_in, declared_by, binds}
+use Rattle.element_lang.specs.Rules.{is_good_expr, are_good_exprs, is_good_stmt, is_good_body, declared_in, declared_by, binds}
 use Rattle.element_lang.specs.Widths.{local_widths}
 use Rattle.element_chain.specs.declared.chain.Wire.{Wire}
 use Rattle.chain_compose.specs.declared.name_steps.Step.{Step}
 use Rattle.chain_compose.specs.declared.name_steps.Step.TheVariants.{Name, Declare, Send}
 use Rattle.chain_compose.specs.Counts.{used_by_expr, used_by_exprs}
 use Rattle.chain_compose.specs.NamedFrom.{is_from, named, all_declared_steps, send_steps, stmt_steps, body_steps, Spans, Namings, tests_span, tests_from, Naming, stepped, all_stepped}
+use Rattle.element_chain.proofs.Alike.{IsIn}
+use Rattle.element_chain.proofs.Bodies.{bound_within}
+use Rattle.element_chain.proofs.Steps.{counted_within}
 use Rattle.chain_compose.proofs.NamedTotals.{steps_span, steps_uses}
+use Rattle.lemmas.proofs.Numbers.{below_suc}
 use Rattle.lemmas.proofs.Tests.{and_first, and_second}
 
 -- ## the steps of an element
@@ -69,36 +71,10 @@ known_names_append : (d : ℕ) (xs ys : List ℕ) → AreKnown d (named xs) → 
 known_names_append d [] ys first rest = rest
 known_names_append d (x ∷ xs) ys first rest = (first.0, known_names_append d xs ys first.1 rest)
 
-abbrev Below : ℕ → List ℕ → Type 0
-Below d = All (λ (y : ℕ). y < d)
-
-below_more : (d e : ℕ) (xs : List ℕ) → d ≤ e → Below d xs → Below e xs
-below_more d e xs le all = All-weaker (λ (y : ℕ). y < d) (λ (y : ℕ). y < e) (λ y lt. omega (arith, lt, le)) xs all
-
-in_scope : (d x : ℕ) (scope : List ℕ) → Below d scope → list_any (λ (y : ℕ). y == x) scope ≡ true → x < d
-in_scope d x [] below h = absurd (true≢false (sym h))
-in_scope d x (y ∷ ys) below h =
-    elim (or_cases (y == x) (list_any (λ (z : ℕ). z == x) ys) h) [
-      | inl here ↦ omega (arith, eqb-true y x here, All-head (λ (z : ℕ). z < d) y ys below)
-      | inr later ↦ in_scope d x ys (All-tail (λ (z : ℕ). z < d) y ys below) later
-    ]
-
-below_counted : (next : ℕ) (xs : List ℕ) → counted_from next xs ≡ true → Below (next + length xs) xs
-below_counted next [] h = All-nil (λ (y : ℕ). y < next + 0)
-below_counted next (x ∷ xs) h =
-    let is : x ≡ next = eqb-true x next (and_first (x == next) (counted_from (next + 1) xs) h) in
-    let rest = below_counted (next + 1) xs (and_second (x == next) (counted_from (next + 1) xs) h) in
-    All-cons (λ (y : ℕ). y < next + suc (length xs)) x xs (omega (arith, is)) (below_more (next + 1 + length xs) (next + suc (length xs)) xs (omega arith) rest)
-
-below_append : (d : ℕ) (xs ys : List ℕ) → Below d xs → Below d ys → Below d (xs ++ ys)
-below_append d [] ys first rest = rest
-below_append d (x ∷ xs) ys first rest =
-    All-cons (λ (y : ℕ). y < d) x (xs ++ ys) (All-head (λ (y : ℕ). y < d) x xs first) (below_append d xs ys (All-tail (λ (y : ℕ). y < d) x xs first) rest)
-
-module _ (widths scope : List ℕ) (d : ℕ) (below : Below d scope) where
+module _ (widths scope : List ℕ) (d : ℕ) (below : (y : ℕ) → IsIn y scope → y < d) where
   mutual
     known_expr : (e : ExprTree) → is_good_expr widths scope e ≡ true → AreKnown d (named (used_by_expr e))
-    known_expr (local x) h = (in_scope d x scope below h, tt)
+    known_expr (local x) h = (below x h, tt)
     known_expr (byte index) h = known_expr index (and_first _ _ h)
     known_expr (shift op by arg) h = known_expr arg (and_second _ _ h)
     known_expr (apply op width args) h = known_exprs args (and_first _ _ h)
@@ -109,59 +85,35 @@ module _ (widths scope : List ℕ) (d : ℕ) (below : Below d scope) where
     known_exprs (expr e es) h =
         known_names_append d (used_by_expr e) (used_by_exprs es) (known_expr e (and_first _ _ h)) (known_exprs es (and_second _ _ h))
 
-one_more : (n : ℕ) → n + 1 ≡ suc n
-one_more n = omega arith
-
-at_most : (n k : ℕ) → n ≤ n + k
-at_most n k = omega arith
-
 module _ (m : Tree) (wired : Bool) where
   known_send : (d : ℕ) (port : ExprTree) (b : Bool) → AreKnown d (named (used_by_expr port)) → AreKnown d (send_steps b port)
   known_send d port true known = known_after d (used_by_expr port) (Send ∷ []) known tt
   known_send d port false known = tt
 
   declares_send : (port : ExprTree) (b : Bool) → declares (send_steps b port) ≡ 0
-  declares_send port true = omega (arith, declares_append (named (used_by_expr port)) (Send ∷ []), declares_named (used_by_expr port))
+  declares_send port true = simp (declares_append, declares_named)
   declares_send port false = refl
-
-  declares_after : (xs : List ℕ) (ss : List Step) → declares (named xs ++ ss) ≡ declares ss
-  declares_after xs ss = omega (arith, declares_append (named xs) ss, declares_named xs)
 
   mutual
     declares_stmt : (s : StmtTree) → declares (stmt_steps wired s) ≡ declared_in s
-    declares_stmt (let_local x value) = declares_after (used_by_expr value) (Declare ∷ [])
-    declares_stmt (assign x value) = declares_named (used_by_expr value)
-    declares_stmt (set_field f value) = declares_named (used_by_expr value)
-    declares_stmt (look found into object keys) = omega (arith, declares_after (used_by_exprs keys) (Declare ∷ all_declared_steps into), declares_all into)
-    declares_stmt (put ok object keys values) =
-        declares_after (used_by_exprs keys) (named (used_by_exprs values) ++ Declare ∷ []) ∙ declares_after (used_by_exprs values) (Declare ∷ [])
-    declares_stmt (del was object keys) = declares_after (used_by_exprs keys) (Declare ∷ [])
-    declares_stmt (choose test first second) =
-        omega (arith, declares_after (used_by_expr test) (body_steps wired first ++ body_steps wired second), declares_append (body_steps wired first) (body_steps wired second), declares_body first, declares_body second)
+    declares_stmt (look found into object keys) = simp (declares_append, declares_named) (omega (arith, declares_all into))
+    declares_stmt (choose test first second) = simp (declares_append, declares_named) (omega (arith, declares_body first, declares_body second))
     declares_stmt (repeat index count body) = omega (arith, declares_body body)
     declares_stmt (send port) = declares_send port wired
     declares_stmt drop = refl
+    declares_stmt _ = simp (declares_append, declares_named) (omega arith)
 
     declares_body : (b : BodyTree) → declares (body_steps wired b) ≡ declared_by b
     declares_body done = refl
     declares_body (stmt s b) = omega (arith, declares_append (stmt_steps wired s) (body_steps wired b), declares_stmt s, declares_body b)
 
-  -- those that a statement binds are among the next
-  binds_below : (scope : List ℕ) (next : ℕ) (s : StmtTree) → is_good_stmt m scope next s ≡ true → Below (next + declared_in s) (binds s)
-  binds_below scope next (let_local x value) h = below_counted next (x ∷ []) (and_second _ _ (and_first _ _ h))
-  binds_below scope next (look found into object keys) h = below_counted next (found ∷ into) (and_second _ _ (and_first _ _ h))
-  binds_below scope next (put ok object keys values) h = below_counted next (ok ∷ []) (and_second _ _ (and_first _ _ h))
-  binds_below scope next (del was object keys) h = below_counted next (was ∷ []) (and_second _ _ (and_first _ _ h))
-  binds_below scope next (choose test first second) h = All-nil (λ (y : ℕ). y < next + (declared_by first + declared_by second))
-  binds_below scope next (repeat index count body) h = All-nil (λ (y : ℕ). y < next + suc (declared_by body))
-  binds_below scope next _ h = All-nil (λ (y : ℕ). y < next + 0)
-
   mutual
-    known_stmt : (scope : List ℕ) (next : ℕ) (s : StmtTree) → Below next scope → is_good_stmt m scope next s ≡ true → AreKnown next (stmt_steps wired s)
+    known_stmt : (scope : List ℕ) (next : ℕ) (s : StmtTree) → ((y : ℕ) → IsIn y scope → y < next) → is_good_stmt m scope next s ≡ true
+        → AreKnown next (stmt_steps wired s)
     known_stmt scope next (let_local x value) below h =
         known_after next (used_by_expr value) (Declare ∷ []) (known_expr (local_widths m) scope next below value (and_first _ _ (and_first _ _ (and_first _ _ h)))) tt
     known_stmt scope next (assign x value) below h =
-        (in_scope next x scope below (and_second _ _ (and_first _ _ h)), known_expr (local_widths m) scope next below value (and_first _ _ (and_first _ _ h)))
+        (below x (and_second _ _ (and_first _ _ h)), known_expr (local_widths m) scope next below value (and_first _ _ (and_first _ _ h)))
     known_stmt scope next (set_field f value) below h = known_expr (local_widths m) scope next below value (and_first _ _ (and_first _ _ h))
     known_stmt scope next (look found into object keys) below h =
         known_after next (used_by_exprs keys) (Declare ∷ all_declared_steps into)
@@ -179,21 +131,22 @@ module _ (m : Tree) (wired : Bool) where
         (known_expr (local_widths m) scope next below test (and_first _ _ (and_first _ _ (and_first _ _ h))))
         (known_append next (body_steps wired first) (body_steps wired second) (known_body scope next first below (and_second _ _ (and_first _ _ h)))
         (known_at (next + declared_by first) (next + declares (body_steps wired first)) (body_steps wired second) (omega (arith, declares_body first))
-        (known_body scope (next + declared_by first) second (below_more next (next + declared_by first) scope (omega arith) below) (and_second _ _ h))))
+        (known_body scope (next + declared_by first) second (λ y old. omega (arith, below y old)) (and_second _ _ h))))
     known_stmt scope next (repeat index count body) below h =
-        known_at (next + 1) (suc next) (body_steps wired body) (one_more next)
-        (known_body (index ∷ scope) (next + 1) body (below_append (next + 1) (index ∷ []) scope (below_counted next (index ∷ []) (and_second _ _ (and_first _ _ (and_first _ _ h)))) (below_more next (next + 1) scope (at_most next 1) below)) (and_second _ _ h))
+        known_at (next + 1) (suc next) (body_steps wired body) (omega arith)
+        (known_body (index ∷ scope) (next + 1) body
+        (λ y there. counted_within next (index ∷ []) scope y (and_second _ _ (and_first _ _ (and_first _ _ h))) below there) (and_second _ _ h))
     known_stmt scope next (send port) below h = known_send next port wired (known_expr (local_widths m) scope next below port (and_first _ _ h))
     known_stmt scope next drop below h = tt
 
-    pub known_body : (scope : List ℕ) (next : ℕ) (b : BodyTree) → Below next scope → is_good_body m scope next b ≡ true → AreKnown next (body_steps wired b)
+    pub known_body : (scope : List ℕ) (next : ℕ) (b : BodyTree) → ((y : ℕ) → IsIn y scope → y < next) → is_good_body m scope next b ≡ true
+        → AreKnown next (body_steps wired b)
     known_body scope next done below h = tt
     known_body scope next (stmt s b) below h =
         let good = and_first _ _ (and_first _ _ h) in
         known_append next (stmt_steps wired s) (body_steps wired b) (known_stmt scope next s below good)
         (known_at (next + declared_in s) (next + declares (stmt_steps wired s)) (body_steps wired b) (omega (arith, declares_stmt s))
-        (known_body (binds s ++ scope) (next + declared_in s) b
-        (below_append (next + declared_in s) (binds s) scope (binds_below scope next s good) (below_more next (next + declared_in s) scope (omega arith) below)) (and_second _ _ h)))
+        (known_body (binds s ++ scope) (next + declared_in s) b (λ y there. bound_within m s scope next good below y there) (and_second _ _ h)))
 
 -- ## numbers
 pub counts_one : (least n : ℕ) → least ≤ n → is_from least n ≡ 1
@@ -220,13 +173,7 @@ none_yet before n none next = record {
 }
 
 at_last : (P : ℕ → Type 0) (n x : ℕ) → x < n + 1 → ((x < n) → P x) → P n → P x
-at_last P n x lt before here = elim (is_last n x lt) [ inl less ↦ before less | inr same ↦ subst P (sym same) here ]
-  where
-    is_last : (n x : ℕ) → x < n + 1 → (x < n) ⊎ (x ≡ n)
-    is_last zero zero lt = inr refl
-    is_last zero (suc x) lt = absurd (omega (arith, lt))
-    is_last (suc n) zero lt = inl (omega arith)
-    is_last (suc n) (suc x) lt = elim (is_last n x (omega (arith, lt))) [ inl less ↦ inl (omega (arith, less)) | inr same ↦ inr (ap suc same) ]
+at_last P n x lt before here = elim (below_suc x n (omega (arith, lt))) [ inl less ↦ before less | inr same ↦ subst P (sym same) here ]
 
 declare_within : (low : ℕ) (n made : Naming) → AreWithinNext low n → made.names ≡ n.names ++ n.next ∷ [] → made.next ≡ suc n.next → AreWithinNext low made
 declare_within low n made within names next =

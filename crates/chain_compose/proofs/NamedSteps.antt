@@ -1,21 +1,19 @@
 -- What stands in the whole names locals as often as the steps of its elements do.
-use Rattle.std.proofs.Common.{◌≡◌, ℕ, suc, ◌+◌, Bool, true, false, cond, List, [], ◌∷◌, ◌++◌, length, map, slice_index, Option, Some, None, refl, sym, ap, ◌∙◌, arith, ◌==◌}
+use Rattle.std.proofs.Common.{◌≡◌, ℕ, suc, ◌+◌, Bool, List, [], ◌∷◌, ◌++◌, length, map, slice_index, Option, refl, sym, ap, ◌∙◌, arith}
 use Rattle.std.proofs.lemmas.List.{map-append, length_push}
-use Rattle.packet_fields.specs.declared.field.Field.{Field}
-use Rattle.packet_fields.specs.declared.field.Field.TheVariants.{MetaPort}
-use Rattle.packet_fields.specs.Table.{field_index}
 use Rattle.element_lang.specs.Tree.{ExprTree, Exprs, StmtTree, BodyTree}
-use Rattle.element_lang.specs.Tree.ExprTree.{lit, field, byte, shift, apply}
+use Rattle.element_lang.specs.Tree.ExprTree.{field, byte, shift, apply}
 use Rattle.element_lang.specs.Tree.Exprs.{no_expr, expr}
 use Rattle.element_lang.specs.Tree.StmtTree.{let_local, assign, set_field, look, put, del, choose, repeat, send, drop}
 use Rattle.element_lang.specs.Tree.BodyTree.{done, stmt}
 use Rattle.element_chain.specs.declared.chain.Wire.{Wire}
 use Rattle.element_chain.specs.declared.chain.Target.{Target}
-use Rattle.element_chain.specs.Compose.{followed, Numbering, Spot, Sends, Ends, seen, renamed, all_renamed, declared, all_declared, numbers, stmt_placed, body_placed, tests, sent_by}
+use Rattle.element_chain.specs.Compose.{followed, Numbering, Spot, Sends, Ends, renamed, all_renamed, declared, all_declared, numbers, stmt_placed, body_placed, tests, sent_by}
 use Rattle.chain_compose.specs.declared.name_steps.Step.{Step}
 use Rattle.chain_compose.specs.declared.name_steps.Step.TheVariants.{Declare, Send}
 use Rattle.chain_compose.specs.Counts.{used_by_expr, used_by_exprs, used_by, used_in}
 use Rattle.chain_compose.specs.SendLevels.{has_wires}
+use Rattle.chain_compose.proofs.SeenFields.{as_field}
 use Rattle.chain_compose.specs.NamedFrom.{is_from, count_from, named, all_declared_steps, send_steps, stmt_steps, body_steps, Spans, Namings, tests_span, tests_from, Naming, stepped, all_stepped}
 
 -- ## numbers
@@ -29,19 +27,10 @@ used_followed least (stmt s a) b =
     omega (arith, count_append least (used_by s) (used_in (followed a b)), used_followed least a b, count_append least (used_by s) (used_in a))
 
 -- ## names
-module _ (f : Field) (input : ℕ) where
-  unused_of : (b : Bool) → used_by_expr (cond b (lit input 8) (field f)) ≡ []
-  unused_of true = refl
-  unused_of false = refl
-
-seen_unused : (port : Option ℕ) (f : Field) → used_by_expr (seen port f) ≡ []
-seen_unused None f = refl
-seen_unused (Some input) f = unused_of f input (field_index f == field_index MetaPort)
-
 module _ (port : Option ℕ) (names : List ℕ) where
   mutual
     renamed_uses : (e : ExprTree) → used_by_expr (renamed port names e) ≡ map (slice_index names) (used_by_expr e)
-    renamed_uses (field f) = seen_unused port f
+    renamed_uses (field f) = as_field used_by_expr port f (λ input. refl)
     renamed_uses (byte index) = renamed_uses index
     renamed_uses (shift op by arg) = renamed_uses arg
     renamed_uses (apply op width args) = all_renamed_uses args

@@ -7,7 +7,7 @@ use Rattle.packet_fields.specs.declared.field.Header.TheVariants.{Meta}
 use Rattle.packet_fields.specs.Table.{row, all_fields}
 use Rattle.element_lang.specs.Rules.{ends_always}
 use Rattle.element_lang.specs.Tree.{ExprTree, StmtTree, BodyTree}
-use Rattle.element_lang.specs.Tree.StmtTree.{let_local, assign, set_field, look, put, del, choose, repeat, send, drop}
+use Rattle.element_lang.specs.Tree.StmtTree.{look, choose, repeat, send, drop}
 use Rattle.element_lang.specs.Tree.BodyTree.{done, stmt}
 use Rattle.element_print.specs.Lengths.{Lengths}
 use Rattle.element_chain.specs.declared.chain.Wire.{Wire}
@@ -16,9 +16,9 @@ use Rattle.element_chain.specs.Compose.{kept_where, clearing, wires_of, is_set}
 use Rattle.chain_compose.specs.declared.gauge.Gauge.TheVariants.{Locals, Uses}
 use Rattle.chain_compose.specs.declared.name_steps.Step.{Step}
 use Rattle.chain_compose.specs.declared.name_steps.Step.TheVariants.{Name, Declare, Send}
-use Rattle.chain_compose.specs.Counts.{used_by_expr, used_by_exprs, used_in, body_count, placed_stmt_count, placed_count, tests_count, sent_count, closing_count, clearing_count, whole_lengths, own_lengths, element_count}
+use Rattle.chain_compose.specs.Counts.{used_by_expr, used_in, body_count, placed_stmt_count, placed_count, tests_count, sent_count, closing_count, clearing_count, whole_lengths, own_lengths, element_count}
 use Rattle.chain_compose.specs.SendLevels.{has_wires}
-use Rattle.chain_compose.specs.NamedFrom.{count_from, named, all_declared_steps, send_steps, stmt_steps, body_steps, own_steps, Spans, Namings, tests_span, Naming, stepped, all_stepped}
+use Rattle.chain_compose.specs.NamedFrom.{count_from, named, all_declared_steps, send_steps, stmt_steps, body_steps, own_steps, Spans, tests_span}
 use Rattle.chain_compose.proofs.NamedSteps.{count_append}
 
 -- ## locals
@@ -28,13 +28,6 @@ steps_span span ws [] = 0
 steps_span span ws (Name x ∷ ss) = steps_span span ws ss
 steps_span span ws (Declare ∷ ss) = suc (steps_span span ws ss)
 steps_span span ws (Send ∷ ss) = suc (tests_span span ws) + steps_span span ws ss
-
-pub steps_next : (least : ℕ) (span : Spans) (from : Namings) (ws : List Wire) (ss : List Step) (n : Naming)
-    → (all_stepped least span from ws ss n).next ≡ n.next + steps_span span ws ss
-steps_next least span from ws [] n = omega arith
-steps_next least span from ws (Name x ∷ ss) n = steps_next least span from ws ss (stepped least span from ws (Name x) n)
-steps_next least span from ws (Declare ∷ ss) n = omega (arith, steps_next least span from ws ss (stepped least span from ws Declare n))
-steps_next least span from ws (Send ∷ ss) n = omega (arith, steps_next least span from ws ss (stepped least span from ws Send n))
 
 -- how often steps name a local, where it is told of the end of each wire
 abbrev pub steps_uses : Spans → List Wire → List Step → ℕ
@@ -83,12 +76,12 @@ uses_of_tests end (w ∷ ws) = omega (arith, uses_of_tests end ws)
 locals_of_sent : (l : Lengths) (end : Spans) (ws : List Wire) (port : ExprTree) → sent_count Locals l end ws port ≡ steps_span end ws (send_steps (has_wires ws) port)
 locals_of_sent l end [] port = refl
 locals_of_sent l end (w ∷ ws) port =
-    omega (arith, locals_of_tests end (w ∷ ws), span_append end (w ∷ ws) (named (used_by_expr port)) (Send ∷ []), span_named end (w ∷ ws) (used_by_expr port))
+    simp (span_append, span_named) (omega (arith, locals_of_tests end (w ∷ ws)))
 
 uses_of_sent : (l : Lengths) (end : Spans) (ws : List Wire) (port : ExprTree) → sent_count Uses l end ws port ≡ steps_uses end ws (send_steps (has_wires ws) port)
 uses_of_sent l end [] port = refl
 uses_of_sent l end (w ∷ ws) port =
-    omega (arith, uses_of_tests end (w ∷ ws), uses_append end (w ∷ ws) (named (used_by_expr port)) (Send ∷ []), uses_named end (w ∷ ws) (used_by_expr port))
+    simp (uses_append, uses_named) (omega (arith, uses_of_tests end (w ∷ ws)))
 
 module _ (l : Lengths) (end : Spans) (ws : List Wire) where
   abbrev locals_sent : ExprTree → ℕ
@@ -100,27 +93,14 @@ module _ (l : Lengths) (end : Spans) (ws : List Wire) where
   abbrev wired : Bool
   wired = has_wires ws
 
-  span_after : (xs : List ℕ) (ss : List Step) → steps_span end ws (named xs ++ ss) ≡ steps_span end ws ss
-  span_after xs ss = omega (arith, span_append end ws (named xs) ss, span_named end ws xs)
-
-  uses_after : (xs : List ℕ) (ss : List Step) → steps_uses end ws (named xs ++ ss) ≡ length xs + steps_uses end ws ss
-  uses_after xs ss = omega (arith, uses_append end ws (named xs) ss, uses_named end ws xs)
-
   mutual
     locals_of_stmt : (s : StmtTree) → placed_stmt_count Locals l locals_sent s ≡ steps_span end ws (stmt_steps wired s)
-    locals_of_stmt (let_local x value) = omega (arith, span_after (used_by_expr value) (Declare ∷ []))
-    locals_of_stmt (assign x value) = omega (arith, span_named end ws (used_by_expr value))
-    locals_of_stmt (set_field f value) = omega (arith, span_named end ws (used_by_expr value))
-    locals_of_stmt (look found into object keys) =
-        omega (arith, span_after (used_by_exprs keys) (Declare ∷ all_declared_steps into), span_declared end ws into)
-    locals_of_stmt (put ok object keys values) =
-        omega (arith, span_after (used_by_exprs keys) (named (used_by_exprs values) ++ Declare ∷ []), span_after (used_by_exprs values) (Declare ∷ []))
-    locals_of_stmt (del was object keys) = omega (arith, span_after (used_by_exprs keys) (Declare ∷ []))
-    locals_of_stmt (choose test first second) =
-        omega (arith, span_after (used_by_expr test) (body_steps wired first ++ body_steps wired second), span_append end ws (body_steps wired first) (body_steps wired second), locals_of_body first, locals_of_body second)
+    locals_of_stmt (look found into object keys) = simp (span_append, span_named) (omega (arith, span_declared end ws into))
+    locals_of_stmt (choose test first second) = simp (span_append, span_named) (omega (arith, locals_of_body first, locals_of_body second))
     locals_of_stmt (repeat index count body) = omega (arith, locals_of_body body)
     locals_of_stmt (send port) = locals_of_sent l end ws port
     locals_of_stmt drop = refl
+    locals_of_stmt _ = simp (span_append, span_named) (omega arith)
 
     pub locals_of_body : (b : BodyTree) → placed_count Locals l locals_sent b ≡ steps_span end ws (body_steps wired b)
     locals_of_body done = refl
@@ -128,19 +108,12 @@ module _ (l : Lengths) (end : Spans) (ws : List Wire) where
 
   mutual
     uses_of_stmt : (s : StmtTree) → placed_stmt_count Uses l uses_sent s ≡ steps_uses end ws (stmt_steps wired s)
-    uses_of_stmt (let_local x value) = omega (arith, uses_after (used_by_expr value) (Declare ∷ []))
-    uses_of_stmt (assign x value) = omega (arith, uses_named end ws (used_by_expr value))
-    uses_of_stmt (set_field f value) = omega (arith, uses_named end ws (used_by_expr value))
-    uses_of_stmt (look found into object keys) =
-        omega (arith, uses_after (used_by_exprs keys) (Declare ∷ all_declared_steps into), uses_declared end ws into, length-append into (used_by_exprs keys))
-    uses_of_stmt (put ok object keys values) =
-        omega (arith, uses_after (used_by_exprs keys) (named (used_by_exprs values) ++ Declare ∷ []), uses_after (used_by_exprs values) (Declare ∷ []), length-append (used_by_exprs keys) (used_by_exprs values))
-    uses_of_stmt (del was object keys) = omega (arith, uses_after (used_by_exprs keys) (Declare ∷ []))
-    uses_of_stmt (choose test first second) =
-        omega (arith, uses_after (used_by_expr test) (body_steps wired first ++ body_steps wired second), uses_append end ws (body_steps wired first) (body_steps wired second), uses_of_body first, uses_of_body second)
+    uses_of_stmt (look found into object keys) = simp (uses_append, uses_named, length-append) (omega (arith, uses_declared end ws into))
+    uses_of_stmt (choose test first second) = simp (uses_append, uses_named) (omega (arith, uses_of_body first, uses_of_body second))
     uses_of_stmt (repeat index count body) = omega (arith, uses_of_body body)
     uses_of_stmt (send port) = uses_of_sent l end ws port
     uses_of_stmt drop = refl
+    uses_of_stmt _ = simp (uses_append, uses_named, length-append) (omega arith)
 
     pub uses_of_body : (b : BodyTree) → placed_count Uses l uses_sent b ≡ steps_uses end ws (body_steps wired b)
     uses_of_body done = refl
@@ -164,16 +137,9 @@ clearing_from least (f ∷ fs) =
     let here = used_by_expr (kept_where (row f).header f (row f).width) in
     omega (arith, count_append least here (used_in (clearing fs)), ap (count_from least) (kept_uses (row f).header f (row f).width), clearing_from least fs)
 
-pub clearing_locals : (l : Lengths) (fs : List Field) → body_count Locals l (clearing fs) ≡ 0
-clearing_locals l [] = refl
-clearing_locals l (f ∷ fs) = omega (arith, clearing_locals l fs)
-
 clearing_uses : (l : Lengths) (fs : List Field) → body_count Uses l (clearing fs) ≡ 0
 clearing_uses l [] = refl
 clearing_uses l (f ∷ fs) = omega (arith, ap (length {A = ℕ}) (kept_uses (row f).header f (row f).width), clearing_uses l fs)
-
-pub no_clearing_locals : (c : Connected) → clearing_count Locals c ≡ 0
-no_clearing_locals c = clearing_locals (whole_lengths c) (filter (is_set c.elements) all_fields)
 
 pub no_clearing_uses : (c : Connected) → clearing_count Uses c ≡ 0
 no_clearing_uses c = clearing_uses (whole_lengths c) (filter (is_set c.elements) all_fields)
@@ -181,9 +147,6 @@ no_clearing_uses c = clearing_uses (whole_lengths c) (filter (is_set c.elements)
 none_either : (b : Bool) → ◌≡◌ {A = ℕ} (cond b 0 0) 0
 none_either true = refl
 none_either false = refl
-
-pub no_closing_locals : (b : BodyTree) → closing_count Locals b ≡ 0
-no_closing_locals b = none_either (ends_always b)
 
 pub no_closing_uses : (b : BodyTree) → closing_count Uses b ≡ 0
 no_closing_uses b = none_either (ends_always b)

@@ -1,7 +1,5 @@
 -- The bytes of a body are those of the same body where locals have empty names, and those of these names.
 use Rattle.std.proofs.Common.{◌≡◌, ◌≤◌, ℕ, ◌+◌, List, [], ◌∷◌, ◌++◌, length, arith, length-append}
-use Rattle.element_lang.specs.declared.mark.Mark.TheVariants as marks
-use Rattle.element_lang.specs.Tree as trees
 use Rattle.element_lang.specs.Tree.{ExprTree, Exprs, StmtTree, BodyTree}
 use Rattle.element_lang.specs.Tree.ExprTree.{byte, shift, apply}
 use Rattle.element_lang.specs.Tree.Exprs.{no_expr, expr}
@@ -62,27 +60,11 @@ module _ (l : Lengths) where
 
   mutual
     stmt_apart : (s : StmtTree) → stmt_length l s ≡ stmt_length bare s + names_sum l.locals (used_by s)
-    stmt_apart (let_local x value) = head_apart (let_local x value)
-    stmt_apart (assign x value) = head_apart (assign x value)
-    stmt_apart (set_field f value) = head_apart (set_field f value)
-    stmt_apart (look found into object keys) = head_apart (look found into object keys)
-    stmt_apart (put ok object keys values) = head_apart (put ok object keys values)
-    stmt_apart (del was object keys) = head_apart (del was object keys)
     stmt_apart (choose cond first second) =
-        let s : StmtTree = choose cond first second in
-        omega (
-          arith,
-          head_apart s,
-          body_apart first,
-          body_apart second,
-          sum_append l.locals (used_by_head s) (used_in first ++ used_in second),
-          sum_append l.locals (used_in first) (used_in second),
-        )
+        simp sum_append (omega (arith, head_apart (choose cond first second), body_apart first, body_apart second))
     stmt_apart (repeat index count body) =
-        let s : StmtTree = repeat index count body in
-        omega (arith, head_apart s, body_apart body, sum_append l.locals (used_by_head s) (used_in body))
-    stmt_apart (send port) = head_apart (send port)
-    stmt_apart trees.drop = head_apart trees.drop
+        simp sum_append (omega (arith, head_apart (repeat index count body), body_apart body))
+    stmt_apart s = head_apart s
 
     pub body_apart : (b : BodyTree) → body_length l b ≡ body_length bare b + names_sum l.locals (used_in b)
     body_apart done = omega arith
@@ -95,16 +77,9 @@ declares_used _ = omega arith
 
 mutual
   stmt_used : (l : Lengths) (s : StmtTree) → stmt_count Locals l s ≤ stmt_count Uses l s
-  stmt_used l (let_local x value) = declares_used (let_local x value)
-  stmt_used l (assign x value) = declares_used (assign x value)
-  stmt_used l (set_field f value) = declares_used (set_field f value)
-  stmt_used l (look found into object keys) = declares_used (look found into object keys)
-  stmt_used l (put ok object keys values) = declares_used (put ok object keys values)
-  stmt_used l (del was object keys) = declares_used (del was object keys)
   stmt_used l (choose cond first second) = omega (arith, declares_used (choose cond first second), body_used l first, body_used l second)
   stmt_used l (repeat index count body) = omega (arith, declares_used (repeat index count body), body_used l body)
-  stmt_used l (send port) = declares_used (send port)
-  stmt_used l trees.drop = declares_used trees.drop
+  stmt_used l s = declares_used s
 
   pub body_used : (l : Lengths) (b : BodyTree) → body_count Locals l b ≤ body_count Uses l b
   body_used l done = omega arith

@@ -1,6 +1,6 @@
 -- Elements with a `repeat` within another one, as they are told from a table.
-use Rattle.std.proofs.Common.{◌≡◌, ◌<◌, ◌≤◌, ◌⊎◌, inl, inr, ◌↔◌, ℕ, zero, suc, ◌==◌, ◌||◌, ◌&&◌, Bool, true, false, List, length, map, refl, sym, ap, ◌∙◌, arith, true≢false}
-use Rattle.std.proofs.lemmas.Bool.{eqb-true, and_from, or_cases, or_left, or_right}
+use Rattle.std.proofs.Common.{◌≡◌, ◌<◌, inl, inr, ◌↔◌, ℕ, zero, suc, ◌==◌, ◌||◌, ◌&&◌, Bool, true, false, List, length, map, refl, sym, ap, ◌∙◌, arith, true≢false}
+use Rattle.std.proofs.lemmas.Bool.{eqb-true, and_from, cases_lt, or_cases, or_left, or_right}
 use Rattle.std.proofs.lemmas.List.{length-map}
 use Rattle.element_lang.specs.declared.tree.Middlebox.{Middlebox}
 use Rattle.element_lang.specs.Tree.{BodyTree, Tree}
@@ -30,16 +30,10 @@ some_found (suc n) holds h = one_of n holds (some_below n holds) (holds n) refl 
 
 -- an element that does something is there
 pub there_is : (ms : List Middlebox) (e : ℕ) (test : BodyTree → Bool) → test BodyTree.done ≡ false → test (element_at (map tree ms) e).body ≡ true → e < length ms
-there_is ms e test none h = elim (apart e (length ms)) [
+there_is ms e test none h = elim (cases_lt e (length ms)) [
   | inl low ↦ low
   | inr past ↦ absurd (true≢false (sym h ∙ ap (λ (t : Tree). test t.body) (no_tree ms e past) ∙ none))
 ]
-  where
-    apart : (a b : ℕ) → (a < b) ⊎ (b ≤ a)
-    apart zero zero = inr (omega arith)
-    apart zero (suc b) = inl (omega arith)
-    apart (suc a) zero = inr (omega arith)
-    apart (suc a) (suc b) = elim (apart a b) [ inl low ↦ inl (omega (arith, low)) | inr past ↦ inr (omega (arith, past)) ]
 
 module _ (ms : List Middlebox) (wires : List Wire) (leads : ℕ → ℕ → Bool) (told : (e f : ℕ) → e < length ms → f < length ms → (leads e f ≡ true) ↔ Leads wires e f) where
   is_behind : (e : ℕ) → e < length ms → repeats_within (map tree ms) leads e ≡ true → RepeatsBehind (connected ms wires) e

@@ -23,7 +23,7 @@ use Rattle.chain_compose.specs.Tallies.{first_sent, bare_count}
 use Rattle.chain_compose.proofs.Caps.{rise_capped}
 use Rattle.chain_compose.proofs.Counted.{Joins, joins}
 
--- it rises by the same with each
+-- a count that rises by the same with each byte
 pub record Rises (f : ℕ → ℕ) : Type 0 where
   pub by : ℕ
   pub is : (n : ℕ) → f n ≡ f 0 + by * n
@@ -34,27 +34,24 @@ level k = record { by = 0; is = λ n. omega arith }
 itself : Rises (λ n. n)
 itself = record { by = 1; is = λ n. omega arith }
 
-both : (f g : ℕ → ℕ) → Rises f → Rises g → Rises (λ n. f n + g n)
-both f g r s = record {
-  by = r.by + s.by;
-  is = λ n. omega (arith, r.is n, s.is n, add-mul r.by s.by n);
-}
+both : {f g : ℕ → ℕ} → Rises f → Rises g → Rises (λ n. f n + g n)
+both {f} {g} r s = record { by = r.by + s.by; is = λ n. omega (arith, r.is n, s.is n, add-mul r.by s.by n) }
 
 -- one that rises, between two that don't
-around : (k : ℕ) (f : ℕ → ℕ) (m : ℕ) → Rises f → Rises (λ n. k + f n + m)
-around k f m r = record { by = r.by; is = λ n. omega (arith, r.is n) }
+around : (k m : ℕ) {f : ℕ → ℕ} → Rises f → Rises (λ n. k + f n + m)
+around k m {f} r = record { by = r.by; is = λ n. omega (arith, r.is n) }
 
-above : (k : ℕ) (f : ℕ → ℕ) → Rises f → Rises (λ n. k + f n)
-above k f r = record { by = r.by; is = λ n. omega (arith, r.is n) }
+above : (k : ℕ) {f : ℕ → ℕ} → Rises f → Rises (λ n. k + f n)
+above k {f} r = record { by = r.by; is = λ n. omega (arith, r.is n) }
 
-times : (k : ℕ) (f : ℕ → ℕ) → Rises f → Rises (λ n. k * f n)
-times k f r = record {
+times : (k : ℕ) {f : ℕ → ℕ} → Rises f → Rises (λ n. k * f n)
+times k {f} r = record {
   by = k * r.by;
   is = λ n. ap (λ (m : ℕ). k * m) (r.is n) ∙ mul-add k (f 0) (r.by * n) ∙ ap (λ (m : ℕ). k * f 0 + m) (sym (mul_assoc k r.by n));
 }
 
-along : (f g : ℕ → ℕ) → ((n : ℕ) → f n ≡ g n) → Rises g → Rises f
-along f g same r = record { by = r.by; is = λ n. same n ∙ r.is n ∙ ap (λ (m : ℕ). m + r.by * n) (sym (same 0)) }
+along : (f : ℕ → ℕ) {g : ℕ → ℕ} → ((n : ℕ) → f n ≡ g n) → Rises g → Rises f
+along f {g} same r = record { by = r.by; is = λ n. same n ∙ r.is n ∙ ap (λ (m : ℕ). m + r.by * n) (sym (same 0)) }
 
 -- told from what is there at 0 and at 1
 pub told_rise : (f : ℕ → ℕ) → Rises f → (many : ℕ) → 1 ≤ many → capped (capped (f 0) + (capped (f 1) - capped (f 0)) * many) ≡ capped (f many)
@@ -81,33 +78,24 @@ module _ (locals objects : List ℕ) where
     expr_rises (lit value width) = level (literal_length value width)
     expr_rises (local x) = level (name_length locals x)
     expr_rises (field f) = read_rises f
-    expr_rises (byte index) = above (call_length marks.Byte) (λ n. expr_length (at n) index) (expr_rises index)
+    expr_rises (byte index) = above (call_length marks.Byte) (expr_rises index)
     expr_rises (shift op by arg) =
-        let k = brackets_length (needs_brackets Operand (nameless arg)) in
-        let m = mark_length (mark_of op) + number_length by in
-        along (λ n. expr_length (at n) (shift op by arg)) (λ n. k + expr_length (at n) arg + m) (λ n. omega arith)
-        (around k (λ n. expr_length (at n) arg) m (expr_rises arg))
+        along (λ n. expr_length (at n) (shift op by arg)) (λ n. omega arith)
+        (around (brackets_length (needs_brackets Operand (nameless arg))) (mark_length (mark_of op) + number_length by) (expr_rises arg))
     expr_rises (apply op width args) =
         let j : Joins op = joins op in
-        let m = j.around width (count_of args) in
-        along (λ n. expr_length (at n) (apply op width args)) (λ n. parts_length (at n) j.place args + m) (λ n. j.is (at n) width args)
-        (both (λ n. parts_length (at n) j.place args) (λ n. m) (parts_rise j.place args) (level m))
+        along (λ n. expr_length (at n) (apply op width args)) (λ n. j.is (at n) width args)
+        (both (parts_rise j.place args) (level (j.around width (count_of args))))
 
     parts_rise : (place : Place) (es : Exprs) → Rises (λ n. parts_length (at n) place es)
     parts_rise place no_expr = level 0
-    parts_rise place (expr e es) =
-        let k = brackets_length (needs_brackets place (nameless e)) in
-        both (λ n. k + expr_length (at n) e) (λ n. parts_length (at n) place es)
-        (above k (λ n. expr_length (at n) e) (expr_rises e)) (parts_rise place es)
+    parts_rise place (expr e es) = both (above (brackets_length (needs_brackets place (nameless e))) (expr_rises e)) (parts_rise place es)
 
   exprs_rise : (es : Exprs) → Rises (λ n. exprs_length (at n) es)
-  exprs_rise es =
-      let m = between_length marks.Comma (count_of es) in
-      both (λ n. parts_length (at n) Whole es) (λ n. m) (parts_rise Whole es) (level m)
+  exprs_rise es = both (parts_rise Whole es) (level (between_length marks.Comma (count_of es)))
 
   keyed_rises : (object : ℕ) (keys : Exprs) → Rises (λ n. keyed_length (at n) object keys)
-  keyed_rises object keys =
-      around (name_length objects object + mark_length marks.LeftBracket) (λ n. exprs_length (at n) keys) (mark_length marks.RightBracket) (exprs_rise keys)
+  keyed_rises object keys = around (name_length objects object + mark_length marks.LeftBracket) (mark_length marks.RightBracket) (exprs_rise keys)
 
   names_level : (n : ℕ) (xs : List ℕ) → names_length (at n) xs ≡ names_length (at 0) xs
   names_level n [] = refl
@@ -115,31 +103,24 @@ module _ (locals objects : List ℕ) where
 
   head_rises : (s : StmtTree) → Rises (λ n. head_length (at n) s)
   head_rises (let_local x value) =
-      around (mark_length marks.Let + name_length locals x + mark_length marks.Assign) (λ n. expr_length (at n) value) (mark_length marks.Semicolon) (expr_rises value)
-  head_rises (assign x value) =
-      around (name_length locals x + mark_length marks.Assign) (λ n. expr_length (at n) value) (mark_length marks.Semicolon) (expr_rises value)
-  head_rises (set_field f value) =
-      around (field_length f + mark_length marks.Assign) (λ n. expr_length (at n) value) (mark_length marks.Semicolon) (expr_rises value)
+      around (mark_length marks.Let + name_length locals x + mark_length marks.Assign) (mark_length marks.Semicolon) (expr_rises value)
+  head_rises (assign x value) = around (name_length locals x + mark_length marks.Assign) (mark_length marks.Semicolon) (expr_rises value)
+  head_rises (set_field f value) = around (field_length f + mark_length marks.Assign) (mark_length marks.Semicolon) (expr_rises value)
   head_rises (look found into object keys) =
       let k = mark_length marks.Look + name_length locals found + names_length (at 0) into + mark_length marks.Assign in
-      along (λ n. head_length (at n) (look found into object keys)) (λ n. k + keyed_length (at n) object keys + mark_length marks.Semicolon)
+      along (λ n. head_length (at n) (look found into object keys))
       (λ n. ap (λ (m : ℕ). mark_length marks.Look + name_length locals found + m + mark_length marks.Assign + keyed_length (at n) object keys + mark_length marks.Semicolon) (names_level n into))
-      (around k (λ n. keyed_length (at n) object keys) (mark_length marks.Semicolon) (keyed_rises object keys))
+      (around k (mark_length marks.Semicolon) (keyed_rises object keys))
   head_rises (put ok object keys values) =
       let k = mark_length marks.Put + name_length locals ok + mark_length marks.Assign in
-      both (λ n. k + keyed_length (at n) object keys + mark_length marks.Arrow + exprs_length (at n) values) (λ n. mark_length marks.Semicolon)
-      (both (λ n. k + keyed_length (at n) object keys + mark_length marks.Arrow) (λ n. exprs_length (at n) values)
-      (around k (λ n. keyed_length (at n) object keys) (mark_length marks.Arrow) (keyed_rises object keys)) (exprs_rise values))
-      (level (mark_length marks.Semicolon))
+      both (both (around k (mark_length marks.Arrow) (keyed_rises object keys)) (exprs_rise values)) (level (mark_length marks.Semicolon))
   head_rises (del was object keys) =
-      around (mark_length marks.Del + name_length locals was + mark_length marks.Assign) (λ n. keyed_length (at n) object keys) (mark_length marks.Semicolon) (keyed_rises object keys)
+      around (mark_length marks.Del + name_length locals was + mark_length marks.Assign) (mark_length marks.Semicolon) (keyed_rises object keys)
   head_rises (choose test first second) =
-      let m = braces_length + else_length (is_empty second) in
-      along (λ n. head_length (at n) (choose test first second)) (λ n. mark_length marks.If + expr_length (at n) test + m) (λ n. omega arith)
-      (around (mark_length marks.If) (λ n. expr_length (at n) test) m (expr_rises test))
+      along (λ n. head_length (at n) (choose test first second)) (λ n. omega arith)
+      (around (mark_length marks.If) (braces_length + else_length (is_empty second)) (expr_rises test))
   head_rises (repeat index count body) = level (mark_length marks.Repeat + name_length locals index + number_length count + braces_length)
-  head_rises (send port) =
-      around (mark_length marks.Send) (λ n. expr_length (at n) port) (mark_length marks.Semicolon) (expr_rises port)
+  head_rises (send port) = around (mark_length marks.Send) (mark_length marks.Semicolon) (expr_rises port)
   head_rises trees.drop = level (mark_length marks.Drop + mark_length marks.Semicolon)
 
   weight_rises : (g : Gauge) (s : StmtTree) → Rises (λ n. weight g (at n) s)
@@ -163,23 +144,15 @@ module _ (locals objects : List ℕ) where
     mutual
       stmt_rises : (s : StmtTree) → Rises (stmt_at s)
       stmt_rises (choose test first second) =
-          both (λ n. weight g (at n) (choose test first second)) (λ n. body_at first n + body_at second n) (weight_rises g (choose test first second))
-          (both (body_at first) (body_at second) (body_rises first) (body_rises second))
+          both (weight_rises g (choose test first second)) (both (body_rises first) (body_rises second))
       stmt_rises (repeat index count body) =
-          both (λ n. weight g (at n) (repeat index count body)) (λ n. turns g count * body_at body n) (weight_rises g (repeat index count body))
-          (times (turns g count) (body_at body) (body_rises body))
+          both (weight_rises g (repeat index count body)) (times (turns g count) (body_rises body))
       stmt_rises (send port) = first_rises g wired port
-      stmt_rises (let_local x value) = weight_rises g (let_local x value)
-      stmt_rises (assign x value) = weight_rises g (assign x value)
-      stmt_rises (set_field f value) = weight_rises g (set_field f value)
-      stmt_rises (look found into object keys) = weight_rises g (look found into object keys)
-      stmt_rises (put ok object keys values) = weight_rises g (put ok object keys values)
-      stmt_rises (del was object keys) = weight_rises g (del was object keys)
-      stmt_rises trees.drop = weight_rises g trees.drop
+      stmt_rises s = weight_rises g s
 
       pub body_rises : (b : BodyTree) → Rises (body_at b)
       body_rises done = level 0
-      body_rises (stmt s b) = both (stmt_at s) (body_at b) (stmt_rises s) (body_rises b)
+      body_rises (stmt s b) = both (stmt_rises s) (body_rises b)
 
 -- told from what is counted where a reading of the port of arrival takes no byte, and where it takes one
 pub bare_told : (g : Gauge) (objects : List ℕ) (wired : Bool) (b : BodyTree) (many : ℕ) → 1 ≤ many

@@ -1,27 +1,21 @@
 -- The wires of each element.
-use Rattle.std.proofs.Common.{◌≡◌, ◌<◌, ◌≤◌, ℕ, zero, suc, ◌+◌, ◌-◌, List, [], ◌∷◌, ◌++◌, length, slice_index_or, Option, Some, None, Bool, true, false, ◌==◌, ◌&&◌, inl, inr, refl, sym, ap, ◌∙◌, arith, length-append, append_assoc, append-nil, option_to_list, cond}
+use Rattle.std.proofs.Common.{◌≡◌, ◌<◌, ◌≤◌, ℕ, zero, suc, ◌+◌, ◌-◌, List, [], ◌∷◌, ◌++◌, length, slice_index_or, Option, Some, None, inl, inr, refl, sym, ap, ◌∙◌, arith, length-append, append_assoc, append-nil, option_to_list}
 use Rattle.std.specs.List.{All}
-use Rattle.std.proofs.lemmas.List.Elements.{All-nil, All-cons, All-head, All-tail}
+use Rattle.std.proofs.lemmas.List.Elements.{All-nil, All-cons, All-weaker}
 use Rattle.element_chain.specs.declared.chain.Wire.{Wire}
 use Rattle.element_chain.specs.Chain.{wire_at}
 use Rattle.element_chain.specs.Compose.{with_wire, wires_from, wires_of}
+use Rattle.element_chain.specs.Wiring.{IsWithin, AreWithin}
+use Rattle.element_chain.proofs.Wired.{EachWire, each_of}
+use Rattle.chain_compose.specs.declared.parts.Parts.{Parts}
+use Rattle.chain_compose.specs.Parts.{chain_of}
 use Rattle.chain_compose.specs.Routes.{all_routes}
+use Rattle.chain_compose.proofs.Pushed.{old_pushed, last_pushed}
 use Rattle.lemmas.proofs.Numbers.{below_suc}
 
 with_option : (o : Option Wire) (ws : List Wire) → option_to_list o ++ ws ≡ with_wire o ws
 with_option None ws = refl
 with_option (Some w) ws = refl
-
-last_at : (xs : List (List Wire)) (x : List Wire) (e : ℕ) → e ≡ length xs → slice_index_or (xs ++ x ∷ []) e [] ≡ x
-last_at [] x zero is = refl
-last_at [] x (suc e) is = absurd (omega (arith, is))
-last_at (y ∷ xs) x zero is = absurd (omega (arith, is))
-last_at (y ∷ xs) x (suc e) is = last_at xs x e (omega (arith, is))
-
-earlier_at : (xs : List (List Wire)) (x : List Wire) (e : ℕ) → e < length xs → slice_index_or (xs ++ x ∷ []) e [] ≡ slice_index_or xs e []
-earlier_at [] x e lt = absurd (omega (arith, lt))
-earlier_at (y ∷ xs) x zero lt = refl
-earlier_at (y ∷ xs) x (suc e) lt = earlier_at xs x e (omega (arith, lt))
 
 pub length-routes : (wires : List Wire) (n : ℕ) → length (all_routes wires n) ≡ n
 length-routes wires zero = refl
@@ -31,9 +25,18 @@ pub routes_at : (wires : List Wire) (n e : ℕ) → e < n → slice_index_or (al
 routes_at wires zero e lt = absurd (omega (arith, lt))
 routes_at wires (suc n) e lt =
     elim (below_suc e n lt) [
-      | inl before ↦ earlier_at (all_routes wires n) (wires_of wires n) e (omega (arith, before, length-routes wires n)) ∙ routes_at wires n e before
-      | inr last ↦ last_at (all_routes wires n) (wires_of wires n) e (last ∙ sym (length-routes wires n)) ∙ ap (wires_of wires) (sym last)
+      | inl before ↦
+          old_pushed (List Wire) (all_routes wires n) (wires_of wires n) [] e (omega (arith, before, length-routes wires n)) ∙ routes_at wires n e before
+      | inr last ↦
+          ap (λ (k : ℕ). slice_index_or (all_routes wires n ++ wires_of wires n ∷ []) k []) (last ∙ sym (length-routes wires n))
+          ∙ last_pushed (List Wire) (all_routes wires n) (wires_of wires n) [] ∙ ap (wires_of wires) (sym last)
     ]
+
+-- the wires of an element, as the table has them
+pub own_wires : (parts : Parts) (e : ℕ) (wires : List Wire) → e < length parts.classes.now → wires ≡ slice_index_or parts.routes.now e []
+    → wires ≡ wires_of (chain_of parts).wires e
+own_wires parts e wires there is =
+    is ∙ ap (λ (r : List (List Wire)). slice_index_or r e []) parts.routed ∙ routes_at (chain_of parts).wires (length parts.classes.now) e there
 
 -- ## one output after the other
 pub first_route : (wires : List Wire) (e : ℕ) (found : List Wire) → found ≡ [] → found ++ wires_from wires e (256 - 0) 0 ≡ wires_of wires e
@@ -67,34 +70,15 @@ pub few_wires : (wires : List Wire) (e : ℕ) → length (wires_of wires e) ≤ 
 unfolding wires_of
 few_wires wires e = few_from wires e 256 0
 
--- what holds of all wires
--- it holds of one of them
-abbrev IfThere : (Wire → Type 0) → Option Wire → Type 0
-IfThere P None = Unit {0}
-IfThere P (Some w) = P w
+-- the wires of an element lead to elements that are there
+each_all : (P : Wire → Type 0) (e : ℕ) (ws : List Wire) → EachWire (λ (w : Wire). P w × (w.from ≡ e)) ws → All P ws
+each_all P e [] each = All-nil P
+each_all P e (w ∷ ws) each = All-cons P w ws each.0.0 (each_all P e ws each.1)
 
-module _ (P : Wire → Type 0) where
-  chosen : (b : Bool) (w : Wire) (o : Option Wire) → P w → IfThere P o → IfThere P (cond b (Some w) o)
-  chosen true w o here later = here
-  chosen false w o here later = later
-
-  at_all : (wires : List Wire) (e output : ℕ) → All P wires → IfThere P (wire_at wires e output)
-  at_all [] e output all = tt
-  at_all (w ∷ ws) e output all =
-      chosen (w.from == e && w.output == output) w (wire_at ws e output) (All-head P w ws all) (at_all ws e output (All-tail P w ws all))
-
-  with_all : (o : Option Wire) (ws : List Wire) → IfThere P o → All P ws → All P (with_wire o ws)
-  with_all None ws here all = all
-  with_all (Some w) ws here all = All-cons P w ws here all
-
-  from_all : (wires : List Wire) (e n output : ℕ) → All P wires → All P (wires_from wires e n output)
-  from_all wires e zero output all = All-nil P
-  from_all wires e (suc n) output all =
-      with_all (wire_at wires e output) (wires_from wires e n (suc output)) (at_all wires e output all) (from_all wires e n (suc output) all)
-
-  pub wires_all : (wires : List Wire) (e : ℕ) → All P wires → All P (wires_of wires e)
-  unfolding wires_of
-  wires_all wires e all = from_all wires e 256 0 all
+pub own_within : (wires : List Wire) (count e : ℕ) → AreWithin count wires → All (λ (w : Wire). IsWithin count w.to) (wires_of wires e)
+own_within wires count e all =
+    let Within : Wire → Type 0 = λ w. (w.from < count) × IsWithin count w.to in
+    All-weaker Within (λ (w : Wire). IsWithin count w.to) (λ w h. h.1) (wires_of wires e) (each_all Within e (wires_of wires e) (each_of Within wires e all))
 
 -- behind the last output
 pub no_route : (wires : List Wire) (e output : ℕ) (found all : List Wire) → 256 ≤ output → found ++ wires_from wires e (256 - output) output ≡ all → found ≡ all

@@ -6,7 +6,7 @@ use Rattle.element_chain.specs.Wiring.{is_joined}
 use Rattle.chain_compose.specs.declared.matrix.Reach.{Reach}
 use Rattle.chain_compose.specs.Reach.{is_shown, is_shown_by, ShowsBy}
 
--- its rows, one behind the other
+-- the rows of a table, one behind the other
 pub record HasRows (rows : List Bool) (count : ℕ) (f : ℕ → ℕ → Bool) (n : ℕ) : Type 0 where
   pub size : length rows ≡ n
   pub each : (p : ℕ) → p < n → slice_index_or rows p false ≡ f (p / count) (p % count)

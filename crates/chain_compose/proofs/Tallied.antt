@@ -1,10 +1,9 @@
 -- What is told of one level after the other is what is counted there.
-use Rattle.std.proofs.Common.{◌≡◌, ℕ, zero, suc, ◌+◌, ◌*◌, ◌<◌, ◌≤◌, List, [], ◌∷◌, length, refl, sym, ap, ◌∙◌, arith, Option, Some, None}
+use Rattle.std.proofs.Common.{◌≡◌, ℕ, zero, suc, ◌+◌, ◌*◌, ◌≤◌, List, [], ◌∷◌, length, refl, sym, ap, ◌∙◌, arith, Option, Some, None}
 use Rattle.std.proofs.Math.Nat.{add-mul, mul-add, mul_assoc}
 use Rattle.std.specs.List.{All}
 use Rattle.std.proofs.lemmas.List.Elements.{All-head, All-tail, All-weaker}
 use Rattle.packet_fields.specs.declared.field.Field.TheVariants.{MetaPort}
-use Rattle.element_lang.specs.Tree as trees
 use Rattle.element_lang.specs.Tree.{ExprTree, StmtTree, BodyTree}
 use Rattle.element_lang.specs.Tree.ExprTree.{lit}
 use Rattle.element_lang.specs.Tree.StmtTree.{choose, repeat, send}
@@ -20,11 +19,11 @@ use Rattle.chain_compose.specs.declared.gauge.Gauge.{Gauge}
 use Rattle.chain_compose.specs.declared.gauge.Gauge.TheVariants.{Statements}
 use Rattle.chain_compose.specs.declared.figures.Figures.{Figures}
 use Rattle.chain_compose.specs.declared.figures.Ending.{Ending}
-use Rattle.chain_compose.specs.Counts.{weight, turns, placed_stmt_count, placed_count, body_count, whole_lengths, own_lengths, port_length, test_weight, tests_count, sent_count, closing_count, clearing_count, element_count, end_count}
+use Rattle.chain_compose.specs.Counts.{weight, turns, placed_stmt_count, placed_count, body_count, whole_lengths, own_lengths, port_length, test_weight, tests_count, sent_count, element_count, end_count}
 use Rattle.chain_compose.specs.Tallies.{sent_of, sent_in, first_sent, bare_count, after_count, has_wire, lengths_at, AreFigures, out_weight, told_end, AreEndings, IsNext}
 use Rattle.chain_compose.proofs.Caps.{capped_again, add_capped, mul_capped}
 use Rattle.chain_compose.proofs.Counted.{whole_counted}
-use Rattle.chain_compose.proofs.RoutesAt.{wires_all}
+use Rattle.chain_compose.proofs.RoutesAt.{own_within}
 
 -- ## An element
 
@@ -88,22 +87,21 @@ told_target : (g : Gauge) (c : Connected) (n : ℕ) (es : List Ending) → AreEn
 told_target g c n es are Out input within = ap capped (end_out g c n input)
 told_target g c n es are (Element e) input within = are.each e input within
 
-abbrev Within : ℕ → Wire → Type 0
-Within count w = (w.from < count) × IsWithin count w.to
-
 told_after : (g : Gauge) (c : Connected) (n : ℕ) (es : List Ending) → AreWithin (length c.elements) c.wires → AreEndings g c n es → (e : ℕ)
     → capped (after_count g (told_end g es) (wires_of c.wires e)) ≡ capped (after_count g (end_count g c n) (wires_of c.wires e))
 told_after g c n es within are e =
     let count = length c.elements in
     after_agree g (told_end g es) (end_count g c n) (wires_of c.wires e)
-    (All-weaker (Within count) (Agree (told_end g es) (end_count g c n)) (λ w there. told_target g c n es are w.to w.input there.1) (wires_of c.wires e) (wires_all (Within count) c.wires e within))
+    (All-weaker (λ (w : Wire). IsWithin count w.to) (Agree (told_end g es) (end_count g c n)) (λ w there. told_target g c n es are w.to w.input there)
+    (wires_of c.wires e)
+    (own_within c.wires count e within))
 
 -- ## An element, and all behind it
 
 some_bytes : (input : ℕ) → 1 ≤ literal_length input 8
 some_bytes input = omega arith
 
--- its own numbers, and what is told of the ends of its wires
+-- the own numbers of an element, and what is told of the ends of its wires
 module _ (g : Gauge) (c : Connected) (n : ℕ) (es : List Ending) (within : AreWithin (length c.elements) c.wires) (are : AreEndings g c n es) (e : ℕ) (f : Figures) (figures : AreFigures g c e f) where
   abbrev behind_told : ℕ
   behind_told = f.sent * after_count g (told_end g es) (wires_of c.wires e)
@@ -126,20 +124,7 @@ module _ (g : Gauge) (c : Connected) (n : ℕ) (es : List Ending) (within : AreW
   -- through one element more
   pub next_told : (made : Ending) → IsNext g c es e f made → (input : ℕ) → capped (made.fixed + made.reads * literal_length input 8) ≡ capped (end_count g c (suc n) (Element e) input)
   next_told made is input =
-      let m = element_at c.elements e in
-      let read = f.reads * literal_length input 8 in
-      let cleared = clearing_count g c in
-      let all = cleared + (f.own + (f.closing + behind_told)) in
-      let element = element_count g c (end_count g c n) (Some input) e in
-      ap (λ (k : ℕ). capped (k + made.reads * literal_length input 8)) is.fixed
-      ∙ ap (λ (k : ℕ). capped (capped all + k * literal_length input 8)) is.reads
-      ∙ add_capped (capped all) read all read (capped_again all) refl
-      ∙ ap capped (regrouped cleared f.own f.closing behind_told read)
-      ∙ add_capped cleared (((f.own + read) + behind_told) + f.closing) cleared (element + closing_count g m.body) refl
-      (add_capped ((f.own + read) + behind_told) f.closing element (closing_count g m.body) (element_told (Some input) (some_bytes input)) (ap capped figures.closing))
-    where
-      regrouped : (a b k s r : ℕ) → a + (b + (k + s)) + r ≡ a + (((b + r) + s) + k)
-      regrouped a b k s r = omega arith
+      omega (arith, is.fixed, ap (λ (k : ℕ). k * literal_length input 8) is.reads, element_told (Some input) (some_bytes input), figures.closing)
 
 -- the whole
 pub whole_told : (g : Gauge) (c : Connected) (es : List Ending) → AreWithin (length c.elements) c.wires → AreEndings g c (length c.elements) es → (f : Figures) → AreFigures g c 0 f

@@ -47,7 +47,7 @@ next_level ms (suc n) some =
     let more : suc n * (300 * total ms + 600) ≡ n * (300 * total ms + 600) + (300 * total ms + 600) = suc-mul n (300 * total ms + 600) in
     omega (arith, same, more)
 
--- its body
+-- the body of an element
 pub body_lighter : (ms : List Middlebox) (n e : ℕ) (m : Middlebox) → e < length ms → m ≡ slice_index_or ms e m
     → level ms n + 300 * statements_in (body_tree m.body.items) + 299 < entered ms n
 unfolding entered

@@ -1,8 +1,7 @@
 -- The bytes of a composed middlebox's text.
-use Rattle.std.proofs.Common.{◌≡◌, ◌⊎◌, inl, inr, ℕ, ◌+◌, ◌*◌, ◌^◌, ◌<◌, ◌≤◌, List, length, map, refl, sym, ap, ◌∙◌, arith}
+use Rattle.std.proofs.Common.{◌≡◌, ◌⊎◌, inl, inr, ℕ, ◌+◌, ◌*◌, ◌^◌, ◌<◌, ◌≤◌, List, length, map, ap, ◌∙◌, arith}
 use Rattle.std.specs.List.{All}
 use Rattle.std.proofs.lemmas.Bool.{cases_lt}
-use Rattle.element_lang.specs.Tree.{Tree}
 use Rattle.element_lang.specs.declared.tree.Local.{Local}
 use Rattle.element_print.specs.Lengths.{capped, lengths_of, text_length, decls_length, frame_length, body_length}
 use Rattle.element_chain.specs.Chain.{Connected}

@@ -12,13 +12,13 @@ use Rattle.chain_compose.proofs.Counted.{whole_counted}
 use Rattle.chain_compose.proofs.NamedEnds.{AreGood, own_known, none_named, whole_from}
 use Rattle.chain_compose.proofs.NamedRange.{none_counts, none_yet}
 use Rattle.chain_compose.proofs.NamedTotals.{locals_of_element}
-use Rattle.chain_compose.proofs.Widened.{element_widened, ends_widened}
+use Rattle.chain_compose.proofs.Widened.{element_widened}
 
--- it declares as many as it has
+-- the whole declares as many locals as it has
 pub whole_locals : (c : Connected) → body_count Locals (whole_lengths c) (composed c).body ≡ length (entry_within c (length c.elements)).numbering.widths
 whole_locals c =
     let n = length c.elements in
-    let declared = element_widened c n (ends_widened c n) None 0 [] in
+    let declared = element_widened c n None 0 [] in
     let same : 0 + element_count Locals c (end_count Locals c n) None 0 ≡ element_count Locals c (end_count Locals c n) None 0 = omega arith in
     whole_counted Locals c ∙ sym (declared ∙ same)
 

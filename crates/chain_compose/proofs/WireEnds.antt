@@ -1,6 +1,7 @@
 -- What stands for a `send`, and at the end of a wire.
 use Rattle.std.proofs.Common.{◌≡◌, ◌<◌, ◌≤◌, ℕ, zero, suc, ◌-◌, Bool, true, false, cond, List, [], ◌∷◌, ◌++◌, length, take, drop as drop_first, slice_index_or, Some, refl, sym, ap, ◌∙◌, arith}
 use Rattle.std.specs.List.{filter}
+use Rattle.std.proofs.lemmas.List.{take_all}
 use Rattle.gal_bits.specs.declared.op.Op.TheVariants.{Eq}
 use Rattle.packet_fields.specs.Table.{all_fields}
 use Rattle.element_lang.specs.declared.tree.Stmt.{Stmt}
@@ -15,11 +16,10 @@ use Rattle.element_lang.specs.Widths.{local_widths}
 use Rattle.element_chain.specs.declared.chain.Wire.{Wire}
 use Rattle.element_chain.specs.declared.chain.Target.TheVariants.{Element, Out}
 use Rattle.element_chain.specs.Chain.{Connected}
-use Rattle.element_chain.specs.Compose.{followed, one, Placed, Written, Spot, Ends, body_placed, tests, sent_by, wires_of, clearing, closed, is_set, ends_within, two}
+use Rattle.element_chain.specs.Compose.{followed, one, Placed, Written, Spot, Ends, body_placed, tests, sent_by, clearing, closed, is_set, ends_within, two}
 use Rattle.chain_compose.specs.declared.parts.Parts.{Parts}
 use Rattle.chain_compose.specs.declared.parts.Place.{Place}
 use Rattle.chain_compose.specs.Parts.{chain_of, own_tree, spot_of, ends_of, sends_of, numbering, placed, written, placed_behind, written_behind, element_written}
-use Rattle.chain_compose.proofs.RoutesAt.{routes_at}
 use Rattle.chain_compose.proofs.Trees.{followed_assoc, body_push, no_tree}
 
 -- statements and widths
@@ -93,11 +93,6 @@ element_end parts place behind e input widths widths' out out' out'' some is cle
     ∙ ap (λ (n : ℕ). written_behind out (ends_within (chain_of parts) n (Element e) input widths)) (sym level)
 
 -- ## what stands for a `send`
-pub own_wires : (parts : Parts) (place : Place) (wires : List Wire) → place.element < length parts.classes.now → wires ≡ slice_index_or parts.routes.now place.element []
-    → wires ≡ wires_of (chain_of parts).wires place.element
-own_wires parts place wires there is =
-    is ∙ ap (λ (r : List (List Wire)). slice_index_or r place.element []) parts.routed ∙ routes_at (chain_of parts).wires (length parts.classes.now) place.element there
-
 pub none_sent : (end : Ends) (ws : List Wire) (port : ExprTree) (widths : List ℕ) → length ws ≡ 0 → sent_by end ws port widths ≡ both (one drop) widths
 none_sent end [] port widths none = refl
 none_sent end (w ∷ ws) port widths none = absurd (omega (arith, none))
@@ -145,12 +140,6 @@ no_test_put end v [] widths out out' s none is tree_is = pushed_one out out' s d
 no_test_put end v (w ∷ ws) widths out out' s none is tree_is = absurd (omega (arith, none))
 
 -- the first wire and those behind it
-take_all : (ws : List Wire) (n : ℕ) → n ≡ length ws → take n ws ≡ ws
-take_all [] zero is = refl
-take_all [] (suc n) is = absurd (omega (arith, is))
-take_all (w ∷ ws) zero is = absurd (omega (arith, is))
-take_all (w ∷ ws) (suc n) is = ap (λ (us : List Wire). w ∷ us) (take_all ws n (omega (arith, is)))
-
 pub first_and_rest : (ws : List Wire) (d : Wire) → 1 ≤ length ws → slice_index_or ws 0 d ∷ take (length ws - 1) (drop_first 1 ws) ≡ ws
 first_and_rest [] d some = absurd (omega (arith, some))
-first_and_rest (w ∷ ws) d some = ap (λ (us : List Wire). w ∷ us) (take_all ws (suc (length ws) - 1) (omega arith))
+first_and_rest (w ∷ ws) d some = ap (λ (us : List Wire). w ∷ us) (take_all (suc (length ws) - 1) ws (omega arith))

@@ -37,7 +37,7 @@ abbrev mutual
   used_by_exprs no_expr = []
   used_by_exprs (expr e es) = used_by_expr e ++ used_by_exprs es
 
--- those that a statement names, but for what stands in its blocks
+-- the locals that a statement names, but for what stands in its blocks
 abbrev pub used_by_head : StmtTree → List ℕ
 used_by_head (let_local x value) = x ∷ used_by_expr value
 used_by_head (assign x value) = x ∷ used_by_expr value

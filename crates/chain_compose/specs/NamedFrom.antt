@@ -37,7 +37,7 @@ abbrev pub named : List ℕ → List Step
 named [] = []
 named (x ∷ xs) = Name x ∷ named xs
 
--- so many locals are declared
+-- as many locals as these are declared
 abbrev pub all_declared_steps : List ℕ → List Step
 all_declared_steps [] = []
 all_declared_steps (x ∷ xs) = Declare ∷ all_declared_steps xs

@@ -91,7 +91,7 @@ pub record AreFew (c : Connected) : Type 0 where
   pub placed : AreInPlace c
   pub few : statements_in (composed c).body ≤ most_statements
 
--- this is the first reason in order
+-- the first reason in order why a chain is refused
 abbrev pub IsRefused : Connected → ComposeError → Type 0
 IsRefused c (Byte e) = IsFirst (ReadsBehind c.elements) e
 IsRefused c (Repeat e) = NoneReads c × IsFirst (RepeatsBehind c) e

@@ -58,7 +58,7 @@ own_depth c e = placed_depth (port_depth (has_wires (wires_of c.wires e))) (elem
 abbrev pub own_level : Connected → ℕ → ℕ
 own_level c e = level_in (element_at c.elements e).body
 
--- they are told of an element
+-- what is told of an element
 pub record IsOwn (c : Connected) (e : ℕ) (own : Own) : Type 0 where
   pub depth : own.depth ≡ capped (own_depth c e)
   pub level : own.level ≡ capped (own_level c e)

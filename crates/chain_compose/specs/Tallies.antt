@@ -98,7 +98,7 @@ told_end g es Out input = out_weight g input
 told_end g es (Element e) input =
     let ending = slice_index_or es e no_ending in ending.fixed + ending.reads * literal_length input 8
 
--- it is what is counted there, through so many elements and no more
+-- what is told of each element is what is counted there, through so many elements and no more
 pub record AreEndings (g : Gauge) (c : Connected) (n : ℕ) (es : List Ending) : Type 0 where
   pub count : length es ≡ length c.elements
   pub each : (e input : ℕ) → e < length c.elements

@@ -3,13 +3,13 @@
 /// What is counted of statements, those within others too.
 #[derive(Clone, Copy, Debug, PartialEq, Eq)]
 pub(crate) enum Gauge {
-    /// Themselves.
+    /// The statements themselves.
     Statements,
-    /// Those that store or remove a row, as often as a `repeat` around them does it.
+    /// Statements that store or remove a row, as often as a `repeat` around them does it.
     Writes,
-    /// The locals that they declare.
+    /// The locals that statements declare.
     Locals,
-    /// The places where they name a local.
+    /// The places where statements name a local.
     Uses,
     /// The bytes of a printed text, each token with what stands after it, but for those of the names of locals.
     Bytes,

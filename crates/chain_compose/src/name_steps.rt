@@ -11,11 +11,11 @@ use gal_io::NoMemory;
 /// What a statement does with locals of its element.
 #[derive(Clone, Copy, Debug)]
 pub(crate) enum Step {
-    /// It names one that is declared before.
+    /// A local is named that is declared before.
     Name(u32),
-    /// It declares the next one.
+    /// The next local is declared.
     Declare,
-    /// It sends, where the element has a wire.
+    /// The element sends, where it has a wire.
     Send,
 }
 

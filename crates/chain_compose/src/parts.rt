@@ -36,7 +36,7 @@ pub(crate) struct Parts<'a> {
 #[derive(Clone, Copy, Debug)]
 pub(crate) struct Place {
     pub element: u32,
-    /// Its port of arrival, where it stands behind another element.
+    /// The port of arrival, where the element stands behind another one.
     pub port: Option<u8>,
     /// How many elements may stand one behind the other from here on.
     pub levels: u32,

@@ -31,7 +31,7 @@ fn leads_to(target: Target, to: usize) -> bool
 }
 
 impl Reach {
-    // Those that one wire leads to.
+    // The elements that one wire leads to.
     fn direct(alloc: Global, wires: &[Wire], count: usize) -> Result<Reach, NoMemory>
         requires { count ≤ 32 }
         ensures { IfOk result (λ made. ShowsBy wires.now count 0 made) }
@@ -71,7 +71,7 @@ impl Reach {
         })
     }
 
-    /// Those that any number of wires lead to.
+    /// The elements that any number of wires lead to.
     pub fn new(alloc: Global, wires: &[Wire], count: usize) -> Result<Reach, NoMemory>
         requires { count ≤ 32 }
         ensures { IfOk result (λ made. ShowsBy wires.now count count made) }

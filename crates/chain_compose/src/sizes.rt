@@ -98,7 +98,7 @@ impl Parts<'_> {
         Ok(statements)
     }
 
-    // Those that store or remove a row.
+    // Statements that store or remove a row.
     #[tactic(auto, using(crate::proofs::Gauges::all_writes))]
     fn writes(&self) -> Result<u64, NoMemory>
         requires few { length self.now.classes.now ≤ 32 }

@@ -1,5 +1,5 @@
 -- How many tokens fit a shape, and what those that fit all of it are.
-use Rattle.std.proofs.Common.{◌≡◌, ℕ, zero, suc, ◌<◌, ◌≤◌, Bool, true, false, cond, List, [], ◌∷◌, ◌++◌, length, take, drop, map, get_or, eqb, refl, sym, ap, ap₂, subst, ◌∙◌, arith}
+use Rattle.std.proofs.Common.{◌≡◌, ℕ, zero, suc, ◌+◌, ◌<◌, ◌≤◌, Bool, true, false, cond, List, [], ◌∷◌, ◌++◌, length, take, drop, map, get_or, eqb, refl, sym, ap, ap₂, subst, ◌∙◌, arith}
 use Rattle.std.proofs.lemmas.Bool.{false≢true, eqb-true, eq-eqb, cond_both, cond-true}
 use Rattle.std.proofs.lemmas.List.{get_or-take, take-append-drop}
 use Rattle.chain_text.specs.Token.{Token, name, number, fixed}
@@ -69,7 +69,7 @@ filled (k ∷ ks) (t ∷ ts) = by_test (fits k t) refl (filled ks ts)
     by_test true h rest = (rest.0, (h, rest.1))
     by_test false h rest = (map filler (k ∷ ks), all_filled (k ∷ ks))
 
--- those that fit all of it are of its shape
+-- tokens that fit all of a shape have it
 pub whole_fits : (ks : List Kind) (ts : List Token) → fit_of ks ts ≡ length ks → HasShape ks (take (length ks) ts)
 whole_fits [] ts h = tt
 whole_fits (k ∷ ks) [] h = absurd (omega arith)
@@ -137,43 +137,39 @@ declaration_of ts = declares (word_of (nth ts 0)) (word_of (nth ts 2))
 abbrev pub wire_of : List Token → Statement
 wire_of ts = wires (word_of (nth ts 0)) (value_of (nth ts 2)) (value_of (nth ts 6)) (word_of (nth ts 8))
 
+-- a token of a kind, but for what another token says
+abbrev as_kind : Kind → Token → Token
+as_kind Name t = name (word_of t)
+as_kind Number t = number (value_of t)
+as_kind (Fixed m) t = fixed m
+
+kind_is : (k : Kind) (t : Token) → fits k t ≡ true → t ≡ as_kind k t
+kind_is Name t h = name_is t h
+kind_is Number t h = number_is t h
+kind_is (Fixed m) t h = fixed_is m t h
+
+-- the tokens of a shape, told from some by their places
+abbrev as_shape : List Kind → (ℕ → Token) → ℕ → List Token
+as_shape [] at i = []
+as_shape (k ∷ ks) at i = as_kind k (at i) ∷ as_shape ks at (suc i)
+
+shape_is : (ks : List Kind) (us : List Token) (at : ℕ → Token) (i : ℕ) → ((j : ℕ) → nth us j ≡ at (i + j)) → HasShape ks us → us ≡ as_shape ks at i
+shape_is [] [] at i same h = refl
+shape_is [] (u ∷ us) at i same h = absurd h
+shape_is (k ∷ ks) [] at i same h = absurd h
+shape_is (k ∷ ks) (u ∷ us) at i same h =
+    let first : i + 0 ≡ i = omega arith in
+    let next : (j : ℕ) → i + suc j ≡ suc i + j = λ j. omega arith in
+    ap₂ (λ x xs. x ∷ xs) (kind_is k u h.0 ∙ ap (as_kind k) (same 0 ∙ ap at first)) (shape_is ks us at (suc i) (λ j. same (suc j) ∙ ap at (next j)) h.1)
+
+zero_more : (j : ℕ) → 0 + j ≡ j
+zero_more j = omega arith
+
 pub declaration_is : (us : List Token) → HasShape DECLARATION us → us ≡ statement_tokens (declaration_of us)
-declaration_is [] h = absurd h
-declaration_is (a ∷ []) h = absurd h.1
-declaration_is (a ∷ b ∷ []) h = absurd h.1.1
-declaration_is (a ∷ b ∷ c ∷ []) h = absurd h.1.1.1
-declaration_is (a ∷ b ∷ c ∷ d ∷ e ∷ us) h = absurd h.1.1.1.1
-declaration_is (a ∷ b ∷ c ∷ d ∷ []) h =
-    let p = name_is a h.0 in
-    let q = fixed_is Declares b h.1.0 in
-    let r = name_is c h.1.1.0 in
-    let s = fixed_is Ends d h.1.1.1.0 in
-    cc
+declaration_is us h = shape_is DECLARATION us (nth us) 0 (λ j. sym (ap (nth us) (zero_more j))) h
 
 pub wire_is : (us : List Token) → HasShape WIRE us → us ≡ statement_tokens (wire_of us)
-wire_is [] h = absurd h
-wire_is (a ∷ []) h = absurd h.1
-wire_is (a ∷ b ∷ []) h = absurd h.1.1
-wire_is (a ∷ b ∷ c ∷ []) h = absurd h.1.1.1
-wire_is (a ∷ b ∷ c ∷ d ∷ []) h = absurd h.1.1.1.1
-wire_is (a ∷ b ∷ c ∷ d ∷ e ∷ []) h = absurd h.1.1.1.1.1
-wire_is (a ∷ b ∷ c ∷ d ∷ e ∷ f ∷ []) h = absurd h.1.1.1.1.1.1
-wire_is (a ∷ b ∷ c ∷ d ∷ e ∷ f ∷ g ∷ []) h = absurd h.1.1.1.1.1.1.1
-wire_is (a ∷ b ∷ c ∷ d ∷ e ∷ f ∷ g ∷ i ∷ []) h = absurd h.1.1.1.1.1.1.1.1
-wire_is (a ∷ b ∷ c ∷ d ∷ e ∷ f ∷ g ∷ i ∷ j ∷ []) h = absurd h.1.1.1.1.1.1.1.1.1
-wire_is (a ∷ b ∷ c ∷ d ∷ e ∷ f ∷ g ∷ i ∷ j ∷ k ∷ l ∷ us) h = absurd h.1.1.1.1.1.1.1.1.1.1
-wire_is (a ∷ b ∷ c ∷ d ∷ e ∷ f ∷ g ∷ i ∷ j ∷ k ∷ []) h =
-    let p0 = name_is a h.0 in
-    let p1 = fixed_is Opens b h.1.0 in
-    let p2 = number_is c h.1.1.0 in
-    let p3 = fixed_is Closes d h.1.1.1.0 in
-    let p4 = fixed_is Arrow e h.1.1.1.1.0 in
-    let p5 = fixed_is Opens f h.1.1.1.1.1.0 in
-    let p6 = number_is g h.1.1.1.1.1.1.0 in
-    let p7 = fixed_is Closes i h.1.1.1.1.1.1.1.0 in
-    let p8 = name_is j h.1.1.1.1.1.1.1.1.0 in
-    let p9 = fixed_is Ends k h.1.1.1.1.1.1.1.1.1.0 in
-    cc
+wire_is us h = shape_is WIRE us (nth us) 0 (λ j. sym (ap (nth us) (zero_more j))) h
 
 -- every statement has one of the two shapes
 pub declaration_shape : (element class : List ℕ) → HasShape DECLARATION (statement_tokens (declares element class))

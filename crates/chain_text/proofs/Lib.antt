@@ -3,6 +3,7 @@ pub mod Fitting
 pub mod FirstWrong
 pub mod Parsing
 pub mod Naming
+pub mod Composing
 pub mod Building
 pub mod Outputs
 pub mod Declared
@@ -10,5 +11,4 @@ pub mod TakingAll
 pub mod Tables
 pub mod OneAnswer
 pub mod Reading
-pub mod Composing
 pub mod Laws

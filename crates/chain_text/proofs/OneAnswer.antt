@@ -20,6 +20,10 @@ first_once ss a b h k =
     let high : b < a → ⊥ = λ lt. h.none b lt k.here in
     omega arith
 
+memory_or_not : (e : ChainTextError) → (e ≡ errors.NoMemory) ⊎ (e ≢ errors.NoMemory)
+memory_or_not errors.NoMemory = inl refl
+memory_or_not _ = inr (λ same. cc)
+
 module _ (text : List ℕ) where
   same_statements : (ss us : List Statement) → IsSpelling text ss → IsSpelling text us → ss ≡ us
   same_statements ss us h k = one_list ss us (sym h.spells ∙ ap plain (token_list lexeme refl text h.placed k.placed h.tokens k.tokens) ∙ k.spells)
@@ -71,11 +75,7 @@ module _ (text : List ℕ) where
 
   pub one_reason : (a b : ChainTextError) → a ≢ errors.NoMemory → b ≢ errors.NoMemory → IsRefused text a → IsRefused text b → a ≡ b
   one_reason errors.NoMemory b some other h k = absurd (some refl)
-  one_reason (errors.Syntax m) errors.NoMemory some other h k = absurd (other refl)
-  one_reason (errors.Elements m) errors.NoMemory some other h k = absurd (other refl)
-  one_reason (errors.Statement m) errors.NoMemory some other h k = absurd (other refl)
-  one_reason errors.Empty errors.NoMemory some other h k = absurd (other refl)
-  one_reason errors.Cycle errors.NoMemory some other h k = absurd (other refl)
+  one_reason a errors.NoMemory some other h k = absurd (other refl)
   one_reason (errors.Syntax m) (errors.Syntax n) some other h k = ap errors.Syntax (one_syntax m n h k)
   one_reason (errors.Syntax m) (errors.Elements n) some other h k = absurd (no_syntax m k.statements h k.spelling)
   one_reason (errors.Syntax m) (errors.Statement n) some other h k = absurd (no_syntax m k.statements h k.spelling)
@@ -127,12 +127,7 @@ module _ (text : List ℕ) where
   answer_only (Err e) h = tt
 
   exact_error : (found e : ChainTextError) → IsRefused text found → e ≢ errors.NoMemory → IsRefused text e → (found ≡ e) ⊎ (found ≡ errors.NoMemory)
-  exact_error errors.NoMemory e h some k = inr refl
-  exact_error (errors.Syntax n) e h some k = inl (one_reason (errors.Syntax n) e (λ same. cc) some h k)
-  exact_error (errors.Elements n) e h some k = inl (one_reason (errors.Elements n) e (λ same. cc) some h k)
-  exact_error (errors.Statement n) e h some k = inl (one_reason (errors.Statement n) e (λ same. cc) some h k)
-  exact_error errors.Empty e h some k = inl (one_reason errors.Empty e (λ same. cc) some h k)
-  exact_error errors.Cycle e h some k = inl (one_reason errors.Cycle e (λ same. cc) some h k)
+  exact_error found e h some k = elim (memory_or_not found) [ inl is ↦ inr is | inr other ↦ inl (one_reason found e other some h k) ]
 
   pub answer_exact : (r : Result Chain ChainTextError) → IfOk r (λ chain. IsChainText text chain) → IfErr r (λ e. IsRefused text e)
       → (e : ChainTextError) → e ≢ errors.NoMemory → IsRefused text e → MatchResult r (λ _. ⊥) (λ found. (found ≡ e) ⊎ (found ≡ errors.NoMemory))
@@ -140,12 +135,7 @@ module _ (text : List ℕ) where
   answer_exact (Err found) h k e some here = exact_error found e k some here
 
   found_error : (found : ChainTextError) (chain : Chain) → IsRefused text found → IsChainText text chain → found ≡ errors.NoMemory
-  found_error errors.NoMemory chain h k = refl
-  found_error (errors.Syntax n) chain h k = absurd (accepted chain (errors.Syntax n) (λ same. cc) k h)
-  found_error (errors.Elements n) chain h k = absurd (accepted chain (errors.Elements n) (λ same. cc) k h)
-  found_error (errors.Statement n) chain h k = absurd (accepted chain (errors.Statement n) (λ same. cc) k h)
-  found_error errors.Empty chain h k = absurd (accepted chain errors.Empty (λ same. cc) k h)
-  found_error errors.Cycle chain h k = absurd (accepted chain errors.Cycle (λ same. cc) k h)
+  found_error found chain h k = elim (memory_or_not found) [ inl is ↦ is | inr other ↦ absurd (accepted chain found other k h) ]
 
   pub answer_found : (r : Result Chain ChainTextError) → IfOk r (λ chain. IsChainText text chain) → IfErr r (λ e. IsRefused text e)
       → (chain : Chain) → IsChainText text chain → MatchResult r (λ found. found ≡ chain) (λ e. e ≡ errors.NoMemory)

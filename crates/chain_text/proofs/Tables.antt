@@ -1,18 +1,20 @@
 -- Tables of which elements wires lead to.
-use Rattle.std.proofs.Common.{◌≡◌, ℕ, suc, ◌+◌, ◌*◌, ◌/◌, ◌%◌, ◌<◌, ◌≤◌, ◌&&◌, ◌||◌, ◌↔◌, Bool, true, false, MatchBool, List, [], ◌∷◌, length, take, set, get_or, ◌==◌, ⊎_elim, refl, sym, ap, ap₂, subst, ◌∙◌, arith}
+use Rattle.std.proofs.Common.{◌≡◌, ℕ, suc, ◌+◌, ◌*◌, ◌/◌, ◌%◌, ◌<◌, ◌≤◌, ◌&&◌, ◌||◌, ◌↔◌, Bool, true, false, MatchBool, List, [], ◌∷◌, length, take, set, get_or, ◌==◌, ⊎_elim, sym, ap, ap₂, ◌∙◌, arith}
 use Rattle.std.specs.List.{list_any}
 use Rattle.std.proofs.lemmas.Bool.{true≢false, eqb-true, eq-eqb, and_from, and_parts, or_right, cases_eq, false_from_ne_true}
 use Rattle.std.proofs.lemmas.List.{get_or-set_same, get_or-set_other, take_more}
 use Rattle.std.proofs.lemmas.List.Folds.{list_any-append}
-use Rattle.std.proofs.lemmas.List.Elements.{All-contains, All-get_or}
+use Rattle.std.proofs.lemmas.List.Elements.{All-get_or}
 use Rattle.std.proofs.lemmas.Nat.{mul-add-lt, div-mul-add, mod-mul-add}
 use Rattle.element_chain.specs.declared.chain.Wire.{Wire}
 use Rattle.element_chain.specs.declared.chain.Target.{Target}
 use Rattle.element_chain.specs.declared.chain.Target.TheVariants.{Element, Out}
-use Rattle.element_chain.specs.Wiring.{IsJoined, Leads, directly, onward, HasNoCycle, IsWithin, AreWithin, is_to, is_joined, leads_by}
+use Rattle.element_chain.specs.Wiring.{Leads, HasNoCycle, IsWithin, AreWithin, is_to, is_joined, leads_by}
 use Rattle.chain_text.specs.declared.reach.Reach.{Reach}
 use Rattle.chain_text.specs.Rows.{with_target, with_wire}
 use Rattle.chain_text.specs.Reached.{entry, LeadsBy}
+use Rattle.element_chain.proofs.Ranks.{leads_within}
+use Rattle.lemmas.proofs.Tests.{and_false, or_false}
 
 -- a list of rows, entry by entry
 entry_at : (rows : List Bool) (count end : ℕ) (f : ℕ → ℕ → Bool) → ((k : ℕ) → k < end → get_or rows k false ≡ f (k / count) (k % count))
@@ -22,18 +24,12 @@ entry_at rows count end f so_far all from to lt lt' =
     so_far (from * count + to) (omega arith) ∙ ap₂ f (div-mul-add from count to lt') (mod-mul-add from count to lt')
 
 -- ## the rows behind one wire more
-or_none : (x b : Bool) → x ≡ (x || (b && false))
-or_none true b = refl
-or_none false true = refl
-or_none false false = refl
-
-or_false : (x y : Bool) → y ≡ false → x ≡ (x || y)
-or_false true y h = refl
-or_false false y h = sym h
+or_none : (x b : Bool) → b ≡ false → x ≡ (x || b)
+or_none x b is = sym (ap (λ y. x || y) is ∙ or_false x)
 
 marked : (rows : List Bool) (count from : ℕ) (t : Target) (e f : ℕ) → length rows ≡ count * count → from < count → IsWithin count t → e < count → f < count
     → get_or (with_target count rows from t) (e * count + f) false ≡ (get_or rows (e * count + f) false || (from == e && is_to f t))
-marked rows count from Out e f size lt within lt_e lt_f = or_none (get_or rows (e * count + f) false) (from == e)
+marked rows count from Out e f size lt within lt_e lt_f = or_none (get_or rows (e * count + f) false) (from == e && false) (and_false (from == e))
 marked rows count from (Element g) e f size lt within lt_e lt_f =
     ⊎_elim
     (λ same.
@@ -50,13 +46,8 @@ marked rows count from (Element g) e f size lt within lt_e lt_f =
     let two = and_parts (from == e) (g == f) both in
     apart (ap₂ (λ x y. x * count + y) (eqb-true from e two.0) (eqb-true g f two.1))) in
     get_or-set_other rows (from * count + g) (e * count + f) true false (λ same. apart (sym same))
-    ∙ or_false (get_or rows (e * count + f) false) (from == e && g == f) other)
+    ∙ or_none (get_or rows (e * count + f) false) (from == e && g == f) other)
     (cases_eq (from * count + g) (e * count + f))
-
-or_end : (x y : Bool) → (x || y) ≡ (x || (y || false))
-or_end true y = refl
-or_end false true = refl
-or_end false false = refl
 
 -- the rows are those of wires
 abbrev pub AreRowsOf : List Wire → ℕ → List Bool → Type 0
@@ -69,7 +60,7 @@ joined_next wires rows new count i d size lt within new_is so_far e f lt_e lt_f 
     let two = All-get_or (λ (w : Wire). (w.from < count) × IsWithin count w.to) wires i d lt within in
     let test : Wire → Bool = λ w. w.from == e && is_to f w.to in
     ap (λ l. get_or l (e * count + f) false) new_is ∙ marked rows count w.from w.to e f size two.0 two.1 lt_e lt_f
-    ∙ ap (λ b. b || test w) (so_far e f lt_e lt_f) ∙ or_end (is_joined (take i wires) e f) (test w)
+    ∙ ap (λ b. b || test w) (so_far e f lt_e lt_f) ∙ ap (λ b. is_joined (take i wires) e f || b) (sym (or_false (test w)))
     ∙ sym (ap (λ l. list_any test l) (take_more wires i d lt) ∙ list_any-append test (take i wires) (w ∷ []))
 
 pub next_table : (wires : List Wire) (count way : ℕ) (old new : Reach) (end : ℕ) → LeadsBy wires count way old → way < old.count → new.count ≡ old.count
@@ -88,14 +79,6 @@ next_table wires count way old new end h lt same so_far all = record { size = sa
         ∙ ap₂ (λ x y. x || y) (h.entries from to lt_from lt_to) (ap₂ (λ x y. x && y) (h.entries from way lt_from way_in) (h.entries way to way_in lt_to))
 
 -- ## cycles
-joined_within : (count : ℕ) (wires : List Wire) (e f : ℕ) → AreWithin count wires → IsJoined wires e f → e < count
-joined_within count wires e f within (w, there, from, to) =
-    subst (λ k. k < count) from (All-contains (λ (w : Wire). (w.from < count) × IsWithin count w.to) wires w within there).0
-
-leads_within : (count : ℕ) (wires : List Wire) {e f : ℕ} → AreWithin count wires → Leads wires e f → e < count
-leads_within count wires within (directly {e = e} {f = f} j) = joined_within count wires e f within j
-leads_within count wires within (onward {e = e} {f = f} j rest) = joined_within count wires e f within j
-
 -- the test whether wires lead from an element to another is right
 abbrev pub IsTest : List Wire → ℕ → Type 0
 IsTest wires count = (e f : ℕ) → leads_by wires count e f ≡ true ↔ Leads wires e f
@@ -108,6 +91,6 @@ cycle_is wires count r true within test h (e, lt, is) =
     (e, (test e e).0 (sym (h.entries e e lt' lt') ∙ is))
 cycle_is wires count r false within test h none =
     λ e cycle.
-    let lt : e < count = leads_within count wires within cycle in
+    let lt : e < count = (leads_within count wires within cycle).0 in
     let lt' : e < r.count = omega (arith, h.size) in
     true≢false (sym ((test e e).1 cycle) ∙ sym (h.entries e e lt lt) ∙ none e lt')

@@ -15,7 +15,7 @@ use Rattle.chain_text.specs.declared.builder.Builder.{Builder}
 abbrev pub output_cmp : ℕ × ℕ → ℕ × ℕ → Ordering
 output_cmp x y = ordering_then (nat_cmp x.0 y.0) (nat_cmp x.1 y.1)
 
--- this output of this element is among them
+-- whether this output of this element is in a set of outputs
 abbrev pub is_output : BTreeSet (ℕ × ℕ) → ℕ → ℕ → Bool
 is_output outputs e o = contains output_cmp outputs (e, o)
 
@@ -28,7 +28,7 @@ abbrev pub is_known : List Element → Statement → Bool
 is_known es (declares element class) = true
 is_known es (wires from output input to) = is_named es from && (is_out to || is_named es to)
 
--- These are the elements and wires of the statements, of which none is refused.
+-- A builder has the elements and wires of the statements, of which none is refused.
 pub record IsBuilt (ss : List Statement) (b : Builder) : Type 0 where
   pub none : (place : ℕ) → IsRefusedAt ss place → ⊥
   pub elements : b.elements ≡ elements_of ss

@@ -8,7 +8,7 @@ use Rattle.chain_text.specs.declared.reach.Reach.{Reach}
 abbrev pub entry : Reach → ℕ → ℕ → Bool
 entry r from to = slice_index_or r.rows.items (from * r.count + to) false
 
--- It says of each two of so many elements whether wires lead from one to the other by way of elements below a number,
+-- A table says of each two of so many elements whether wires lead from one to the other by way of elements below a number,
 -- if by way of any.
 pub record LeadsBy (wires : List Wire) (count way : ℕ) (r : Reach) : Type 0 where
   pub size : r.count ≡ count

@@ -75,7 +75,7 @@ pub record IsFirstRefused (ss : List Statement) (place : ℕ) : Type 0 where
 abbrev pub most_elements : ℕ
 most_elements = 32
 
--- they declare few enough elements, and none of them is refused
+-- statements that declare few enough elements, and of which none is refused
 pub record AreTaken (ss : List Statement) : Type 0 where
   pub few : length (elements_of ss) ≤ most_elements
   pub none : (place : ℕ) → IsRefusedAt ss place → ⊥
@@ -113,7 +113,7 @@ offset_or end (Some t) = t.offset
 abbrev pub offset_at : List ℕ → List Placed → ℕ → ℕ
 offset_at text placed place = offset_or (length text) (slice_get placed place)
 
--- it has tokens, and the first wrong one is at this offset
+-- a text that has tokens, of which the first wrong one is at this offset
 pub record IsOutsideGrammar (text : List ℕ) (offset : ℕ) : Type 0 where
   pub placed : List Placed
   pub tokens : AreTokens text placed
@@ -125,14 +125,14 @@ pub record IsOutsideGrammar (text : List ℕ) (offset : ℕ) : Type 0 where
 abbrev pub told : ℕ → ℕ
 told n = min n (2 ^ 32 - 1)
 
--- its statements declare so many elements, which are too many
+-- a text whose statements declare so many elements, which are too many
 pub record HasManyElements (text : List ℕ) (have : ℕ) : Type 0 where
   pub statements : List Statement
   pub spelling : IsSpelling text statements
   pub above : most_elements < length (elements_of statements)
   pub count : have ≡ told (length (elements_of statements))
 
--- they declare few enough, and the statement of this number, from 1, is the first that is refused
+-- a text with few enough elements, whose statement of this number, from 1, is the first that is refused
 pub record HasRefused (text : List ℕ) (number : ℕ) : Type 0 where
   pub statements : List Statement
   pub spelling : IsSpelling text statements
@@ -141,14 +141,15 @@ pub record HasRefused (text : List ℕ) (number : ℕ) : Type 0 where
   pub first : IsFirstRefused statements place
   pub count : number ≡ told (suc place)
 
--- they are taken, and declare no element
+-- a text whose statements are taken, and declare no element
 pub record HasNoElement (text : List ℕ) : Type 0 where
   pub statements : List Statement
   pub spelling : IsSpelling text statements
   pub taken : AreTaken statements
   pub none : elements_of statements ≡ []
 
--- They are taken and declare an element, and wires lead from one back to it. It need not be reached from the entry.
+-- A text whose statements are taken and declare an element, and whose wires lead from one back to it. The entry need
+-- not lead there.
 pub record HasCycle (text : List ℕ) : Type 0 where
   pub statements : List Statement
   pub spelling : IsSpelling text statements
@@ -172,8 +173,8 @@ IsRefused text errors.NoMemory = Unit {0}
 abbrev pub AreWiredOnce : List Wire → Type 0
 AreWiredOnce = AllPairs (λ v w. v.from ≡ w.from → v.output ≡ w.output → ⊥)
 
--- It can be composed: it has 1 to 32 elements, its wires are between them, no output is wired twice, and no wires lead
--- from an element back to it.
+-- A chain that can be composed has 1 to 32 elements, its wires are between them, no output is wired twice, and no wires
+-- lead from an element back to it.
 pub record IsComposable (chain : Chain) : Type 0 where
   pub some : 0 < length chain.elements
   pub few : length chain.elements ≤ most_elements

@@ -9,7 +9,7 @@ pub enum ChainTextError {
     /// No token starts at this offset, which is counted in bytes; or, where all of the text is tokens, the first wrong
     /// one starts there; or it is the length of a text that ends too early.
     Syntax(usize),
-    /// So many statements declare an element, and no more than 32 may.
+    /// The number of statements that declare an element, of which there are more than 32.
     Elements(u32),
     /// The statement of this number, counted from 1, declares `out` or a name again, uses a name that isn't declared
     /// before it, or wires an output again. It is the first such.

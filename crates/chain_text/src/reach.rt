@@ -36,7 +36,7 @@ fn join(rows: &mut Vec<bool>, count: usize, wire: Wire)
 impl Reach {
     ghost use Rattle.chain_text.specs.Reached.{LeadsBy, entry};
 
-    // Those that one wire leads to.
+    // The elements that one wire leads to.
     fn direct(alloc: Global, wires: &[Wire], count: usize) -> Result<Reach, NoMemory>
         requires some { 0 < count }
         requires few { count ≤ most_elements }
@@ -78,7 +78,7 @@ impl Reach {
         })
     }
 
-    // Those that any number of wires lead to.
+    // The elements that any number of wires lead to.
     fn new(alloc: Global, wires: &[Wire], count: usize) -> Result<Reach, NoMemory>
         requires some { 0 < count }
         requires few { count ≤ most_elements }

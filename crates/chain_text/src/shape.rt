@@ -22,7 +22,7 @@ pub(crate) const DECLARATION: [Kind; 4] = [
     Kind::Fixed(Mark::Ends),
 ];
 
-/// Those of one that wires an output.
+/// What the tokens are of a statement that wires an output.
 pub(crate) const WIRE: [Kind; 10] = [
     Kind::Name,
     Kind::Fixed(Mark::Opens),

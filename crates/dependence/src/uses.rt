@@ -72,7 +72,7 @@ impl Model for Uses {
 }
 
 impl Uses {
-    /// Those of a program. It takes one step an operand.
+    /// The uses of a program. Finding them takes one step an operand.
     pub fn of(alloc: Global, f: &Flat) -> Result<Uses, NoMemory>
         ensures { IfOk result (λ uses. AreUses (program_of f.now) uses) }
     {

@@ -57,12 +57,6 @@ do_one widths packet s t = by_outcome (do_stmt widths packet s t)
     by_outcome (Running u) = refl
     by_outcome (Ended st verdict) = refl
 
-itself : (k : ℕ) → (k == k) ≡ true
-itself k = eq-eqb k k refl
-
-extends_names : (xs ys zs : List ℕ) → Extends xs ys → Extends ys zs → Extends xs zs
-extends_names = extends_more
-
 pub length-all_widths : (spot : Spot) (xs : List ℕ) (n : Numbering) → length (all_declared spot xs n).widths ≡ length n.widths + length xs
 length-all_widths spot [] n = omega arith
 length-all_widths spot (x ∷ xs) n = omega (arith, length-all_widths spot xs (declared spot x n), length_push n.widths (slice_index spot.widths x))
@@ -77,22 +71,17 @@ choose_by i scope names false x x' y y' first second = second
 more_names : (scope names others : List ℕ) → Extends names others → ((x : ℕ) → IsIn x scope → x < length names) → (x : ℕ) → IsIn x scope → IsIn x scope × (slice_index others x ≡ slice_index names x)
 more_names scope names others grown within x is = (is, grown.same x (within x is))
 
-in_behind : (xs scope : List ℕ) (x : ℕ) → IsIn x scope → IsIn x (xs ++ scope)
+pub in_behind : (xs scope : List ℕ) (x : ℕ) → IsIn x scope → IsIn x (xs ++ scope)
 in_behind [] scope x is = is
 in_behind (y ∷ xs) scope x is = or_right (y == x) _ (in_behind xs scope x is)
 
 -- a statement's locals have numbers behind it
 pub bound_within : (m : Tree) (s : StmtTree) (scope : List ℕ) (next : ℕ) → is_good_stmt m scope next s ≡ true → ((y : ℕ) → IsIn y scope → y < next) → (y : ℕ) → IsIn y (binds s ++ scope) → y < next + declared_in s
 bound_within m (let_local x value) scope next good within y is = counted_within next (x ∷ []) scope y (and_second _ _ (and_first _ _ good)) within is
-bound_within m (assign x value) scope next good within y is = omega (arith, within y is)
-bound_within m (set_field f value) scope next good within y is = omega (arith, within y is)
 bound_within m (look found into object keys) scope next good within y is = counted_within next (found ∷ into) scope y (and_second _ _ (and_first _ _ good)) within is
 bound_within m (put ok object keys values) scope next good within y is = counted_within next (ok ∷ []) scope y (and_second _ _ (and_first _ _ good)) within is
 bound_within m (del was object keys) scope next good within y is = counted_within next (was ∷ []) scope y (and_second _ _ (and_first _ _ good)) within is
-bound_within m (choose cond first second) scope next good within y is = omega (arith, within y is)
-bound_within m (repeat index count body) scope next good within y is = omega (arith, within y is)
-bound_within m (send port) scope next good within y is = omega (arith, within y is)
-bound_within m drop scope next good within y is = omega (arith, within y is)
+bound_within m _ scope next good within y is = omega (arith, within y is)
 
 same_after : (i : Instance) (st : Store) (v x : ℕ) (bytes others : List ℕ) → v ≡ x → bytes ≡ others
     → (joined (i.leaves st (Send v bytes)).stores ≡ joined (i.leaves st (Send x others)).stores) × ((i.leaves st (Send v bytes)).verdict ≡ (i.leaves st (Send x others)).verdict)
@@ -147,7 +136,7 @@ module _ (i : Instance) (sent : Sends) (ready : IsReady i sent) where
     stmt_alike scope next (set_field f value) n is good numbered within room grown bytes set a t fits alike =
         let same = value_alike i n scope numbered within grown a t alike value (and_first _ _ (and_first _ _ good)) bytes in
         subst (λ v. Alike i scope n.names (assigned f (value_of (local_widths i.m) i.own value a) a) (assigned f v t)) (sym same)
-        (field_alike i scope n.names f (value_of (local_widths i.m) i.own value a) a t (written_behind_port f (and_second _ _ (and_first _ _ good))) (index-lt f) (set f (itself (field_index f))) alike)
+        (field_alike i scope n.names f (value_of (local_widths i.m) i.own value a) a t (written_behind_port f (and_second _ _ (and_first _ _ good))) (index-lt f) (set f (eq-eqb (field_index f) (field_index f) refl)) alike)
     stmt_alike scope next (look found into object keys) n is good numbered within room grown bytes set a t fits alike =
         let carries = stmt_carries i.m (spot_of i) sent ready.grow scope next (look found into object keys) n is good numbered in
         let old = extends_more n.widths (all_declared (spot_of i) (found ∷ into) n).widths i.widths carries.widths grown in
@@ -206,7 +195,7 @@ module _ (i : Instance) (sent : Sends) (ready : IsReady i sent) where
         let alike_middle = fewer_outcomes i scope n.names scope middle.names (Running a) (Running t) (more_names scope n.names middle.names one_carries.names within) alike in
         let v : ℕ = value_of (local_widths i.m) i.own test a in
         let yes_part = fewer_outcomes i scope n.names scope last.names (do_body (local_widths i.m) i.own first a) (do_body i.widths i.whole (body_placed (spot_of i) sent first n).body t)
-        (more_names scope n.names last.names (extends_names n.names middle.names last.names one_carries.names two_carries.names) within)
+        (more_names scope n.names last.names (extends_more n.names middle.names last.names one_carries.names two_carries.names) within)
         (body_alike scope next first n is good_first numbered within (omega (arith, room)) grown_middle first_bytes
         (λ f h. set f (or_left (sets_in f first) (sets_in f second) h)) a t fits alike) in
         let no_part = fewer_outcomes i scope middle.names scope last.names (do_body (local_widths i.m) i.own second a) (do_body i.widths i.whole (body_placed (spot_of i) sent second middle).body t)
@@ -236,7 +225,7 @@ module _ (i : Instance) (sent : Sends) (ready : IsReady i sent) where
         (sym (do_one i.widths i.whole (repeat (length n.widths) count (body_placed (spot_of i) sent body inner).body) t))
         (fewer_outcomes i scope n.names scope last.names (turns count 0 index (do_body (local_widths i.m) i.own body) a)
         (turns count 0 (length n.widths) (do_body i.widths i.whole (body_placed (spot_of i) sent body inner).body) t)
-        (more_names scope n.names last.names (extends_names n.names inner.names last.names carries.names turn.names) within)
+        (more_names scope n.names last.names (extends_more n.names inner.names last.names carries.names turn.names) within)
         (turns_alike i scope n index (do_body (local_widths i.m) i.own body) (do_body i.widths i.whole (body_placed (spot_of i) sent body inner).body) (first ∙ is) numbered within
         (omega (arith, first, room)) (omega (arith, grown.longer, turn.widths.longer, length_push n.widths (slice_index (local_widths i.m) index)))
         (λ v s low ok. bound_fits i.m index v s ok (let small : v < 2 ^ 32 = omega (arith, low) in subst (λ w. v < 2 ^ w) (sym wide) small))

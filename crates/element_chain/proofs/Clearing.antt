@@ -2,7 +2,7 @@
 use Rattle.std.proofs.Common.{◌≡◌, ◌≢◌, ◌⊎◌, ℕ, ◌+◌, ◌*◌, ◌<◌, ◌≤◌, ◌%◌, ◌^◌, ◌==◌, ◌||◌, ◌&&◌, Bool, true, false, cond, List, [], ◌∷◌, length, nat_le, nat_lt, refl, sym, ap, ◌∙◌, subst, arith, slice_index, slice_set, true≢false, Option, Some, None, is_some, IsSome, mod-eq_of_lt, inl, inr, ⊎_elim, eq-eqb}
 use Rattle.std.specs.List.{list_any, filter}
 use Rattle.std.specs.Option.{option_map}
-use Rattle.std.proofs.lemmas.Bool.{eqb-true, cases_Bool, cases_lt}
+use Rattle.std.proofs.lemmas.Bool.{eqb-true, cases_Bool, cases_lt, or_left, or_right}
 use Rattle.std.proofs.lemmas.Nat.{pow_pos}
 use Rattle.std.proofs.lemmas.Bool.Decides.{nat_tests}
 use Rattle.std.proofs.lemmas.List.{length-set, get_or-set_same, get_or-set_other}
@@ -23,23 +23,20 @@ use Rattle.packet_fields.specs.FieldOrder.{same_index, index-lt}
 use Rattle.packet_fields.proofs.SetFields.{value_absent, value_there}
 use Rattle.packet_fields.proofs.FieldLists.{Has, each_there}
 use Rattle.element_chain.proofs.Sent.{sent_shape, sent_length, sent_fixed, sent_there, absent_value, other_port, written_behind_port}
+use Rattle.lemmas.proofs.Tests.{and_false, and_true}
 
 -- ## operators
+bit_fits : (b : Bool) → cond b 1 0 % 2 ^ 1 ≡ cond b 1 0
+bit_fits true = refl
+bit_fits false = refl
+
 pub eq_value : (x y : ℕ) → operator_value Eq 1 (x ∷ y ∷ []) ≡ cond (x == y) 1 0
 unfolding operator_value
-eq_value x y = by_test (x == y)
-  where
-    by_test : (b : Bool) → cond b 1 0 % 2 ^ 1 ≡ cond b 1 0
-    by_test true = refl
-    by_test false = refl
+eq_value x y = bit_fits (x == y)
 
 lt_value : (x y : ℕ) → operator_value Lt 1 (x ∷ y ∷ []) ≡ cond (nat_lt x y) 1 0
 unfolding operator_value
-lt_value x y = by_test (nat_lt x y)
-  where
-    by_test : (b : Bool) → cond b 1 0 % 2 ^ 1 ≡ cond b 1 0
-    by_test true = refl
-    by_test false = refl
+lt_value x y = bit_fits (nat_lt x y)
 
 select_value : (w c x y : ℕ) → operator_value Select w (c ∷ x ∷ y ∷ []) ≡ cond (c == 1) x y % 2 ^ w
 unfolding operator_value
@@ -75,21 +72,17 @@ some_at o x e = ap (λ (p : Option ℕ). is_some p) e
 pub no_place : (shape : Shape) (f : Field) → (row f).header ≡ Meta → place shape f ≡ None
 no_place shape f e = absent_place shape f (ap (λ (h : Header). is_some (start_of shape h)) e)
 
+some_if : (b : Bool) (x : ℕ) → is_some (cond b (Some x) None) ≡ b
+some_if true x = refl
+some_if false x = refl
+
 long_enough : (bytes : List ℕ) → is_some (shape_of bytes).ethernet ≡ nat_le 14 (length bytes)
 unfolding shape_of shape_from
-long_enough bytes = by_test (nat_le 14 (length bytes))
-  where
-    by_test : (b : Bool) → is_some {T = ℕ} (cond b (Some 0) None) ≡ b
-    by_test true = refl
-    by_test false = refl
+long_enough bytes = some_if (nat_le 14 (length bytes)) 0
 
 tag_there : (bytes : List ℕ) → is_some (shape_of bytes).vlan ≡ has_tag bytes
 unfolding shape_of shape_from
-tag_there bytes = by_test (has_tag bytes)
-  where
-    by_test : (b : Bool) → is_some {T = ℕ} (cond b (Some 14) None) ≡ b
-    by_test true = refl
-    by_test false = refl
+tag_there bytes = some_if (has_tag bytes) 14
 
 type_place : (bytes : List ℕ) → nat_le 14 (length bytes) ≡ true → place (shape_of bytes) EthType ≡ Some (8 * 0 + 96)
 unfolding place shape_of shape_from
@@ -99,21 +92,15 @@ type_place bytes e = ap (λ (b : Bool). option_map (λ start. 8 * start + 96) (c
 tag_told : (bytes : List ℕ) (port : ℕ) → (field_value bytes port EthType == 0x8100 && nat_lt 17 (length bytes)) ≡ has_tag bytes
 tag_told bytes port = ⊎_elim short long (cases_lt (length bytes) 18)
   where
-    none : (b : Bool) → (b && false) ≡ false
-    none true = refl
-    none false = refl
-
     swapped : (a b : Bool) → (a && b) ≡ (b && a)
-    swapped true true = refl
-    swapped true false = refl
-    swapped false true = refl
-    swapped false false = refl
+    swapped true b = sym (and_true b)
+    swapped false b = sym (and_false b)
 
     short : length bytes < 18 → (field_value bytes port EthType == 0x8100 && nat_lt 17 (length bytes)) ≡ has_tag bytes
     short lt =
         let no : nat_lt 17 (length bytes) ≡ false = grind (arith, nat_tests, lt) in
         let none_here : nat_le 18 (length bytes) ≡ false = grind (arith, nat_tests, lt) in
-        ap (λ b. field_value bytes port EthType == 0x8100 && b) no ∙ none (field_value bytes port EthType == 0x8100)
+        ap (λ b. field_value bytes port EthType == 0x8100 && b) no ∙ and_false (field_value bytes port EthType == 0x8100)
         ∙ sym (ap (λ b. b && (in_header bytes 0 EthType == 0x8100)) none_here)
 
     long : 18 ≤ length bytes → (field_value bytes port EthType == 0x8100 && nat_lt 17 (length bytes)) ≡ has_tag bytes
@@ -126,12 +113,8 @@ tag_told bytes port = ⊎_elim short long (cases_lt (length bytes) 18)
         ∙ swapped (in_header bytes 0 EthType == 0x8100) (nat_le 18 (length bytes))
 
 written_header : (f : Field) → (row f).writable ≡ true → (row f).header ≡ Meta → ⊥
-written_header MetaPort may e = true≢false (sym may)
-written_header MetaLen may e = true≢false (sym may)
-written_header HasIp may e = true≢false (sym may)
-written_header HasTcp may e = true≢false (sym may)
-written_header HasUdp may e = true≢false (sym may)
-written_header f may e = cc
+written_header MetaPort may e = cc
+written_header _ may e = cc
 
 kept_if : (b : Bool) (w own : ℕ) (zero : ℕ) → (b ≡ true → own < 2 ^ w) → cond (cond b 1 0 == 1) own 0 % 2 ^ w ≡ cond b own 0
 kept_if true w own z fits = mod-eq_of_lt (fits refl)
@@ -180,18 +163,11 @@ module _ (widths : List ℕ) (whole : Packet) (is_set : Field → Bool) (only : 
   never_set f never = ⊎_elim (λ e. absurd (true≢false (sym (only f e) ∙ never))) (λ e. e) (cases_Bool (is_set f))
 
   kept_first : (b : Bool) (f : Field) (fs : List Field) → (is_set f ≡ b) → b ≡ true → list_any (λ h. field_index h == field_index f) (cond b (f ∷ fs) fs) ≡ true
-  kept_first true f fs is e = ap (λ x. x || list_any (λ h. field_index h == field_index f) fs) (itself (field_index f))
-    where
-      itself : (k : ℕ) → (k == k) ≡ true
-      itself k = eq-eqb k k refl
+  kept_first true f fs is e = ap (λ x. x || list_any (λ h. field_index h == field_index f) fs) (eq-eqb (field_index f) (field_index f) refl)
   kept_first false f fs is e = absurd (true≢false (sym e))
 
   kept_later : (b : Bool) (f g : Field) (fs : List Field) → list_any (λ h. field_index h == field_index g) fs ≡ true → list_any (λ h. field_index h == field_index g) (cond b (f ∷ fs) fs) ≡ true
   kept_later true f g fs e = or_right (field_index f == field_index g) (list_any (λ h. field_index h == field_index g) fs) e
-    where
-      or_right : (a b : Bool) → b ≡ true → (a || b) ≡ true
-      or_right true b e = refl
-      or_right false b e = e
   kept_later false f g fs e = e
 
   pub set_is_listed : (fs : List Field) (g : Field) → Has g fs → is_set g ≡ true → list_any (λ h. field_index h == field_index g) (filter is_set fs) ≡ true
@@ -355,22 +331,11 @@ module _ (widths : List ℕ) (whole : Packet) (is_set : Field → Bool) (only : 
   abbrev AllSet : List Field → Type 0
   AllSet fs = (g : Field) → list_any (λ h. field_index h == field_index g) fs ≡ true → is_set g ≡ true
 
-  or_left : (a b : Bool) → a ≡ true → (a || b) ≡ true
-  or_left true b e = refl
-  or_left false b e = absurd (true≢false (sym e))
-
-  or_right : (a b : Bool) → b ≡ true → (a || b) ≡ true
-  or_right true b e = refl
-  or_right false b e = e
-
-  equal_itself : (k : ℕ) → (k == k) ≡ true
-  equal_itself k = eq-eqb k k refl
-
   pub clearing_leaves : (fs : List Field) (u : State) → AllSet fs → length u.fields ≡ 37 → Cleared fs u.fields → ((f : Field) → (row f).writable ≡ true → slice_index u.fields (field_index f) < 2 ^ (row f).width)
       → (after : State) × (do_body widths whole (clearing fs) u ≡ Running after) × Leaves u after
   clearing_leaves [] u set all clear fits = (u, refl, record { locals = refl; store = refl; all = all; clear = clear; low = fits; unset = λ f never. refl })
   clearing_leaves (f ∷ fs) u set all clear fits =
-      let set_f : is_set f ≡ true = set f (or_left (field_index f == field_index f) _ (equal_itself (field_index f))) in
+      let set_f : is_set f ≡ true = set f (or_left (field_index f == field_index f) _ (eq-eqb (field_index f) (field_index f) refl)) in
       let may : (row f).writable ≡ true = only f set_f in
       let v : ℕ = value_of widths whole (kept_where (row f).header f (row f).width) u in
       let next : State = assigned f v u in

@@ -1,10 +1,10 @@
 -- The composed middlebox keeps the rules.
-use Rattle.std.proofs.Common.{◌≡◌, ℕ, zero, suc, ◌+◌, ◌<◌, ◌≤◌, ◌^◌, ◌==◌, ◌||◌, Bool, true, false, cond, List, [], ◌∷◌, ◌++◌, length, refl, sym, ap, ◌∙◌, subst, arith, slice_index, true≢false, Option, Some, None, inl, eq-eqb}
-use Rattle.std.specs.List.{list_any, filter}
-use Rattle.std.proofs.lemmas.Bool.{eqb-true, and_from, lt-ltb}
+use Rattle.std.proofs.Common.{◌≡◌, ℕ, zero, suc, ◌+◌, ◌<◌, ◌≤◌, ◌^◌, Bool, true, false, cond, List, [], ◌∷◌, ◌++◌, length, refl, sym, ap, ◌∙◌, subst, arith, slice_index, true≢false, Option, Some, None, inl, eq-eqb}
+use Rattle.std.specs.List.{filter}
+use Rattle.std.proofs.lemmas.Bool.{and_from, lt-ltb}
 use Rattle.std.proofs.lemmas.List.{length_push, get_or_push, length-map}
 use Rattle.packet_fields.specs.declared.field.Field.{Field}
-use Rattle.packet_fields.specs.declared.field.Field.TheVariants.{MetaPort, MetaLen, HasIp, HasTcp, HasUdp, EthType, IpVersion, IpIhl, IpFrag, IpProto}
+use Rattle.packet_fields.specs.declared.field.Field.TheVariants.{MetaPort}
 use Rattle.packet_fields.specs.Table.{row, all_fields}
 use Rattle.gal_bits.specs.declared.op.Op.TheVariants.{Eq}
 use Rattle.gal_bits.specs.Fitting.{fits_operator}
@@ -26,26 +26,19 @@ use Rattle.element_chain.proofs.Numbers.{Extends, extends_self, extends_more}
 use Rattle.element_chain.proofs.Sets.{set_only}
 use Rattle.element_chain.proofs.Wired.{EachWire}
 use Rattle.element_chain.proofs.Alike.{IsIn}
+use Rattle.element_chain.proofs.Steps.{in_cases}
+use Rattle.element_chain.proofs.Tests.{the_some, none_some}
 use Rattle.element_chain.proofs.Names.{all_objects_good, object_there}
 use Rattle.element_chain.proofs.GoodBodies.{bound_after, good_one, good_followed, IsAround, body_ends_same}
 use Rattle.element_chain.proofs.GoodStmts.{first_in, body_keeps}
-use Rattle.element_chain.proofs.Whole.{good_at, no_names, tests_grow, sent_grow, ends_grow, width_of_locals, length_of_locals}
-use Rattle.element_chain.proofs.GoodWhole.{ends_count, sent_count, ends_end, sent_end, clearing_declares, sends_quiet, IsKnown, known_wires, each_mapped, all_fresh}
+use Rattle.element_chain.proofs.Whole.{falls_further, good_at, no_names, tests_grow, sent_grow, ends_grow, width_of_locals, length_of_locals}
+use Rattle.element_chain.proofs.GoodWhole.{element_counts, ends_count, sent_count, ends_end, sent_end, clearing_declares, sends_quiet, IsKnown, known_wires, each_mapped, all_fresh}
 use Rattle.lemmas.proofs.Tests.{and_first}
 
 -- ## clearing
 cleared_good : (m : Tree) (around : List ℕ) (k : ℕ) (f : Field) → (row f).writable ≡ true → is_good_stmt m around k (cleared f) ≡ true
-cleared_good m around k MetaPort may = absurd (true≢false (sym may))
-cleared_good m around k MetaLen may = absurd (true≢false (sym may))
-cleared_good m around k HasIp may = absurd (true≢false (sym may))
-cleared_good m around k HasTcp may = absurd (true≢false (sym may))
-cleared_good m around k HasUdp may = absurd (true≢false (sym may))
-cleared_good m around k EthType may = absurd (true≢false (sym may))
-cleared_good m around k IpVersion may = absurd (true≢false (sym may))
-cleared_good m around k IpIhl may = absurd (true≢false (sym may))
-cleared_good m around k IpFrag may = absurd (true≢false (sym may))
-cleared_good m around k IpProto may = absurd (true≢false (sym may))
-cleared_good m around k f may = refl
+cleared_good m around k MetaPort may = cc
+cleared_good m around k _ may = cc
 
 abbrev AllWritable : List Field → Type 0
 AllWritable [] = Unit {0}
@@ -94,13 +87,9 @@ module _ (c : Connected) (fit : IsRanked c) (calm : IsCalm c) (small : IsSmall c
   abbrev IsGoodWire : Wire → Type 0
   IsGoodWire w = FallsTo c fit.rank (fit.rank 0) w.to × passes calm.reached w.to × (w.input < 2 ^ 8) × (w.output < 256)
 
-  falls_further : (from further : ℕ) (target : Target) → from ≤ further → FallsTo c fit.rank from target → FallsTo c fit.rank further target
-  falls_further from further Out le falls = tt
-  falls_further from further (Element e) le falls = (falls.0, omega (arith, falls.1, le))
-
   good_wires : (e : ℕ) → fit.rank e ≤ fit.rank 0 → calm.reached e ≡ true → EachWire IsGoodWire (wires_of c.wires e)
   good_wires e low there = each_mapped (IsKnown c fit calm e) IsGoodWire
-      (λ w is. (falls_further (fit.rank w.from) (fit.rank 0) w.to (subst (λ k. fit.rank k ≤ fit.rank 0) (sym is.1) low) is.0.0.to, is.0.1.on (ap calm.reached is.1 ∙ there), is.0.0.input, is.2))
+      (λ w is. (falls_further c fit.rank (fit.rank w.from) (fit.rank 0) w.to (subst (λ k. fit.rank k ≤ fit.rank 0) (sym is.1) low) is.0.0.to, is.0.1.on (ap calm.reached is.1 ∙ there), is.0.0.input, is.2))
       (wires_of c.wires e) (known_wires c fit calm e)
 
   tests_good : (n : ℕ) → GoodEnds n → (v : ℕ) (ws : List Wire) (scope widths : List ℕ) → EachWire IsGoodWire ws → IsIn v scope → slice_index (local_widths (composed c)) v ≡ 8 → ((y : ℕ) → IsIn y scope → y < length widths)
@@ -134,17 +123,12 @@ module _ (c : Connected) (fit : IsRanked c) (calm : IsCalm c) (small : IsSmall c
       let eight : slice_index (local_widths (composed c)) v ≡ 8 = grown_more.same v (omega (arith, longer)) ∙ get_or_push widths 8 0 v refl in
       let counted : counted_from v (v ∷ []) ≡ true = and_from _ _ (eq-eqb v v refl) refl in
       let fresh : are_fresh (composed c) scope (v ∷ []) ≡ true = fresh_in scope (v ∷ []) v counted (omega (arith, longer, grown_more.longer)) low in
-      let rest = tests_good n good v (w ∷ ws) (v ∷ scope) more each (first_in v scope) eight (λ y there. below_more widths scope v refl low y there) grown in
+      let below = λ (y : ℕ) (there : IsIn y (v ∷ scope)).
+      in_cases (y < length more) y v scope there (λ same. omega (arith, same, longer)) (λ other old. omega (arith, low y old, longer)) in
+      let rest = tests_good n good v (w ∷ ws) (v ∷ scope) more each (first_in v scope) eight below grown in
       and_from _ _ (and_from _ _ (and_from _ _ (and_from _ _ (and_from _ _ good_port
       (eq-eqb (slice_index (local_widths (composed c)) v) (width_of (local_widths (composed c)) p) (eight ∙ sym wide))) counted) fresh) refl)
       (subst (λ k. is_good_body (composed c) (v ∷ scope) k tested.body ≡ true) longer rest)
-    where
-      below_more : (widths scope : List ℕ) (v : ℕ) → v ≡ length widths → ((y : ℕ) → IsIn y scope → y < length widths) → (y : ℕ) → IsIn y (v ∷ scope) → y < length (widths ++ 8 ∷ [])
-      below_more widths scope v is low y there = by_test (v == y) refl there
-        where
-          by_test : (b : Bool) → (v == y) ≡ b → (b || list_any (λ z. z == y) scope) ≡ true → y < length (widths ++ 8 ∷ [])
-          by_test true e h = omega (arith, eqb-true v y e, is, length_push widths 8)
-          by_test false e h = omega (arith, low y h, length_push widths 8)
 
   around_at : (n : ℕ) → GoodEnds n → (e : ℕ) → e < length c.elements → fit.rank e ≤ fit.rank 0 → calm.reached e ≡ true → (port : Option ℕ) → ((j : ℕ) → port ≡ Some j → j < 2 ^ 8)
       → IsAround (composed c) (element_at c.elements e) (base_of c.elements e) port (sent_by (ends_within c n) (wires_of c.wires e))
@@ -160,8 +144,7 @@ module _ (c : Connected) (fit : IsRanked c) (calm : IsCalm c) (small : IsSmall c
 
   placed_good : (n : ℕ) → GoodEnds n → (e : ℕ) → e < length c.elements → fit.rank e ≤ fit.rank 0 → calm.reached e ≡ true → (port : Option ℕ) → ((j : ℕ) → port ≡ Some j → j < 2 ^ 8) → (scope widths : List ℕ)
       → ((y : ℕ) → IsIn y scope → y < length widths) → Extends (element_placed c (ends_within c n) port e widths).numbering.widths (local_widths (composed c))
-      → (is_good_body (composed c) scope (length widths) (element_placed c (ends_within c n) port e widths).body ≡ true)
-      × (length widths + declared_by (element_placed c (ends_within c n) port e widths).body ≡ length (element_placed c (ends_within c n) port e widths).numbering.widths)
+      → is_good_body (composed c) scope (length widths) (element_placed c (ends_within c n) port e widths).body ≡ true
   placed_good n good e lt low there port small_port scope widths below grown =
       let m : Tree = element_at c.elements e in
       body_keeps (composed c) m (base_of c.elements e) port (sent_by (ends_within c n) (wires_of c.wires e)) (around_at n good e lt low there port small_port)
@@ -175,12 +158,6 @@ module _ (c : Connected) (fit : IsRanked c) (calm : IsCalm c) (small : IsSmall c
       by_test true h = good
       by_test false h = good_followed (composed c) b (one drop_all) scope k good (inl (same ∙ h)) refl
 
-  some_small : (input j : ℕ) → input < 2 ^ 8 → Some input ≡ Some j → j < 2 ^ 8
-  some_small input j low same = let is : input ≡ j = the_same input j same in subst (λ k. k < 2 ^ 8) is low
-    where
-      the_same : (x y : ℕ) → Some x ≡ Some y → x ≡ y
-      the_same x y e = cc
-
   ends_good : (n : ℕ) → GoodEnds n
   ends_good n Out input scope widths falls there low below grown =
       good_one (composed c) scope (length widths) (send (lit input 8)) (and_from _ _ (and_from _ _ refl (lt-ltb input (2 ^ 8) low)) refl)
@@ -192,9 +169,9 @@ module _ (c : Connected) (fit : IsRanked c) (calm : IsCalm c) (small : IsSmall c
       let own : Placed = element_placed c (ends_within c n) (Some input) e widths in
       let fs : List Field = filter (is_set c.elements) all_fields in
       let only : (f : Field) → is_set c.elements f ≡ true → (row f).writable ≡ true = (λ f h. set_only c.elements f (λ k lt. good_at c fit k) h) in
-      let placed = placed_good n (ends_good n) e falls.0 (omega (arith, falls.1)) there (Some input) (λ j same. some_small input j low same) scope widths below grown in
+      let placed = placed_good n (ends_good n) e falls.0 (omega (arith, falls.1)) there (Some input) (λ j same. subst (λ k. k < 2 ^ 8) (the_some input j same) low) scope widths below grown in
       let closes : is_good_body (composed c) scope (length widths) (closed m.body own.body) ≡ true
-      = closed_good m.body own.body scope (length widths) (body_ends_same spot sent (sent_end (ends_within c n) (ends_end c n) (wires_of c.wires e)) m.body (record { names = []; widths = widths })) placed.0 in
+      = closed_good m.body own.body scope (length widths) (body_ends_same spot sent (sent_end (ends_within c n) (ends_end c n) (wires_of c.wires e)) m.body (record { names = []; widths = widths })) placed in
       let next : length widths + declared_by (clearing fs) ≡ length widths = omega (arith, clearing_declares fs) in
       good_followed (composed c) (clearing fs) (closed m.body own.body) scope (length widths) (clearing_good (composed c) scope (length widths) fs (filtered (is_set c.elements) only all_fields))
       (inl (clearing_goes_on fs))
@@ -206,11 +183,9 @@ module _ (c : Connected) (fit : IsRanked c) (calm : IsCalm c) (small : IsSmall c
       let n : ℕ = length c.elements in
       let entry : Placed = entry_within c n in
       let widths_are : local_widths (composed c) ≡ entry.numbering.widths = width_of_locals 0 entry.numbering.widths in
-      let placed = placed_good n (ends_good n) 0 fit.some (omega arith) calm.entry None none_some [] [] (λ y is. absurd (true≢false (sym is)))
+      let placed = placed_good n (ends_good n) 0 fit.some (omega arith) calm.entry None (λ j same. absurd (none_some j same)) [] [] (λ y is. absurd (true≢false (sym is)))
       (subst (Extends entry.numbering.widths) (sym widths_are) (extends_self entry.numbering.widths)) in
       let objects : are_good_objects [] (objects_from 0 c.elements) ≡ true = all_objects_good c.elements small.elements (λ e lt. and_first _ _ (and_first _ _ (fit.good e lt))) in
-      let count : declared_by entry.body ≡ length (composed c).locals = omega (arith, placed.1, length_of_locals 0 entry.numbering.widths) in
-      and_from _ _ (and_from _ _ objects (eq-eqb (declared_by entry.body) (length (composed c).locals) count)) placed.0
-    where
-      none_some : (j : ℕ) → None ≡ Some j → j < 2 ^ 8
-      none_some j same = cc
+      let count : declared_by entry.body ≡ length (composed c).locals =
+      omega (arith, element_counts c n (ends_count c n) None 0 [], length_of_locals 0 entry.numbering.widths) in
+      and_from _ _ (and_from _ _ objects (eq-eqb (declared_by entry.body) (length (composed c).locals) count)) placed

@@ -1,5 +1,5 @@
 -- The whole keeps the rules.
-use Rattle.std.proofs.Common.{◌≡◌, ℕ, zero, suc, ◌+◌, ◌<◌, ◌≤◌, ◌^◌, ◌==◌, ◌||◌, not, Bool, true, false, cond, List, [], ◌∷◌, ◌++◌, length, map, refl, sym, ap, ◌∙◌, arith, slice_index, Some, codes}
+use Rattle.std.proofs.Common.{◌≡◌, ℕ, zero, suc, ◌+◌, ◌<◌, ◌≤◌, ◌^◌, ◌==◌, ◌||◌, not, Bool, true, false, cond, List, [], ◌∷◌, ◌++◌, length, map, refl, sym, ap, ◌∙◌, arith, Option, Some, codes}
 use Rattle.std.specs.Fmt.{decimal}
 use Rattle.std.specs.List.{list_any, filter, All}
 use Rattle.std.specs.Str.{bytes_eq}
@@ -8,8 +8,7 @@ use Rattle.std.proofs.lemmas.List.{length_push}
 use Rattle.packet_fields.specs.declared.field.Field.{Field}
 use Rattle.packet_fields.specs.Table.{all_fields}
 use Rattle.state_store.specs.declared.object.ObjectDecl.{ObjectDecl}
-use Rattle.element_lang.specs.Tree.{ExprTree, StmtTree, BodyTree, Tree}
-use Rattle.element_lang.specs.Tree.StmtTree.{let_local, look, put, del, choose, repeat, send}
+use Rattle.element_lang.specs.Tree.{ExprTree, BodyTree, Tree}
 use Rattle.element_lang.specs.Tree.StmtTree.{drop as drop_all}
 use Rattle.element_lang.specs.Tree.BodyTree.{done, stmt}
 use Rattle.element_lang.specs.Widths.{local_widths}
@@ -19,39 +18,19 @@ use Rattle.element_chain.specs.declared.chain.Wire.{Wire}
 use Rattle.element_chain.specs.declared.chain.Target.{Target}
 use Rattle.element_chain.specs.declared.chain.Target.TheVariants.{Element, Out}
 use Rattle.element_chain.specs.Chain.{Connected, element_at}
-use Rattle.element_chain.specs.Compose.{Numbering, Placed, Spot, Sends, Ends, one, followed, declared, stmt_placed, body_placed, tests, sent_by, wires_of, ends_within, element_placed, entry_within, whole_within, closed, clearing, is_set, base_of, named_objects, objects_from}
+use Rattle.element_chain.specs.Compose.{Placed, Spot, Ends, one, followed, tests, sent_by, wires_of, ends_within, element_placed, entry_within, whole_within, closed, clearing, is_set, base_of, named_objects, objects_from}
 use Rattle.element_chain.specs.Laws.{any_sends_again}
 use Rattle.element_chain.proofs.Ranked.{IsRanked, IsWireOf, IsCalm, IsPassedOn, passes}
 use Rattle.element_chain.proofs.Wired.{EachWire, each_low}
 use Rattle.element_chain.proofs.Alike.{IsIn}
 use Rattle.element_chain.proofs.Names.{same_local, local_there}
-use Rattle.element_chain.proofs.Bodies.{length-all_widths}
+use Rattle.element_chain.proofs.Steps.{in_cases}
 use Rattle.element_chain.proofs.GoodBodies.{declared_followed, quiet_followed, ends_followed, quiet_body, body_ends_same}
-use Rattle.element_chain.proofs.GoodStmts.{first_in, later_in, length-numbers}
+use Rattle.element_chain.proofs.GoodStmts.{first_in, later_in, body_counts}
 use Rattle.element_chain.proofs.Whole.{length_of_locals}
 use Rattle.lemmas.proofs.Tests.{and_first, and_second}
 
 -- ## how many locals are declared
-module _ (spot : Spot) (sent : Sends) (counts : (p : ExprTree) (widths : List ℕ) → length widths + declared_by (sent p widths).body ≡ length (sent p widths).widths) where
-  open_one : (x : ℕ) (n : Numbering) → length (declared spot x n).widths ≡ length n.widths + 1
-  open_one x n = length_push n.widths (slice_index spot.widths x)
-
-  mutual
-    stmt_counts : (s : StmtTree) (n : Numbering) → length n.widths + declared_by (stmt_placed spot sent s n).body ≡ length (stmt_placed spot sent s n).numbering.widths
-    stmt_counts (let_local x value) n = omega (arith, open_one x n)
-    stmt_counts (look found into object keys) n = omega (arith, length-numbers (suc (length n.widths)) into, length-all_widths spot (found ∷ into) n)
-    stmt_counts (put ok object keys values) n = omega (arith, open_one ok n)
-    stmt_counts (del was object keys) n = omega (arith, open_one was n)
-    stmt_counts (choose test first second) n = omega (arith, body_counts first n, body_counts second (body_placed spot sent first n).numbering)
-    stmt_counts (repeat index count body) n = omega (arith, open_one index n, body_counts body (declared spot index n))
-    stmt_counts (send port) n = counts _ n.widths
-    stmt_counts _ n = omega arith
-
-    body_counts : (b : BodyTree) (n : Numbering) → length n.widths + declared_by (body_placed spot sent b n).body ≡ length (body_placed spot sent b n).numbering.widths
-    body_counts done n = omega arith
-    body_counts (stmt s b) n =
-        omega (arith, stmt_counts s n, body_counts b (stmt_placed spot sent s n).numbering, declared_followed (stmt_placed spot sent s n).body (body_placed spot sent b (stmt_placed spot sent s n).numbering).body)
-
 pub clearing_declares : (fs : List Field) → declared_by (clearing fs) ≡ 0
 clearing_declares [] = refl
 clearing_declares (f ∷ fs) = omega (arith, clearing_declares fs)
@@ -74,12 +53,20 @@ pub sent_count : (end : Ends) → CountEnds end → (ws : List Wire) (p : ExprTr
 sent_count end counts [] p widths = omega arith
 sent_count end counts (w ∷ ws) p widths = omega (arith, length_push widths 8, tests_count end counts (length widths) (w ∷ ws) (widths ++ 8 ∷ []))
 
+pub element_counts : (c : Connected) (n : ℕ) → CountEnds (ends_within c n) → (port : Option ℕ) (e : ℕ) (widths : List ℕ)
+    → length widths + declared_by (element_placed c (ends_within c n) port e widths).body
+    ≡ length (element_placed c (ends_within c n) port e widths).numbering.widths
+element_counts c n counts port e widths =
+    let m : Tree = element_at c.elements e in
+    let spot : Spot = record { widths = local_widths m; base = base_of c.elements e; port = port } in
+    body_counts spot (sent_by (ends_within c n) (wires_of c.wires e)) (sent_count (ends_within c n) counts (wires_of c.wires e)) m.body
+    (record { names = []; widths = widths })
+
 pub ends_count : (c : Connected) (n : ℕ) → CountEnds (ends_within c n)
 ends_count c n Out input widths = omega arith
 ends_count c zero (Element e) input widths = omega arith
 ends_count c (suc n) (Element e) input widths =
     let m : Tree = element_at c.elements e in
-    let spot : Spot = record { widths = local_widths m; base = base_of c.elements e; port = Some input } in
     let own : Placed = element_placed c (ends_within c n) (Some input) e widths in
     let fs : List Field = filter (is_set c.elements) all_fields in
     omega (
@@ -87,7 +74,7 @@ ends_count c (suc n) (Element e) input widths =
       declared_followed (clearing fs) (closed m.body own.body),
       clearing_declares fs,
       closed_declares m.body own.body,
-      body_counts spot (sent_by (ends_within c n) (wires_of c.wires e)) (sent_count (ends_within c n) (ends_count c n) (wires_of c.wires e)) m.body (record { names = []; widths = widths }),
+      element_counts c n (ends_count c n) (Some input) e widths,
     )
 
 -- ## what always ends
@@ -225,11 +212,5 @@ module _ (c : Connected) (n : ℕ) (few : length (whole_within c n).locals < 2 ^
       let object : list_any (bytes_eq (local_name (whole_within c n) x)) (object_names (whole_within c n)) ≡ false
       = ap (λ a. list_any (bytes_eq a) (object_names (whole_within c n))) (name_is x lt) ∙ no_objects (decimal x) 0 c.elements in
       and_from _ _ (and_from _ _ (ap not object) (ap not (others_apart x scope lt (λ y there. omega (arith, below y there, here)))))
-      (all_fresh (x ∷ scope) xs (next + 1) (and_second (x == next) _ counted) (omega (arith, room)) (λ y there. below_more y there here))
-    where
-      below_more : (y : ℕ) → IsIn y (x ∷ scope) → x ≡ next → y < next + 1
-      below_more y there here = by_test (x == y) refl there
-        where
-          by_test : (b : Bool) → (x == y) ≡ b → (b || list_any (λ z. z == y) scope) ≡ true → y < next + 1
-          by_test true e h = omega (arith, eqb-true x y e, here)
-          by_test false e h = omega (arith, below y h)
+      (all_fresh (x ∷ scope) xs (next + 1) (and_second (x == next) _ counted) (omega (arith, room))
+      (λ y there. in_cases (y < next + 1) y x scope there (λ same. omega (arith, same, here)) (λ other old. omega (arith, below y old))))

@@ -1,11 +1,11 @@
 -- The names of the whole can be read.
-use Rattle.std.proofs.Common.{◌≡◌, ℕ, suc, ◌+◌, ◌<◌, ◌≤◌, ◌^◌, ◌==◌, ◌&&◌, ◌||◌, Bool, true, false, cond, List, [], ◌∷◌, ◌++◌, length, refl, sym, ap, ◌∙◌, arith, true≢false, Option, Some, None, codes, take_while, if◌then◌else◌}
+use Rattle.std.proofs.Common.{inl, inr, ◌≡◌, ℕ, suc, ◌+◌, ◌<◌, ◌≤◌, ◌^◌, ◌==◌, ◌&&◌, ◌||◌, Bool, true, false, cond, List, [], ◌∷◌, ◌++◌, length, refl, sym, ap, ◌∙◌, arith, true≢false, Option, Some, None, codes, take_while, if◌then◌else◌}
 use Rattle.std.specs.Fmt.{decimal}
 use Rattle.std.specs.List.{list_any, list_all, All}
 use Rattle.std.specs.Str.{bytes_eq}
 use Rattle.std.specs.Str.Parse.{AllDigits}
 use Rattle.std.specs.Char.{digit_value}
-use Rattle.std.proofs.lemmas.Bool.{and_from, eqb-true}
+use Rattle.std.proofs.lemmas.Bool.{and_from, eqb-true, false_from_ne_true, or_cases, or_left, or_parts}
 use Rattle.std.proofs.lemmas.Bool.Decides.{nat_tests}
 use Rattle.std.proofs.lemmas.Fmt.{decimal_is_IsNumeral}
 use Rattle.std.proofs.lemmas.List.Elements.{All-nil, All-cons, All-head, All-tail}
@@ -26,11 +26,8 @@ use Rattle.lemmas.proofs.Lists.{first_taken, list_all_append}
 use Rattle.lemmas.proofs.Tests.{and_first, and_second}
 
 -- ## bytes
-digit_bounds : (b : ℕ) → digit_value b < 10 → (48 ≤ b) × (b ≤ 57)
-digit_bounds b low = (grind (arith, nat_tests, low), grind (arith, nat_tests, low))
-
 digit_byte : (b : ℕ) → digit_value b < 10 → is_number_byte b ≡ true
-digit_byte b low = let both = digit_bounds b low in let from : 48 ≤ b = both.0 in let to : b ≤ 57 = both.1 in grind (arith, nat_tests, from, to)
+digit_byte b low = let from : 48 ≤ b = grind (arith, nat_tests, low) in let to : b ≤ 57 = grind (arith, nat_tests, low) in grind (arith, nat_tests, from, to)
 
 digits_bytes : (ds : List ℕ) → AllDigits 10 ds → list_all is_number_byte ds ≡ true
 digits_bytes [] all = refl
@@ -38,21 +35,10 @@ digits_bytes (d ∷ ds) all = and_from _ _ (digit_byte d all.0) (digits_bytes ds
 
 word_bytes : (bs : List ℕ) → list_all is_number_byte bs ≡ true → list_all is_word_byte bs ≡ true
 word_bytes [] h = refl
-word_bytes (b ∷ bs) h = and_from _ _ (one_way (is_number_byte b) (b == 46) (and_first _ _ h)) (word_bytes bs (and_second (is_number_byte b) _ h))
-  where
-    one_way : (x y : Bool) → x ≡ true → (x || y) ≡ true
-    one_way true y e = refl
-    one_way false y e = absurd (true≢false (sym e))
+word_bytes (b ∷ bs) h = and_from _ _ (or_left (is_number_byte b) (b == 46) (and_first _ _ h)) (word_bytes bs (and_second (is_number_byte b) _ h))
 
 no_dot : (b : ℕ) → is_number_byte b ≡ true → (b == 46) ≡ false
-no_dot b h = by_test (b == 46) refl
-  where
-    dot : is_number_byte 46 ≡ false
-    dot = refl
-
-    by_test : (x : Bool) → (b == 46) ≡ x → (b == 46) ≡ false
-    by_test true e = absurd (true≢false (sym h ∙ ap is_number_byte (eqb-true b 46 e) ∙ dot))
-    by_test false e = e
+no_dot b h = false_from_ne_true (b == 46) (λ e. true≢false (sym h ∙ ap is_number_byte (eqb-true b 46 e)))
 
 no_dots : (bs : List ℕ) → list_all is_number_byte bs ≡ true → list_any (λ b. b == 46) bs ≡ false
 no_dots [] h = refl
@@ -79,11 +65,8 @@ name_from b bs letter bytes none =
     choose_word (is_letter b) (is_digit b) (take_while is_word_byte word) (take_while is_number_byte word) (symbol_in_front word) letter
     ∙ ap word_lexeme (taken is_word_byte word (word_bytes word bytes)) ∙ word_is word (no_dots word bytes) none
 
-no_e : (d : ℕ) → digit_value d < 10 → (101 == d) ≡ false
-no_e d low = let both = digit_bounds d low in let to : d ≤ 57 = both.1 in grind (arith, nat_tests, to)
-
-no_l : (d : ℕ) → digit_value d < 10 → (108 == d) ≡ false
-no_l d low = let both = digit_bounds d low in let to : d ≤ 57 = both.1 in grind (arith, nat_tests, to)
+no_letter : (d letter : ℕ) → 57 < letter → digit_value d < 10 → (letter == d) ≡ false
+no_letter d letter past low = let to : d ≤ 57 = grind (arith, nat_tests, low) in grind (arith, nat_tests, to, past)
 
 keyword_v : (d : ℕ) (rest : List ℕ) → (101 == d) ≡ false → keyword (118 ∷ d ∷ rest) ≡ None
 keyword_v d rest other = ap (λ x. cond (x && bytes_eq (codes "ctor") rest) (Some Vector) None) other
@@ -93,14 +76,14 @@ keyword_e d rest other = ap (λ x. cond (x && bytes_eq (codes "se") rest) (Some 
 
 v_name : (ds : List ℕ) → 0 < length ds → AllDigits 10 ds → IsName (118 ∷ ds)
 v_name [] some all = absurd (omega (arith, some))
-v_name (d ∷ ds) some all = name_from 118 (d ∷ ds) refl (and_from _ _ refl (digits_bytes (d ∷ ds) all)) (keyword_v d ds (no_e d all.0))
+v_name (d ∷ ds) some all = name_from 118 (d ∷ ds) refl (and_from _ _ refl (digits_bytes (d ∷ ds) all)) (keyword_v d ds (no_letter d 101 (omega arith) all.0))
 
 e_name : (ds a : List ℕ) → 0 < length ds → AllDigits 10 ds → list_all is_number_byte a ≡ true → IsName (101 ∷ (ds ++ 95 ∷ a))
 e_name [] a some all bytes = absurd (omega (arith, some))
 e_name (d ∷ ds) a some all bytes =
     name_from 101 (d ∷ (ds ++ 95 ∷ a)) refl
     (and_from _ _ refl (list_all_append is_number_byte (d ∷ ds) (95 ∷ a) (digits_bytes (d ∷ ds) all) (and_from _ _ refl bytes)))
-    (keyword_e d (ds ++ 95 ∷ a) (no_l d all.0))
+    (keyword_e d (ds ++ 95 ∷ a) (no_letter d 108 (omega arith) all.0))
 
 -- ## a name has no dot
 same_lexeme : (x y : Lexeme) → Some x ≡ Some y → (x.token ≡ y.token) × (x.len ≡ y.len)
@@ -142,21 +125,13 @@ dots_by true w word h = absurd (no_field (field_named w) word h)
 dots_by false w word h = refl
 
 plain_byte : (b : ℕ) → is_word_byte b ≡ true → (b == 46) ≡ false → is_number_byte b ≡ true
-plain_byte b h other = by_test (is_number_byte b) (b == 46) h other
-  where
-    by_test : (x y : Bool) → (x || y) ≡ true → y ≡ false → x ≡ true
-    by_test true y h e = refl
-    by_test false y h e = absurd (true≢false (sym h ∙ e))
+plain_byte b h other = elim (or_cases (is_number_byte b) (b == 46) h) [ inl is ↦ is | inr dot ↦ absurd (true≢false (sym dot ∙ other)) ]
 
 plain_bytes : (bs : List ℕ) → list_all is_word_byte bs ≡ true → list_any (λ b. b == 46) bs ≡ false → list_all is_number_byte bs ≡ true
 plain_bytes [] h none = refl
 plain_bytes (b ∷ bs) h none =
-    let two = quiet_or (b == 46) (list_any (λ b. b == 46) bs) none in
+    let two = or_parts (b == 46) (list_any (λ b. b == 46) bs) none in
     and_from _ _ (plain_byte b (and_first _ _ h) two.0) (plain_bytes bs (and_second (is_word_byte b) _ h) two.1)
-  where
-    quiet_or : (x y : Bool) → (x || y) ≡ false → (x ≡ false) × (y ≡ false)
-    quiet_or true y h = absurd (true≢false h)
-    quiet_or false y h = (refl, h)
 
 name_bytes : (word : List ℕ) → IsName word → list_all is_number_byte word ≡ true
 name_bytes [] h = refl

@@ -1,6 +1,6 @@
 -- What elements write, and bytes that stay bytes.
 use Rattle.std.proofs.Common.{◌≡◌, ℕ, zero, suc, ◌+◌, ◌*◌, ◌<◌, ◌^◌, ◌||◌, Bool, true, false, cond, List, [], ◌∷◌, ◌++◌, length, refl, sym, ap, ◌∙◌, subst, arith, slice_index, true≢false, Option, Some, None, ⊎_elim}
-use Rattle.std.proofs.lemmas.Bool.{eqb-true, cases_lt}
+use Rattle.std.proofs.lemmas.Bool.{eqb-true, cases_lt, or_left, or_right}
 use Rattle.std.proofs.lemmas.List.{get_or_past}
 use Rattle.packet_fields.specs.declared.field.Field.{Field}
 use Rattle.packet_fields.specs.Bits.{bit_of, replaced, bytes_of, with_number_at}
@@ -56,16 +56,8 @@ set_only (m ∷ ms) f good h =
 -- what an element sets, some element sets
 pub set_by : (elements : List Tree) (e : ℕ) (f : Field) → e < length elements → sets_in f (element_at elements e).body ≡ true → is_set elements f ≡ true
 set_by [] e f lt h = absurd (omega (arith, lt))
-set_by (m ∷ ms) zero f lt h = one_way (sets_in f m.body) (is_set ms f) h
-  where
-    one_way : (a b : Bool) → a ≡ true → (a || b) ≡ true
-    one_way true b e = refl
-    one_way false b e = absurd (true≢false (sym e))
-set_by (m ∷ ms) (suc e) f lt h = other_way (sets_in f m.body) (is_set ms f) (set_by ms e f (omega (arith, lt)) h)
-  where
-    other_way : (a b : Bool) → b ≡ true → (a || b) ≡ true
-    other_way true b e = refl
-    other_way false b e = e
+set_by (m ∷ ms) zero f lt h = or_left (sets_in f m.body) (is_set ms f) h
+set_by (m ∷ ms) (suc e) f lt h = or_right (sets_in f m.body) (is_set ms f) (set_by ms e f (omega (arith, lt)) h)
 
 -- ## bytes
 abbrev pub AreBytes : List ℕ → Type 0

@@ -1,7 +1,7 @@
 -- The statements of an element, one at a time, by themselves and in the whole.
 use Rattle.std.proofs.Common.{◌≡◌, ◌≢◌, ℕ, zero, suc, ◌+◌, ◌<◌, ◌≤◌, ◌%◌, ◌^◌, ◌==◌, ◌||◌, Bool, true, false, List, [], ◌∷◌, ◌++◌, length, refl, sym, ap, ◌∙◌, subst, arith, slice_index, slice_set, slice_get, true≢false, Option, Some, None, is_some}
 use Rattle.std.specs.List.{list_any}
-use Rattle.std.proofs.lemmas.Bool.{eqb-true}
+use Rattle.std.proofs.lemmas.Bool.{eqb-true, or_right}
 use Rattle.std.proofs.lemmas.Bool.Decides.{nat_tests}
 use Rattle.std.proofs.lemmas.List.{length-set, get_or-set_same, get_or-set_other, length_push, get_or_append_left, get_or_push}
 use Rattle.gal_bits.specs.Operators.{bit}
@@ -20,7 +20,7 @@ use Rattle.element_lang.specs.KeptRuns.{Fits, FitsOutcome}
 use Rattle.element_chain.proofs.Numbers.{IsNumbered, Carries, carries_one}
 use Rattle.element_chain.proofs.Stores.{object_within, set_within}
 use Rattle.element_chain.proofs.Alike.{Instance, spot_of, own_port, IsIn, Alike, AlikeOutcomes, then_alike, fewer_alike}
-use Rattle.lemmas.proofs.Tests.{and_first, and_second}
+use Rattle.lemmas.proofs.Tests.{and_first, and_second, or_true}
 
 -- ## locals
 -- what agrees of the locals
@@ -199,10 +199,8 @@ abbrev pub any_is : ℕ → List ℕ → Bool
 any_is y xs = list_any (λ z. z == y) xs
 
 moved_back : (a b c : Bool) → (a || (b || c)) ≡ (b || (a || c))
-moved_back true true c = refl
-moved_back true false c = refl
-moved_back false true c = refl
-moved_back false false c = refl
+moved_back true b c = sym (or_true b)
+moved_back false b c = refl
 
 pub any_middle : (y x : ℕ) (xs scope : List ℕ) → any_is y (x ∷ (xs ++ scope)) ≡ any_is y (xs ++ (x ∷ scope))
 any_middle y x [] scope = refl
@@ -317,13 +315,9 @@ turns_alike i scope n x go also is numbered within room place binds keeps goes (
     let names : List ℕ = (declared (spot_of i) x n).names in
     let old : (y : ℕ) → y < length n.names → slice_index names y ≡ slice_index n.names y = (λ y lt. get_or_append_left n.names (length n.widths ∷ []) 0 y lt) in
     let fewer : (y : ℕ) → IsIn y scope → IsIn y (x ∷ scope) × (slice_index n.names y ≡ slice_index names y)
-    = (λ y there. (kept_in (x == y) (list_any (λ z. z == y) scope) there, sym (old y (within y there)))) in
+    = (λ y there. (or_right (x == y) (list_any (λ z. z == y) scope) there, sym (old y (within y there)))) in
     then_alike i (x ∷ scope) names scope n.names (go (bound x k s)) (also (bound (length n.widths) k t)) (turns count (suc k) x go) (turns count (suc k) (length n.widths) also)
     (goes (bound x k s) (bound (length n.widths) k t) (binds k s low fits) (bound_alike i scope n x k s t is numbered within room place alike))
     (keeps (bound x k s) (binds k s low fits))
     (λ u v fits' alike'. turns_alike i scope n x go also is numbered within room place binds keeps goes count (suc k) u v (omega (arith, few)) fits'
     (fewer_alike i (x ∷ scope) names scope n.names u v fewer alike'))
-  where
-    kept_in : (a b : Bool) → b ≡ true → (a || b) ≡ true
-    kept_in true b e = refl
-    kept_in false b e = e

@@ -199,7 +199,7 @@ EndRight c fit widths whole n = (target : Target) (input : ℕ) (before : List �
 dropped_right : (c : Connected) (widths : List ℕ) (whole : Packet) (t : State) (stores : List Store) → IsAtEnd c widths whole t stores → do_body widths whole (one drop_all) t ≡ ended (dropped stores)
 dropped_right c widths whole t stores at = ap (λ st. Ended st Drop) at.store
 
-falls_further : (c : Connected) (rank : ℕ → ℕ) (from further : ℕ) (target : Target) → from ≤ further → FallsTo c rank from target → FallsTo c rank further target
+pub falls_further : (c : Connected) (rank : ℕ → ℕ) (from further : ℕ) (target : Target) → from ≤ further → FallsTo c rank from target → FallsTo c rank further target
 falls_further c rank from further Out le falls = tt
 falls_further c rank from further (Element e) le falls = (falls.0, omega (arith, falls.1, le))
 
@@ -302,15 +302,18 @@ end_ended i scope names (Running s) (Ended all last) alike has = absurd alike
 end_ended i scope names (Ended st verdict) (Running t) alike has = absurd alike
 end_ended i scope names (Ended st verdict) (Ended all last) alike has = same_end all (joined (i.leaves st verdict).stores) last (i.leaves st verdict).verdict alike.0 alike.1
 
-end_dropped : (i : Instance) (widths : List ℕ) (packet : Packet) (scope names : List ℕ) (o p : Outcome)
+store_same : (i : Instance) (scope names : List ℕ) (o p : Outcome)
     → ((st : Store) → (i.before ++ (st ++ i.after) ≡ joined (i.leaves st Drop).stores) × (Drop ≡ (i.leaves st Drop).verdict))
-    → AlikeOutcomes i scope names o p → then_do p (do_body widths packet (one drop_all)) ≡ ended (after_outcome i o)
-end_dropped i widths packet scope names (Running s) (Running t) drops alike =
-    same_end t.store (joined (i.leaves s.store Drop).stores) Drop (i.leaves s.store Drop).verdict (alike.store ∙ (drops s.store).0) (drops s.store).1
-end_dropped i widths packet scope names (Running s) (Ended all last) drops alike = absurd alike
-end_dropped i widths packet scope names (Ended st verdict) (Running t) drops alike = absurd alike
-end_dropped i widths packet scope names (Ended st verdict) (Ended all last) drops alike =
-    same_end all (joined (i.leaves st verdict).stores) last (i.leaves st verdict).verdict alike.0 alike.1
+    → AlikeOutcomes i scope names o p → (store_after p ≡ joined (after_outcome i o).stores) × (verdict_after p ≡ (after_outcome i o).verdict)
+store_same i scope names (Running s) (Running t) drops alike = (alike.store ∙ (drops s.store).0, (drops s.store).1)
+store_same i scope names (Running s) (Ended all last) drops alike = absurd alike
+store_same i scope names (Ended st verdict) (Running t) drops alike = absurd alike
+store_same i scope names (Ended st verdict) (Ended all last) drops alike = alike
+
+dropped_as : (widths : List ℕ) (packet : Packet) (p : Outcome) (a : After) → (store_after p ≡ joined a.stores) × (verdict_after p ≡ a.verdict)
+    → then_do p (do_body widths packet (one drop_all)) ≡ ended a
+dropped_as widths packet (Running t) a same = same_end t.store (joined a.stores) Drop a.verdict same.0 same.1
+dropped_as widths packet (Ended all last) a same = same_end all (joined a.stores) last a.verdict same.0 same.1
 
 closed_right : (i : Instance) (widths : List ℕ) (packet : Packet) (scope names : List ℕ) (own placed : BodyTree) (a u : State)
     → ((st : Store) → (i.before ++ (st ++ i.after) ≡ joined (i.leaves st Drop).stores) × (Drop ≡ (i.leaves st Drop).verdict))
@@ -322,7 +325,8 @@ closed_right i widths packet scope names own placed a u drops alike = by_test (e
     by_test true h = end_ended i scope names (do_body (local_widths i.m) i.own own a) (do_body widths packet placed u) alike (body_ends (local_widths i.m) i.own own a h)
     by_test false h =
         do_followed widths packet placed (one drop_all) u
-        ∙ end_dropped i widths packet scope names (do_body (local_widths i.m) i.own own a) (do_body widths packet placed u) drops alike
+        ∙ dropped_as widths packet (do_body widths packet placed u) (after_outcome i (do_body (local_widths i.m) i.own own a))
+        (store_same i scope names (do_body (local_widths i.m) i.own own a) (do_body widths packet placed u) drops alike)
 
 -- ## the elements behind the entry
 entered_right : (c : Connected) → (fit : IsRanked c) → (widths : List ℕ) (whole : Packet) → IsArrival whole → (n : ℕ) → EndRight c fit widths whole n → (e input : ℕ) (before : List ℕ) (t : State) (stores : List Store) → (e < length c.elements) × (fit.rank e < fit.rank 0)
@@ -431,14 +435,6 @@ entry_alike c fit n stores whole arrives kept =
     (λ y is. absurd (true≢false (sym is))) (omega (arith, locals_at c fit 0 fit.some)) (extends_self widths)
     (λ h. refl) (λ f h. set_by c.elements 0 f fit.some h) a t
     (start_fits m (store_at stores 0) whole arrives (kept.each 0 fit.some)) alike
-
-store_same : (i : Instance) (scope names : List ℕ) (o p : Outcome)
-    → ((st : Store) → (i.before ++ (st ++ i.after) ≡ joined (i.leaves st Drop).stores) × (Drop ≡ (i.leaves st Drop).verdict))
-    → AlikeOutcomes i scope names o p → (store_after p ≡ joined (after_outcome i o).stores) × (verdict_after p ≡ (after_outcome i o).verdict)
-store_same i scope names (Running s) (Running t) drops alike = (alike.store ∙ (drops s.store).0, (drops s.store).1)
-store_same i scope names (Running s) (Ended all last) drops alike = absurd alike
-store_same i scope names (Ended st verdict) (Running t) drops alike = absurd alike
-store_same i scope names (Ended st verdict) (Ended all last) drops alike = alike
 
 -- from every store that keeps what is declared, for every packet that may arrive
 pub whole_is_chain : (c : Connected) (stores : List Store) (packet : Packet) → IsRanked c → AreKept c.elements stores → IsArrival packet

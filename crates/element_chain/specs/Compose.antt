@@ -184,7 +184,7 @@ sent_by end (w ∷ ws) port widths =
 
 -- ## What is lost between elements
 
--- it sets this field somewhere
+-- whether a statement or a body sets this field
 abbrev mutual
   pub sets : Field → StmtTree → Bool
   sets f (set_field g value) = field_index f == field_index g

@@ -45,7 +45,7 @@ abbrev mutual
   any_uses_bytes done = false
   any_uses_bytes (stmt s b) = uses_bytes s || any_uses_bytes b
 
--- it sends somewhere
+-- whether a statement or a body sends
 abbrev mutual
   pub sends_in : StmtTree → Bool
   sends_in (send port) = true
@@ -63,7 +63,7 @@ abbrev mutual
   any_sends done = false
   any_sends (stmt s b) = sends_in s || any_sends b
 
--- it sends within a `repeat`
+-- whether a statement or a body sends within a `repeat`
 abbrev mutual
   pub sends_again : StmtTree → Bool
   sends_again (repeat index count body) = any_sends body

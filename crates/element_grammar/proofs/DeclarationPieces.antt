@@ -13,7 +13,7 @@ use Rattle.element_grammar.specs.Machine.{is_mark, more_widths_move, more_litera
 use Rattle.element_grammar.specs.Refused.{Misses, NoMark, FoundHeader, FoundRow, FoundObjects, SpellsNone, row_parts, header_parts}
 use Rattle.element_grammar.proofs.Runs.{reads_literals, reads_decl, reads_body}
 use Rattle.element_grammar.proofs.Pieces.{moved, memory, onward, behind, first, first_two, first_three, past_mark, past_marks, past_number, past_number_then}
-use Rattle.element_grammar.proofs.Pieces.{past_name_then, past_widths, past_literals, begun, not_begun, at_end, mark_way, as_mark}
+use Rattle.element_grammar.proofs.Pieces.{past_name_then, past_widths, past_literals, begun, not_begun, at_end, as_mark}
 use Rattle.element_grammar.proofs.Loops.{Sofar, sofar_none, sofar_misses}
 
 -- ## Widths

@@ -7,7 +7,7 @@ use Rattle.element_grammar.specs.Machine.{Awaited, left_at}
 use Rattle.element_grammar.specs.Refused.{Misses}
 use Rattle.element_grammar.proofs.Pieces.{onward}
 
--- These items stand in front, and behind them the list may go on in the same way.
+-- The items that were read so far: what stands behind them reads on as the same list.
 pub record Sofar {A : Type 0} (a : Awaited) (Are : List A → List Token → List Token → Type 0) (xs : List A) (ts left : List Token) : Type 0 where
   pub reads : (below : List Awaited) → left_at (a ∷ below) ts ≡ left_at (a ∷ below) left
   pub whole : (ys : List A) (rest : List Token) → Are ys left rest → Are (xs ++ ys) ts rest

@@ -15,10 +15,10 @@ use Rattle.element_grammar.specs.Machine.{Awaited, mark, some_name, exprs, keys,
 use Rattle.element_grammar.specs.Machine.{names_move, body_move, otherwise_move, after, step, when_it_fits, left_at}
 use Rattle.element_grammar.specs.Refused.{Misses, NoMark, NoElse, FoundExpr, FoundBetween, FoundEntry, FoundStmt, FoundElse}
 use Rattle.element_grammar.proofs.Runs.{semicolon_closes, starts_more, skip_else, reads_keys, reads_exprs, reads_names, reads_body}
-use Rattle.element_grammar.proofs.Pieces.{moved, memory, onward, behind, first, first_two, first_three, past_mark, past_marks, past_number_then, past_name}
-use Rattle.element_grammar.proofs.Pieces.{past_name_then, past_expr_then, past_between, past_names, past_entry, past_body, begun, not_begun, at_end, mark_way}
+use Rattle.element_grammar.proofs.Pieces.{moved, memory, onward, behind, first, first_two, first_three, past_mark, past_number_then, past_name}
+use Rattle.element_grammar.proofs.Pieces.{past_name_then, past_expr_then, past_between, past_names, past_entry, past_body, begun, not_begun, at_end}
 use Rattle.element_grammar.proofs.Pieces.{as_mark}
-use Rattle.element_grammar.proofs.Loops.{Sofar, sofar_none, sofar_end, sofar_misses}
+use Rattle.element_grammar.proofs.Loops.{Sofar, sofar_none, sofar_misses}
 
 -- ## Names
 

@@ -1,4 +1,4 @@
-//! The tokens in front of others.
+//! Reading from the front of a list of tokens. Each function gives what it read and the tokens that are left.
 ghost use Rattle.std.specs.Prelude.{◌≡◌, ◌<◌, [], ◌∷◌, length, IfOk, IfErr, IfSome, IfNone};
 ghost use Rattle.element_lang.specs.Token.{fixed, number as number_token, name as name_token};
 ghost use Rattle.element_tokens.specs.Tokens.{span_text, token_of, tokens_of};
@@ -23,7 +23,7 @@ pub(crate) fn wrong(text: &[u8], tokens: &[Placed]) -> ParseError
     ParseError::Left(count(text, tokens))
 }
 
-// The first token, and those behind it.
+// Reads the first token.
 pub(crate) fn first<'t>(
     text: &[u8],
     tokens: &'t [Placed],
@@ -39,7 +39,7 @@ pub(crate) fn first<'t>(
     }
 }
 
-// The mark in front, if one is there, and the tokens behind it.
+// Reads the mark in front, if one is there.
 pub(crate) fn mark_in_front<'t>(text: &[u8], tokens: &'t [Placed]) -> Option<(Mark, &'t [Placed])>
     ensures some { IfSome result (λ x.
         tokens_of text.now tokens.now ≡ fixed x.0 ∷ tokens_of text.now x.1.now) }
@@ -52,7 +52,7 @@ pub(crate) fn mark_in_front<'t>(text: &[u8], tokens: &'t [Placed]) -> Option<(Ma
     }
 }
 
-// The tokens behind a mark, where it stands in front.
+// Reads a mark, where it stands in front.
 pub(crate) fn skip_mark<'t>(text: &[u8], tokens: &'t [Placed], want: Mark) -> Option<&'t [Placed]>
     ensures some { IfSome result (λ rest.
         tokens_of text.now tokens.now ≡ fixed want ∷ tokens_of text.now rest.now) }
@@ -63,7 +63,7 @@ pub(crate) fn skip_mark<'t>(text: &[u8], tokens: &'t [Placed], want: Mark) -> Op
     if found == want { Some(rest) } else { None }
 }
 
-// The tokens behind a mark.
+// Reads a mark.
 #[tactic(auto, using(crate::proofs::Pieces::no_mark))]
 pub(crate) fn after_mark<'t>(
     text: &[u8],
@@ -81,7 +81,7 @@ pub(crate) fn after_mark<'t>(
     }
 }
 
-// The tokens behind two marks.
+// Reads two marks.
 #[tactic(auto, using(crate::proofs::Pieces::two_marks))]
 pub(crate) fn after_marks<'t>(
     text: &[u8],
@@ -99,7 +99,7 @@ pub(crate) fn after_marks<'t>(
     after_mark(text, rest, other)
 }
 
-// The number in front, and the tokens behind it.
+// Reads the number in front.
 pub(crate) fn number<'t>(
     text: &[u8],
     tokens: &'t [Placed],
@@ -115,7 +115,7 @@ pub(crate) fn number<'t>(
     }
 }
 
-// The name in front, and the tokens behind it.
+// Reads the name in front.
 pub(crate) fn name<'t>(
     text: &[u8],
     tokens: &'t [Placed],
@@ -131,7 +131,7 @@ pub(crate) fn name<'t>(
     }
 }
 
-// The number in front that has a mark behind it, and the tokens behind the mark.
+// Reads the number in front and the mark behind it.
 pub(crate) fn number_then<'t>(
     text: &[u8],
     tokens: &'t [Placed],
@@ -148,7 +148,7 @@ pub(crate) fn number_then<'t>(
     Ok((value, rest))
 }
 
-// The name in front that has a mark behind it, and the tokens behind the mark.
+// Reads the name in front and the mark behind it.
 pub(crate) fn name_then<'t>(
     text: &[u8],
     tokens: &'t [Placed],

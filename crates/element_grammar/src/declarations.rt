@@ -1,4 +1,4 @@
-//! Declarations.
+//! Declarations. Each function that reads gives what it read and the tokens that are left.
 ghost use Rattle.std.specs.Prelude.{◌≡◌, ◌<◌, [], ◌∷◌, length, map, IfOk, IfErr};
 ghost use Rattle.element_lang.specs.declared.mark.Mark.TheVariants.{Table as TableMark, Map as MapMark};
 ghost use Rattle.element_lang.specs.declared.mark.Mark.TheVariants.{Vector as VectorMark, Int as IntMark};
@@ -69,7 +69,7 @@ fn int_of(text: &[u8], name: Span, width: u64, start: u64) -> SurfaceDecl
     SurfaceDecl::Int { name, width, start }
 }
 
-// The widths up to the bracket that closes them, with commas between them, and the tokens behind it.
+// Reads widths with commas between them, and the bracket that closes them.
 #[tactic(auto, using(crate::proofs::DeclarationPieces::lists_of_widths))]
 fn widths<'t>(
     alloc: Global,
@@ -92,7 +92,7 @@ fn widths<'t>(
     }
 }
 
-// The literal in front, and the tokens behind it.
+// Reads the literal in front.
 fn one_literal<'t>(text: &[u8], tokens: &'t [Placed]) -> Result<(Literal, &'t [Placed]), ParseError>
     ensures ok { IfOk result (λ x. tokens_of text.now tokens.now
         ≡ number_token x.0.value ∷ fixed ColonMark ∷ number_token x.0.width ∷ tokens_of text.now x.1.now) }
@@ -105,7 +105,7 @@ fn one_literal<'t>(text: &[u8], tokens: &'t [Placed]) -> Result<(Literal, &'t [P
     Ok((Literal { value, width }, rest))
 }
 
-// The literals up to the bracket that closes them, with commas between them, and the tokens behind it.
+// Reads literals with commas between them, and the bracket that closes them.
 #[tactic(auto, using(crate::proofs::DeclarationPieces::lists_of_literals))]
 fn literals<'t>(
     alloc: Global,
@@ -129,7 +129,7 @@ fn literals<'t>(
     }
 }
 
-// The row behind its opening bracket, and the tokens behind it.
+// Reads the row behind its opening bracket.
 #[tactic(auto, using(crate::proofs::DeclarationPieces::single_rows))]
 fn row<'t>(
     alloc: Global,
@@ -148,7 +148,7 @@ fn row<'t>(
     Ok((SurfaceRow { keys, values }, rest))
 }
 
-// The rows up to the bracket that closes them, and the tokens behind it.
+// Reads rows, and the bracket that closes them.
 #[tactic(auto, using(crate::proofs::DeclarationPieces::lists_of_rows))]
 fn rows<'t>(
     alloc: Global,
@@ -173,7 +173,7 @@ fn rows<'t>(
     }
 }
 
-// The name of an object and the widths of its keys and values, and the tokens behind them.
+// Reads the name of an object and the widths of its keys and values.
 #[tactic(auto, using(crate::proofs::DeclarationPieces::headers))]
 fn header<'t>(
     alloc: Global,
@@ -192,7 +192,7 @@ fn header<'t>(
     Ok((name, keys, values, rest))
 }
 
-// The declaration behind `table`, and the tokens behind it.
+// Reads the declaration behind `table`.
 #[tactic(auto, using(crate::proofs::DeclarationPieces::with_headers))]
 fn table_decl<'t>(
     alloc: Global,
@@ -211,7 +211,7 @@ fn table_decl<'t>(
     Ok((table_of(text, name, keys, values, rows), rest))
 }
 
-// The declaration behind `map`, and the tokens behind it.
+// Reads the declaration behind `map`.
 #[tactic(auto, using(crate::proofs::DeclarationPieces::with_headers))]
 fn map_decl<'t>(
     alloc: Global,
@@ -230,7 +230,7 @@ fn map_decl<'t>(
     Ok((map_of(text, name, keys, values, capacity), rest))
 }
 
-// The declaration behind `vector`, and the tokens behind it.
+// Reads the declaration behind `vector`.
 #[tactic(auto, using(crate::proofs::DeclarationPieces::without_headers))]
 fn vector_decl<'t>(
     alloc: Global,
@@ -251,7 +251,7 @@ fn vector_decl<'t>(
     Ok((vector_of(text, name, length, values), rest))
 }
 
-// The declaration behind `int`, and the tokens behind it.
+// Reads the declaration behind `int`.
 #[tactic(auto, using(crate::proofs::DeclarationPieces::without_headers))]
 fn int_decl<'t>(
     text: &[u8],
@@ -269,7 +269,7 @@ fn int_decl<'t>(
     Ok((int_of(text, name, width, start), rest))
 }
 
-// The declaration in front, and the tokens behind it.
+// Reads the declaration in front.
 #[tactic(auto, using(crate::proofs::DeclarationPieces::declared))]
 fn declaration<'t>(
     alloc: Global,
@@ -292,7 +292,7 @@ fn declaration<'t>(
     }
 }
 
-// The declarations up to `process`, and the tokens behind it.
+// Reads the declarations, and the `process` behind them.
 #[tactic(auto, using(crate::proofs::DeclarationPieces::objects))]
 pub(crate) fn declarations<'t>(
     alloc: Global,

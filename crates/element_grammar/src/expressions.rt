@@ -1,4 +1,4 @@
-//! Expressions, and lists of them.
+//! Expressions, and lists of them. Each function that reads gives what it read and the tokens that are left.
 ghost use Rattle.std.specs.Prelude.{◌≡◌, ◌<◌, ◌≤◌, [], ◌∷◌, length, IfOk, IfErr};
 ghost use Rattle.element_lang.specs.declared.mark.Mark.TheVariants.{Byte as ByteMark, Cast as CastMark};
 ghost use Rattle.element_lang.specs.Token.{fixed, number as number_token};
@@ -139,7 +139,7 @@ fn of_three(
     Ok(SurfaceExpr::Apply { op, width: 0, args })
 }
 
-// The literal of a value that has been read, and the tokens behind it.
+// Reads what is left of a literal whose value has been read.
 #[tactic(auto, using(crate::proofs::Operands::operands))]
 fn literal<'t>(
     text: &[u8],
@@ -157,7 +157,7 @@ fn literal<'t>(
     Ok((literal_of(text, value, width), rest))
 }
 
-// The operand in front, and the tokens behind it. The recursion goes as deep as brackets stand in one another.
+// Reads the operand in front. The recursion goes as deep as brackets stand in one another.
 #[cycle(expr)]
 #[tactic(auto, using(crate::proofs::Operands::operands))]
 fn primary<'t>(
@@ -184,7 +184,7 @@ fn primary<'t>(
     }
 }
 
-// The operand behind `byte`, and the tokens behind it.
+// Reads the operand behind `byte`.
 #[cycle(expr)]
 #[tactic(auto, using(crate::proofs::Operands::operands))]
 fn byte<'t>(
@@ -202,7 +202,7 @@ fn byte<'t>(
     Ok((byte_of(alloc, text, index)?, rest))
 }
 
-// The operand behind `cast`, and the tokens behind it.
+// Reads the operand behind `cast`.
 #[cycle(expr)]
 #[tactic(auto, using(crate::proofs::Operands::operands))]
 fn cast<'t>(
@@ -222,7 +222,7 @@ fn cast<'t>(
     Ok((of_one(alloc, text, Op::Cast, width, value)?, rest))
 }
 
-// An operator of the three expressions in brackets in front, and the tokens behind them.
+// Reads the three expressions in brackets in front, and makes an operator of them.
 #[cycle(expr)]
 #[tactic(auto, using(crate::proofs::Operands::operands))]
 fn three_in_brackets<'t>(
@@ -242,7 +242,7 @@ fn three_in_brackets<'t>(
     Ok((of_three(alloc, text, op, a, b, c)?, rest))
 }
 
-// The operand in front, which may be turned by `~`, and the tokens behind it.
+// Reads the operand in front, which may be turned by `~`.
 #[cycle(expr)]
 #[tactic(auto, using(crate::proofs::Operands::operands))]
 fn unary<'t>(
@@ -262,7 +262,7 @@ fn unary<'t>(
     Ok((of_one(alloc, text, Op::Not, 0, arg)?, rest))
 }
 
-// The expression that an operand begins, which has been read, and the tokens behind it.
+// Reads what is left of the expression that an operand begins, which has been read.
 #[cycle(expr)]
 #[tactic(auto, using(crate::proofs::Operands::operands))]
 fn operated<'t>(
@@ -290,7 +290,7 @@ fn operated<'t>(
     Ok((left, tokens))
 }
 
-// The expression in front, and the tokens behind it.
+// Reads the expression in front.
 #[cycle(expr)]
 #[tactic(auto, using(crate::proofs::Operands::operands))]
 pub(crate) fn expression<'t>(
@@ -307,7 +307,7 @@ pub(crate) fn expression<'t>(
     operated(alloc, text, left, rest)
 }
 
-// The expression in front that has a mark behind it, and the tokens behind the mark.
+// Reads the expression in front and the mark behind it.
 #[cycle(expr)]
 #[tactic(auto, using(crate::proofs::Operands::operands))]
 pub(crate) fn expression_then<'t>(
@@ -327,7 +327,7 @@ pub(crate) fn expression_then<'t>(
     Ok((found, rest))
 }
 
-// The expression in front that stands between two marks, and the tokens behind them.
+// Reads an expression that stands between two marks, and both marks.
 #[cycle(expr)]
 #[tactic(auto, using(crate::proofs::Operands::operands))]
 pub(crate) fn expression_between<'t>(
@@ -347,7 +347,7 @@ pub(crate) fn expression_between<'t>(
     expression_then(alloc, text, rest, behind)
 }
 
-// The expressions up to a mark, with commas between them, and the tokens behind the mark.
+// Reads expressions with commas between them, and the mark that ends them.
 #[tactic(auto, using(crate::proofs::Operands::lists))]
 pub(crate) fn expressions<'t>(
     alloc: Global,
@@ -372,7 +372,7 @@ pub(crate) fn expressions<'t>(
     }
 }
 
-// The keys up to the bracket that closes them, and the tokens behind it.
+// Reads the keys, and the bracket that closes them.
 #[tactic(auto, using(crate::proofs::Operands::lists))]
 pub(crate) fn keys<'t>(
     alloc: Global,

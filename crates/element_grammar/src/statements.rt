@@ -1,4 +1,4 @@
-//! Statements and blocks.
+//! Statements and blocks. Each function that reads gives what it read and the tokens that are left.
 ghost use Rattle.std.specs.Prelude.{◌≡◌, ◌<◌, ◌≤◌, [], ◌∷◌, length, map, IfOk, IfErr};
 ghost use Rattle.element_lang.specs.declared.mark.Mark.TheVariants.{Let as LetMark, Look as LookMark, Put as PutMark};
 ghost use Rattle.element_lang.specs.declared.mark.Mark.TheVariants.{Del as DelMark, If as IfMark, Repeat as RepeatMark};
@@ -115,7 +115,7 @@ fn drop_of(text: &[u8]) -> SurfaceStmt
     SurfaceStmt::Drop
 }
 
-// The names up to `=`, each behind a comma, and the tokens behind it.
+// Reads names, each behind a comma, and the `=` behind them.
 #[tactic(auto, using(crate::proofs::StatementPieces::lists_of_names))]
 fn names<'t>(
     alloc: Global,
@@ -140,7 +140,7 @@ fn names<'t>(
     }
 }
 
-// An object's name with its keys in square brackets, and the tokens behind them.
+// Reads an object's name with its keys in square brackets.
 #[tactic(auto, using(crate::proofs::StatementPieces::entries))]
 fn entry<'t>(
     alloc: Global,
@@ -157,7 +157,7 @@ fn entry<'t>(
     Ok((object, keys, rest))
 }
 
-// The statement behind `let`, and the tokens behind it.
+// Reads the statement behind `let`.
 #[tactic(auto, using(crate::proofs::StatementPieces::simple))]
 fn let_local<'t>(
     alloc: Global,
@@ -175,7 +175,7 @@ fn let_local<'t>(
     Ok((let_of(text, local, value), rest))
 }
 
-// The assignment to a local, which has been read, and the tokens behind it.
+// Reads what is left of an assignment to a local, which has been read.
 #[tactic(auto, using(crate::proofs::StatementPieces::simple))]
 fn assign<'t>(
     alloc: Global,
@@ -193,7 +193,7 @@ fn assign<'t>(
     Ok((assign_of(text, local, value), rest))
 }
 
-// The assignment to a field, which has been read, and the tokens behind it.
+// Reads what is left of an assignment to a field, which has been read.
 #[tactic(auto, using(crate::proofs::StatementPieces::simple))]
 fn set_field<'t>(
     alloc: Global,
@@ -211,7 +211,7 @@ fn set_field<'t>(
     Ok((set_field_of(text, field, value), rest))
 }
 
-// The statement behind `look`, and the tokens behind it.
+// Reads the statement behind `look`.
 #[tactic(auto, using(crate::proofs::StatementPieces::simple))]
 fn look<'t>(
     alloc: Global,
@@ -231,7 +231,7 @@ fn look<'t>(
     Ok((look_of(text, found, into, object, keys), rest))
 }
 
-// The statement behind `put`, and the tokens behind it.
+// Reads the statement behind `put`.
 #[tactic(auto, using(crate::proofs::StatementPieces::simple))]
 fn put<'t>(
     alloc: Global,
@@ -251,7 +251,7 @@ fn put<'t>(
     Ok((put_of(text, ok, object, keys, values), rest))
 }
 
-// The statement behind `del`, and the tokens behind it.
+// Reads the statement behind `del`.
 #[tactic(auto, using(crate::proofs::StatementPieces::simple))]
 fn del<'t>(
     alloc: Global,
@@ -270,7 +270,7 @@ fn del<'t>(
     Ok((del_of(text, was, object, keys), rest))
 }
 
-// The statement in front, and the tokens behind it. The recursion goes as deep as blocks stand in one another.
+// Reads the statement in front. The recursion goes as deep as blocks stand in one another.
 #[cycle(stmt)]
 #[tactic(auto, using(crate::proofs::StatementPieces::blocks))]
 fn statement<'t>(
@@ -305,7 +305,7 @@ fn statement<'t>(
     }
 }
 
-// The statement behind `if`, and the tokens behind it.
+// Reads the statement behind `if`.
 #[cycle(stmt)]
 #[tactic(auto, using(crate::proofs::StatementPieces::blocks))]
 fn choice<'t>(
@@ -325,7 +325,7 @@ fn choice<'t>(
     Ok((if_of(text, cond, yes, no), rest))
 }
 
-// The statement behind `repeat`, and the tokens behind it.
+// Reads the statement behind `repeat`.
 #[cycle(stmt)]
 #[tactic(auto, using(crate::proofs::StatementPieces::blocks))]
 fn repeat<'t>(
@@ -345,7 +345,7 @@ fn repeat<'t>(
     Ok((repeat_of(text, index, count, body), rest))
 }
 
-// The block behind `else`, where that stands in front, and else an empty one; and the tokens behind it.
+// Reads the block behind `else` where that stands in front, and else nothing, for an empty block.
 #[cycle(stmt)]
 #[tactic(auto, using(crate::proofs::StatementPieces::blocks))]
 fn otherwise<'t>(
@@ -365,7 +365,7 @@ fn otherwise<'t>(
     block(alloc, text, rest)
 }
 
-// The statements up to the bracket that closes their block, and the tokens behind it.
+// Reads the statements of a block, and the bracket that closes it.
 #[cycle(stmt)]
 #[tactic(auto, using(crate::proofs::StatementPieces::blocks))]
 pub(crate) fn block<'t>(

@@ -22,11 +22,11 @@ use std::alloc::Global;
 /// How a stretch of statements leaves a run.
 #[derive(Clone, Copy, Debug)]
 enum Flow {
-    /// It goes on.
+    /// The run goes on behind the statements.
     Goes,
-    /// It has ended, and the packet goes no further.
+    /// The run has ended, and the packet goes no further.
     Drops,
-    /// It has ended, and the packet leaves by this port.
+    /// The run has ended, and the packet leaves by this port.
     Sends(u8),
 }
 

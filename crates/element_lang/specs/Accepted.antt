@@ -129,9 +129,8 @@ pub record BreaksRule (text : List ℕ) (rule offset : ℕ) : Type 0 where
   pub first : first_broken surface ≡ Some (record { rule = rule; at = at })
   pub there : offset ≡ offset_at text placed (length placed - at)
 
--- It spells a middlebox that keeps the rules and has room for so many rows, which are too many. A count that 64 bits
--- can't hold is told
--- as the greatest that they can.
+-- A source of a middlebox that keeps the rules and has room for so many rows, which are too many. A count that 64 bits
+-- can't hold is told as the greatest that they can.
 pub record HasManyEntries (text : List ℕ) (have allowed : ℕ) : Type 0 where
   pub m : Tree
   pub spelling : IsSpelling text m

@@ -1,4 +1,4 @@
--- What it means that a broken rule is the first in a source.
+-- The first rule that a source breaks.
 use Rattle.std.specs.Prelude.{◌≡◌, ℕ, ◌<◌, ◌==◌, Bool, true, false, ◌&&◌, List, [], ◌∷◌, ◌++◌, map}
 use Rattle.std.specs.List.{list_any}
 use Rattle.state_store.specs.declared.object.ObjectDecl.{ObjectDecl}

@@ -8,7 +8,7 @@ use Rattle.packet_fields.specs.declared.verdict.Verdict.{Verdict}
 use Rattle.packet_fields.specs.declared.verdict.Verdict.TheVariants.{Drop, Send}
 use Rattle.packet_fields.specs.Table.{row, all_fields, field_index}
 use Rattle.packet_fields.specs.Fields.{field_value, with_field}
-use Rattle.state_store.specs.Store.{Store, start_store, object_at, with_object, looked_up, put_answer, is_stored}
+use Rattle.state_store.specs.Store.{Store, object_at, with_object, looked_up, put_answer, is_stored}
 use Rattle.state_store.specs.Store.{put_row, del_row}
 use Rattle.state_store.specs.Store as store
 use Rattle.element_lang.specs.Tree.{ExprTree, Exprs, StmtTree, BodyTree, Tree}

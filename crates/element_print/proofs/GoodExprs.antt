@@ -1,7 +1,9 @@
 -- The expressions of a middlebox that keeps the rules are spelled by the tokens that are printed.
 use Rattle.std.proofs.Common.{◌≡◌, ℕ, true, ◌&&◌, ◌==◌, nat_le, List, [], ◌∷◌, length, slice_index, refl, arith}
 use Rattle.gal_bits.specs.declared.op.Op.{Op}
-use Rattle.gal_bits.specs.declared.op.Op.TheVariants.{Add, Sub, Mul, Div, Rem, And, Or, Xor, Not, Shl, Shr, Eq, Ne, Lt, Le, Cast, Select, Adjust}
+use Rattle.gal_bits.specs.declared.op.Op.TheVariants.{Not, Shl, Shr, Eq, Ne, Lt, Le, Cast, Select, Adjust}
+use Rattle.element_lang.specs.declared.mark.Mark.TheVariants as marks
+use Rattle.element_lang.specs.Grammar.{is_select, is_adjust}
 use Rattle.element_lang.specs.Tree.{ExprTree, Exprs, Tree}
 use Rattle.element_lang.specs.Tree.ExprTree.{lit, local, field, byte, shift, apply}
 use Rattle.element_lang.specs.Tree.Exprs.{no_expr, expr}
@@ -10,7 +12,7 @@ use Rattle.element_lang.specs.Surface as surface
 use Rattle.element_lang.specs.Widths.{width_of}
 use Rattle.element_lang.specs.Rules.{is_good_expr, are_good_exprs, fits_operator, same_widths, is_shift, is_width, widths_of}
 use Rattle.element_print.proofs.BoolParts.{is_equal}
-use Rattle.element_print.proofs.Spelled.{Spelled, AllSpelled, count, literal_spelled, name_spelled, field_spelled, byte_spelled, shift_by, not_applied, infix_applied, cast_applied, select_applied, adjust_applied}
+use Rattle.element_print.proofs.Spelled.{Spelled, AllSpelled, count, literal_spelled, name_spelled, field_spelled, byte_spelled, shift_by, not_applied, infix_applied, cast_applied, three_applied}
 use Rattle.lemmas.proofs.Tests.{and_first, and_second}
 
 pub same_length : (xs ys : List ℕ) → same_widths xs ys ≡ true → length xs ≡ length ys
@@ -24,24 +26,20 @@ compared w ws h = same_length ws (slice_index ws 0 ∷ slice_index ws 0 ∷ []) 
 
 applied : (op : Op) (w : ℕ) (ws : List ℕ) (args : SurfaceExprs) → length ws ≡ count args → fits_operator op w ws ≡ true → AllSpelled args
     → Spelled (surface.apply op (written_width op w) args)
-applied Add w ws args n fits h = infix_applied Add args refl refl (omega (arith, same_length ws (w ∷ w ∷ []) fits)) h
-applied Sub w ws args n fits h = infix_applied Sub args refl refl (omega (arith, same_length ws (w ∷ w ∷ []) fits)) h
-applied Mul w ws args n fits h = infix_applied Mul args refl refl (omega (arith, same_length ws (w ∷ w ∷ []) fits)) h
-applied Div w ws args n fits h = infix_applied Div args refl refl (omega (arith, same_length ws (w ∷ w ∷ []) fits)) h
-applied Rem w ws args n fits h = infix_applied Rem args refl refl (omega (arith, same_length ws (w ∷ w ∷ []) fits)) h
-applied And w ws args n fits h = infix_applied And args refl refl (omega (arith, same_length ws (w ∷ w ∷ []) fits)) h
-applied Or w ws args n fits h = infix_applied Or args refl refl (omega (arith, same_length ws (w ∷ w ∷ []) fits)) h
-applied Xor w ws args n fits h = infix_applied Xor args refl refl (omega (arith, same_length ws (w ∷ w ∷ []) fits)) h
 applied Not w ws args n fits h = not_applied args (omega (arith, same_length ws (w ∷ []) fits)) h
 applied Eq w ws args n fits h = infix_applied Eq args refl refl (omega (arith, compared w ws fits)) h
 applied Ne w ws args n fits h = infix_applied Ne args refl refl (omega (arith, compared w ws fits)) h
 applied Lt w ws args n fits h = infix_applied Lt args refl refl (omega (arith, compared w ws fits)) h
 applied Le w ws args n fits h = infix_applied Le args refl refl (omega (arith, compared w ws fits)) h
 applied Cast w ws args n fits h = cast_applied w args (omega (arith, is_equal (length ws) 1 (and_second (is_width w) (length ws == 1) fits))) h
-applied Select w ws args n fits h = select_applied args (omega (arith, same_length ws (1 ∷ w ∷ w ∷ []) fits)) h
-applied Adjust w ws args n fits h = adjust_applied args
-    (omega (arith, same_length ws (16 ∷ 16 ∷ 16 ∷ []) (and_second (w == 16) (same_widths ws (16 ∷ 16 ∷ 16 ∷ [])) fits))) h
-applied _ w ws args n fits h = cc
+applied Select w ws args n fits h =
+    three_applied Select marks.Select args (omega (arith, same_length ws (1 ∷ w ∷ w ∷ []) fits)) refl h (λ a b c ts us vs rest f g k. is_select f g k) refl refl
+applied Adjust w ws args n fits h =
+    let all = same_length ws (16 ∷ 16 ∷ 16 ∷ []) (and_second (w == 16) (same_widths ws (16 ∷ 16 ∷ 16 ∷ [])) fits) in
+    three_applied Adjust marks.Adjust args (omega (arith, all)) refl h (λ a b c ts us vs rest f g k. is_adjust f g k) refl refl
+applied Shl w ws args n fits h = cc
+applied Shr w ws args n fits h = cc
+applied op w ws args n fits h = infix_applied op args refl refl (omega (arith, same_length ws (w ∷ w ∷ []) fits)) h
 
 shifted : (op : Op) (by : ℕ) (e : SurfaceExpr) → is_shift op ≡ true → Spelled e → Spelled (surface.shift op by e)
 shifted Shl by e is h = shift_by Shl by e refl h

@@ -18,7 +18,7 @@ use Rattle.element_print.specs.Printed.{joined, in_braces, widths_tokens, litera
 use Rattle.element_print.proofs.BoolParts.{is_equal}
 use Rattle.element_print.proofs.Words.{Readable, fixed_readable, name_readable, number_readable}
 use Rattle.element_print.proofs.TextTokens.{AllReadable, readable_append}
-use Rattle.element_print.proofs.ReadableExprs.{AllParts, InScope, closing, bracketed, joined_readable, width_small, width_readable, value_readable}
+use Rattle.element_print.proofs.ReadableExprs.{AllParts, InScope, closing, bracketed, readables, joined_readable, width_small, width_readable, value_readable}
 use Rattle.element_print.proofs.ReadableTrees.{body_readable}
 use Rattle.element_print.proofs.GoodMiddleboxes.{good_objects_of, good_body_of}
 use Rattle.lemmas.proofs.Tests.{and_first, and_second}
@@ -74,62 +74,25 @@ size_readable n h = let small : n ≤ MAX_ROWS = leb-true n MAX_ROWS (and_second
 
 decl_readable : (kind : Kind) (o : ObjectDecl) → IsName o.name → is_good_object kind o ≡ true → AllReadable (decl_tokens (named_as kind o))
 decl_readable Table o name h =
-    let rows : List Token = rows_tokens (map (named_row o.keys o.values) o.rows) in
     let keys : are_widths o.keys ≡ true = and_first _ _ (and_first _ _ (and_first _ _ (and_first _ _ h))) in
     let values : are_widths o.values ≡ true = and_second _ _ (and_first _ _ (and_first _ _ (and_first _ _ h))) in
-    let all = rows_readable o.keys o.values [] o.rows (all_widths o.keys keys) (all_widths o.values values) (and_second _ _ h) in (
-      fixed_readable marks.Table,
-      (
-        name_readable o.name name,
-        readable_append (widths_tokens o.keys) (fixed marks.Arrow ∷ (widths_tokens o.values ++ in_braces rows)) (widths_readable o.keys keys) (
-          fixed_readable marks.Arrow,
-          readable_append (widths_tokens o.values) (in_braces rows) (widths_readable o.values values)
-              (fixed_readable marks.LeftBrace, closing rows marks.RightBrace all),
-        ),
-      ),
-    )
+    let all : AllReadable (rows_tokens (map (named_row o.keys o.values) o.rows)) =
+    rows_readable o.keys o.values [] o.rows (all_widths o.keys keys) (all_widths o.values values) (and_second _ _ h) in
+    search (readables, name_readable o.name name, widths_readable o.keys keys, widths_readable o.values values, all) depth 12
 decl_readable Map o name h =
-    let ends : List Token = fixed marks.Capacity ∷ number o.size ∷ fixed marks.Semicolon ∷ [] in
     let keys : are_widths o.keys ≡ true = and_first _ _ (and_first _ _ (and_first _ _ (and_first _ _ h))) in
     let values : are_widths o.values ≡ true = and_second _ _ (and_first _ _ (and_first _ _ (and_first _ _ h))) in
-    let size : is_size o.size ≡ true = and_second _ _ (and_first _ _ (and_first _ _ h)) in (
-      fixed_readable marks.Map,
-      (
-        name_readable o.name name,
-        readable_append (widths_tokens o.keys) (fixed marks.Arrow ∷ (widths_tokens o.values ++ ends)) (widths_readable o.keys keys) (
-          fixed_readable marks.Arrow,
-          readable_append (widths_tokens o.values) ends (widths_readable o.values values)
-              (fixed_readable marks.Capacity, (size_readable o.size size, (fixed_readable marks.Semicolon, tt))),
-        ),
-      ),
-    )
+    let size : is_size o.size ≡ true = and_second _ _ (and_first _ _ (and_first _ _ h)) in
+    search (readables, name_readable o.name name, widths_readable o.keys keys, widths_readable o.values values, size_readable o.size size) depth 12
 decl_readable Vector o name h =
     let values : are_widths o.values ≡ true = and_second _ _ (and_first _ _ (and_first _ _ (and_first _ _ h))) in
-    let size : is_size o.size ≡ true = and_second _ _ (and_first _ _ (and_first _ _ h)) in (
-      fixed_readable marks.Vector,
-      (
-        name_readable o.name name,
-        (
-          fixed_readable marks.Length,
-          (size_readable o.size size, (fixed_readable marks.Arrow, closing (widths_tokens o.values) marks.Semicolon (widths_readable o.values values))),
-        ),
-      ),
-    )
+    let size : is_size o.size ≡ true = and_second _ _ (and_first _ _ (and_first _ _ h)) in
+    search (readables, name_readable o.name name, widths_readable o.values values, size_readable o.size size) depth 12
 decl_readable Int o name h =
     let width : is_width (slice_index o.values 0) ≡ true = and_second _ _ (and_first _ _ (and_first _ _ (and_first _ _ h))) in
-    let start : nat_lt o.start (2 ^ slice_index o.values 0) ≡ true = and_second _ _ (and_first _ _ h) in (
-      fixed_readable marks.Int,
-      (
-        name_readable o.name name,
-        (
-          fixed_readable marks.Colon,
-          (
-            width_readable (slice_index o.values 0) width,
-            (fixed_readable marks.Assign, (value_readable o.start (slice_index o.values 0) (width_small _ width) start, (fixed_readable marks.Semicolon, tt))),
-          ),
-        ),
-      ),
-    )
+    let start : nat_lt o.start (2 ^ slice_index o.values 0) ≡ true = and_second _ _ (and_first _ _ h) in
+    let first = value_readable o.start (slice_index o.values 0) (width_small (slice_index o.values 0) width) start in
+    search (readables, name_readable o.name name, width_readable (slice_index o.values 0) width, first) depth 12
 
 decls_readable : (seen : List (List ℕ)) (os : List ObjectDecl) → All (λ o. IsName o.name) os → are_good_objects seen os ≡ true
     → AllReadable (decls_tokens (map (λ o. record { at = 0; decl = named_decl o }) os))

@@ -61,6 +61,9 @@ parts_readable place (surface.expr e es) (h, hs) = (bracketed_if (needs_brackets
 pub exprs_readable : (es : SurfaceExprs) → AllExprs es → AllReadable (exprs_tokens es)
 exprs_readable es h = joined_readable marks.Comma (parts Whole es) (parts_readable Whole es h)
 
+-- tokens in front of others, and marks
+pub ruleset readables = (fixed_readable, readable_append)
+
 -- ## Widths
 
 pub width_small : (w : ℕ) → is_width w ≡ true → w ≤ 64
@@ -107,20 +110,7 @@ applied ops.Cast w ws args fits h = (
 )
 applied ops.Select w ws args fits h = (fixed_readable marks.Select, bracketed (exprs_tokens args) (exprs_readable args h))
 applied ops.Adjust w ws args fits h = (fixed_readable marks.Adjust, bracketed (exprs_tokens args) (exprs_readable args h))
-applied ops.Add w ws args fits h = joined_readable marks.Plus (parts Operand args) (parts_readable Operand args h)
-applied ops.Sub w ws args fits h = joined_readable marks.Minus (parts Operand args) (parts_readable Operand args h)
-applied ops.Mul w ws args fits h = joined_readable marks.Star (parts Operand args) (parts_readable Operand args h)
-applied ops.Div w ws args fits h = joined_readable marks.Slash (parts Operand args) (parts_readable Operand args h)
-applied ops.Rem w ws args fits h = joined_readable marks.Percent (parts Operand args) (parts_readable Operand args h)
-applied ops.And w ws args fits h = joined_readable marks.Ampersand (parts Operand args) (parts_readable Operand args h)
-applied ops.Or w ws args fits h = joined_readable marks.Bar (parts Operand args) (parts_readable Operand args h)
-applied ops.Xor w ws args fits h = joined_readable marks.Caret (parts Operand args) (parts_readable Operand args h)
-applied ops.Shl w ws args fits h = joined_readable marks.ShiftLeft (parts Operand args) (parts_readable Operand args h)
-applied ops.Shr w ws args fits h = joined_readable marks.ShiftRight (parts Operand args) (parts_readable Operand args h)
-applied ops.Eq w ws args fits h = joined_readable marks.Equal (parts Operand args) (parts_readable Operand args h)
-applied ops.Ne w ws args fits h = joined_readable marks.NotEqual (parts Operand args) (parts_readable Operand args h)
-applied ops.Lt w ws args fits h = joined_readable marks.Less (parts Operand args) (parts_readable Operand args h)
-applied ops.Le w ws args fits h = joined_readable marks.AtMost (parts Operand args) (parts_readable Operand args h)
+applied op w ws args fits h = joined_readable (mark_of op) (parts Operand args) (parts_readable Operand args h)
 
 mutual
   pub expr_readable : (m : Tree) (widths scope : List ℕ) (e : ExprTree) → HasNames m → InScope m scope → is_good_expr widths scope e ≡ true

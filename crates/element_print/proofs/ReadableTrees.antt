@@ -1,5 +1,5 @@
 -- The tokens of printed statements are read again as they are printed.
-use Rattle.std.proofs.Common.{◌≡◌, ℕ, suc, ◌+◌, ◌<◌, ◌≤◌, Bool, true, false, ◌||◌, ◌==◌, nat_le, List, [], ◌∷◌, ◌++◌, map, length, Option, Some, None, slice_get, refl, sym, ◌∙◌, arith}
+use Rattle.std.proofs.Common.{◌≡◌, ℕ, suc, ◌+◌, ◌<◌, ◌≤◌, Bool, true, false, ◌&&◌, ◌||◌, ◌==◌, nat_le, List, [], ◌∷◌, ◌++◌, map, length, Option, Some, None, slice_get, refl, sym, ◌∙◌, arith}
 use Rattle.std.specs.List.{list_any}
 use Rattle.std.proofs.lemmas.List.Folds.{list_any-append}
 use Rattle.state_store.specs.declared.object.ObjectDecl.{ObjectDecl}
@@ -18,7 +18,7 @@ use Rattle.element_print.specs.Printed.{expr_tokens, exprs_tokens, joined, keyed
 use Rattle.element_print.proofs.BoolParts.{is_equal}
 use Rattle.element_print.proofs.Words.{Readable, fixed_readable, field_readable, name_readable, number_readable}
 use Rattle.element_print.proofs.TextTokens.{AllReadable, readable_append}
-use Rattle.element_print.proofs.ReadableExprs.{AllParts, InScope, closing, joined_readable, exprs_readable, local_named, object_named, expr_readable, all_exprs}
+use Rattle.element_print.proofs.ReadableExprs.{AllParts, InScope, closing, readables, joined_readable, exprs_readable, local_named, object_named, expr_readable, all_exprs}
 use Rattle.lemmas.proofs.Tests.{and_first, and_second}
 use Rattle.std.proofs.lemmas.Bool.{leb-true}
 
@@ -104,10 +104,8 @@ mutual
   stmt_readable : (m : Tree) (scope : List ℕ) (next : ℕ) (s : StmtTree) → HasNames m → InScope m scope → is_good_stmt m scope next s ≡ true
       → next + declared_in s ≤ length m.locals → AllReadable (stmt_tokens (named_stmt m s))
   stmt_readable m scope next (let_local x e) names known h room =
-      let named = first_named m x next [] names (and_second _ _ (and_first _ _ h)) room in (
-        fixed_readable marks.Let,
-        (name_readable (local_name m x) named, (fixed_readable marks.Assign, value_closed m _ scope e names known (and_first _ _ (and_first _ _ (and_first _ _ h))))),
-      )
+      let named : IsName (local_name m x) = first_named m x next [] names (and_second _ _ (and_first _ _ h)) room in
+      (fixed_readable marks.Let, (name_readable _ named, (fixed_readable marks.Assign, value_closed m _ scope e names known (and_first _ _ (and_first _ _ (and_first _ _ h))))))
   stmt_readable m scope next (assign x e) names known h room =
       let named = local_named m x names (known.within x (and_second _ _ (and_first _ _ h))) in
       (name_readable (local_name m x) named, (fixed_readable marks.Assign, value_closed m _ scope e names known (and_first _ _ (and_first _ _ h))))
@@ -115,68 +113,40 @@ mutual
       (field_readable f, (fixed_readable marks.Assign, value_closed m _ scope e names known (and_first _ _ (and_first _ _ h))))
   stmt_readable m scope next (look found into object keys) names known h room =
       let words : List (List Token) = map (λ word. tokens.name word ∷ []) (map (local_name m) (found ∷ into)) in
-      let from : List Token = keyed (object_name m object) (named_exprs m keys) in
-      let listed = declared_names m next (found ∷ into) names (and_second _ _ (and_first _ _ h)) (omega arith) in
-      let key = keyed_readable m (local_widths m) scope object keys names known (and_first _ _ (and_first _ _ (and_first _ _ (and_first _ _ (and_first _ _ h)))))
-      (and_second _ _ (and_first _ _ (and_first _ _ (and_first _ _ (and_first _ _ h))))) in (
-        fixed_readable marks.Look,
-        readable_append (joined marks.Comma words) (fixed marks.Assign ∷ (from ++ fixed marks.Semicolon ∷ []))
-            (joined_readable marks.Comma words listed) (fixed_readable marks.Assign, closing from marks.Semicolon key),
-      )
-  stmt_readable m scope next (put ok object keys values) names known h room =
-      let named = first_named m ok next [] names (and_second _ _ (and_first _ _ h)) room in
-      let into : List Token = keyed (object_name m object) (named_exprs m keys) in
-      let all : List Token = exprs_tokens (named_exprs m values) in
-      let key =
-      keyed_readable m (local_widths m) scope object keys names known
-      (and_first _ _ (and_first _ _ (and_first _ _ (and_first _ _ (and_first _ _ (and_first _ _ (and_first _ _ h)))))))
+      let listed : AllReadable (joined marks.Comma words) = joined_readable marks.Comma words (declared_names m next (found ∷ into) names (and_second _ _ (and_first _ _ h)) (omega arith)) in
+      let key : AllReadable (keyed (object_name m object) (named_exprs m keys)) =
+      keyed_readable m (local_widths m) scope object keys names known (and_first _ _ (and_first _ _ (and_first _ _ (and_first _ _ (and_first _ _ h)))))
       (and_second _ _ (and_first _ _ (and_first _ _ (and_first _ _ (and_first _ _ h))))) in
-      let stored = exprs_readable (named_exprs m values)
-      (all_exprs m (local_widths m) scope values names known (and_second _ _ (and_first _ _ (and_first _ _ (and_first _ _ (and_first _ _ (and_first _ _ (and_first _ _ h)))))))) in (
-        fixed_readable marks.Put,
-        (
-          name_readable (local_name m ok) named,
-          (
-            fixed_readable marks.Assign,
-            readable_append into (fixed marks.Arrow ∷ (all ++ fixed marks.Semicolon ∷ [])) key
-                (fixed_readable marks.Arrow, closing all marks.Semicolon stored),
-          ),
-        ),
-      )
+      search (readables, listed, key) depth 9
+  stmt_readable m scope next (put ok object keys values) names known h room =
+      let named : IsName (local_name m ok) = first_named m ok next [] names (and_second _ _ (and_first _ _ h)) room in
+      let both : (are_good_exprs (local_widths m) scope keys && are_good_exprs (local_widths m) scope values) ≡ true =
+      and_first _ _ (and_first _ _ (and_first _ _ (and_first _ _ (and_first _ _ (and_first _ _ h))))) in
+      let key : AllReadable (keyed (object_name m object) (named_exprs m keys)) =
+      keyed_readable m (local_widths m) scope object keys names known (and_first _ _ both) (and_second _ _ (and_first _ _ (and_first _ _ (and_first _ _ (and_first _ _ h))))) in
+      let stored : AllReadable (exprs_tokens (named_exprs m values)) =
+      exprs_readable (named_exprs m values) (all_exprs m (local_widths m) scope values names known (and_second (are_good_exprs (local_widths m) scope keys) _ both)) in
+      search (readables, name_readable (local_name m ok) named, key, stored) depth 12
   stmt_readable m scope next (del was object keys) names known h room =
-      let named = first_named m was next [] names (and_second _ _ (and_first _ _ h)) room in
-      let from : List Token = keyed (object_name m object) (named_exprs m keys) in
-      let key = keyed_readable m (local_widths m) scope object keys names known (and_first _ _ (and_first _ _ (and_first _ _ (and_first _ _ (and_first _ _ h)))))
+      let named : IsName (local_name m was) = first_named m was next [] names (and_second _ _ (and_first _ _ h)) room in
+      let key : AllReadable (keyed (object_name m object) (named_exprs m keys)) =
+      keyed_readable m (local_widths m) scope object keys names known (and_first _ _ (and_first _ _ (and_first _ _ (and_first _ _ (and_first _ _ h)))))
       (and_second _ _ (and_first _ _ (and_first _ _ (and_first _ _ h)))) in
-      (fixed_readable marks.Del, (name_readable (local_name m was) named, (fixed_readable marks.Assign, closing from marks.Semicolon key)))
+      search (readables, name_readable (local_name m was) named, key) depth 9
   stmt_readable m scope next (choose cond first second) names known h room =
-      let one : List Token = body_tokens (named_body m first) in
-      let two : List Token = else_tokens (named_body m second) (body_tokens (named_body m second)) in
-      let room_one : next + declared_by first ≤ length m.locals = omega arith in
-      let room_two : next + declared_by first + declared_by second ≤ length m.locals = omega arith in
       let test : AllReadable (expr_tokens (named_expr m cond)) = expr_readable m (local_widths m) scope cond names known (and_first _ _ (and_first _ _ (and_first _ _ h))) in
-      let one_readable : AllReadable one = body_readable m scope next first names known (and_second _ _ (and_first _ _ h)) room_one in
-      let two_readable : AllReadable two = else_readable (named_body m second)
-      (body_readable m scope (next + declared_by first) second names known (and_second _ _ h) room_two) in (
-        fixed_readable marks.If,
-        readable_append (expr_tokens (named_expr m cond)) (in_braces one ++ two) test
-            (readable_append (in_braces one) two (braced one one_readable) two_readable),
-      )
+      let one : AllReadable (body_tokens (named_body m first)) = body_readable m scope next first names known (and_second _ _ (and_first _ _ h)) (omega arith) in
+      let two : AllReadable (body_tokens (named_body m second)) = body_readable m scope (next + declared_by first) second names known (and_second _ _ h) (omega arith) in
+      search (readables, test, one, else_readable (named_body m second) two) depth 9
   stmt_readable m scope next (repeat index n body) names known h room =
       let room_first : next + 1 ≤ length m.locals = omega arith in
       let room_inside : next + 1 + declared_by body ≤ length m.locals = omega arith in
       let counted : counted_from next (index ∷ []) ≡ true = and_second _ _ (and_first _ _ (and_first _ _ h)) in
-      let named = first_named m index next [] names counted room_first in
-      let inside = more_in_scope m scope next (index ∷ []) known counted room_first in (
-        fixed_readable marks.Repeat,
-        (
-          name_readable (local_name m index) named,
-          (
-            count_readable n (and_first _ _ (and_first _ _ (and_first _ _ (and_first _ _ (and_first _ _ (and_first _ _ h)))))),
-            braced (body_tokens (named_body m body)) (body_readable m (index ∷ scope) (next + 1) body names inside (and_second _ _ h) room_inside),
-          ),
-        ),
-      )
+      let named : IsName (local_name m index) = first_named m index next [] names counted room_first in
+      let times : is_count n ≡ true = and_first _ _ (and_first _ _ (and_first _ _ (and_first _ _ (and_first _ _ (and_first _ _ h))))) in
+      let inside = more_in_scope m scope next (index ∷ []) known counted room_first in
+      let inner : AllReadable (body_tokens (named_body m body)) = body_readable m (index ∷ scope) (next + 1) body names inside (and_second _ _ h) room_inside in
+      search (readables, name_readable (local_name m index) named, count_readable n times, inner) depth 9
   stmt_readable m scope next (send port) names known h room = (fixed_readable marks.Send, value_closed m _ scope port names known (and_first _ _ h))
   stmt_readable m scope next drop names known h room = (fixed_readable marks.Drop, (fixed_readable marks.Semicolon, tt))
 

@@ -7,7 +7,7 @@ use Rattle.element_lang.specs.declared.mark.Mark.{Mark}
 use Rattle.element_lang.specs.declared.mark.Mark.TheVariants as marks
 use Rattle.element_lang.specs.Token.{Token, fixed, number}
 use Rattle.element_lang.specs.Surface.{SurfaceExpr, SurfaceExprs, lit, name, field, byte, shift, apply, no_expr, expr}
-use Rattle.element_lang.specs.Grammar.{infix_of, shift_of, one, two, three, IsPrim, is_in_brackets, is_literal, is_name, is_field, is_byte, is_cast, is_select, is_adjust, IsUnary, is_prim, is_not, IsExpr, is_unary, is_infix, is_shift, AreExprs, are_last, are_more, AreKeys, are_no_keys, are_keys}
+use Rattle.element_lang.specs.Grammar.{infix_of, shift_of, one, two, three, IsPrim, is_in_brackets, is_literal, is_name, is_field, is_byte, is_cast, IsUnary, is_prim, is_not, IsExpr, is_unary, is_infix, is_shift, AreExprs, are_last, are_more, AreKeys, are_no_keys, are_keys}
 use Rattle.element_print.specs.declared.place.Place.TheVariants.{Operand, Turned}
 use Rattle.element_print.specs.Printed.{expr_tokens, exprs_tokens, parts, part, joined, in_brackets, in_brackets_if, has_infix, is_turned, mark_of}
 use Rattle.element_print.specs.Printed as printed
@@ -149,27 +149,22 @@ three_tokens : (a b c : SurfaceExpr) (rest : List Token)
     ≡ (exprs_tokens (three a b c) ++ fixed marks.RightParen ∷ []) ++ rest
 three_tokens a b c rest = simp (append_assoc, append-nil)
 
-pub select_applied : (args : SurfaceExprs) → count args ≡ 3 → AllSpelled args → Spelled (apply ops.Select 0 args)
-select_applied no_expr n h = absurd (omega arith)
-select_applied (expr a no_expr) n h = absurd (omega arith)
-select_applied (expr a (expr b no_expr)) n h = absurd (omega arith)
-select_applied (expr a (expr b (expr c no_expr))) n (f, (g, (h, none))) =
-    prim_spelled (apply ops.Select 0 (three a b c)) refl refl
+-- an operator that is written with its three operands in brackets, which the grammar reads so
+pub three_applied : (op : Op) (m : Mark) (args : SurfaceExprs) → count args ≡ 3 → expr_tokens (apply op 0 args) ≡ fixed m ∷ in_brackets (exprs_tokens args)
+    → AllSpelled args
+    → ((a b c : SurfaceExpr) (ts us vs rest : List Token) → IsExpr a ts (fixed marks.Comma ∷ us) → IsExpr b us (fixed marks.Comma ∷ vs)
+    → IsExpr c vs (fixed marks.RightParen ∷ rest) → IsPrim (apply op 0 (three a b c)) (fixed m ∷ fixed marks.LeftParen ∷ ts) rest)
+    → has_infix (apply op 0 args) ≡ false → is_turned (apply op 0 args) ≡ false → Spelled (apply op 0 args)
+three_applied op m no_expr n is h reads plain straight = absurd (omega arith)
+three_applied op m (expr a no_expr) n is h reads plain straight = absurd (omega arith)
+three_applied op m (expr a (expr b no_expr)) n is h reads plain straight = absurd (omega arith)
+three_applied op m (expr a (expr b (expr c no_expr))) n is (f, (g, (h, none))) reads plain straight =
+    prim_spelled (apply op 0 (three a b c)) plain straight
     (λ rest.
-    let P : List Token → Type 0 = λ ts. IsPrim (apply ops.Select 0 (three a b c)) (fixed marks.Select ∷ fixed marks.LeftParen ∷ ts) rest in
-    subst P (three_tokens a b c rest) (is_select (f.whole _) (g.whole _) (h.whole (fixed marks.RightParen ∷ rest))))
-select_applied (expr a (expr b (expr c (expr d es)))) n h = absurd (omega arith)
-
-pub adjust_applied : (args : SurfaceExprs) → count args ≡ 3 → AllSpelled args → Spelled (apply ops.Adjust 0 args)
-adjust_applied no_expr n h = absurd (omega arith)
-adjust_applied (expr a no_expr) n h = absurd (omega arith)
-adjust_applied (expr a (expr b no_expr)) n h = absurd (omega arith)
-adjust_applied (expr a (expr b (expr c no_expr))) n (f, (g, (h, none))) =
-    prim_spelled (apply ops.Adjust 0 (three a b c)) refl refl
-    (λ rest.
-    let P : List Token → Type 0 = λ ts. IsPrim (apply ops.Adjust 0 (three a b c)) (fixed marks.Adjust ∷ fixed marks.LeftParen ∷ ts) rest in
-    subst P (three_tokens a b c rest) (is_adjust (f.whole _) (g.whole _) (h.whole (fixed marks.RightParen ∷ rest))))
-adjust_applied (expr a (expr b (expr c (expr d es)))) n h = absurd (omega arith)
+    let P : List Token → Type 0 = λ ts. IsPrim (apply op 0 (three a b c)) ts rest in
+    let same = ap (λ ts. fixed m ∷ fixed marks.LeftParen ∷ ts) (three_tokens a b c rest) ∙ ap (λ ts. ts ++ rest) (sym is) in
+    subst P same (reads a b c _ _ _ rest (f.whole _) (g.whole _) (h.whole (fixed marks.RightParen ∷ rest))))
+three_applied op m (expr a (expr b (expr c (expr d es)))) n is h reads plain straight = absurd (omega arith)
 
 -- ## Lists
 

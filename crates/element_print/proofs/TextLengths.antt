@@ -19,12 +19,12 @@ use Rattle.element_lang.specs.Tree.ExprTree.{lit, local, field, byte, shift, app
 use Rattle.element_lang.specs.Tree.Exprs.{no_expr, expr}
 use Rattle.element_lang.specs.Tree.StmtTree.{let_local, assign, set_field, look, put, del, choose, repeat, send, drop}
 use Rattle.element_lang.specs.Tree.BodyTree.{done, stmt}
-use Rattle.element_lang.specs.Surface.{named_expr, named_exprs, named_stmt, named_body, named_row, named_as, named_decl, named, local_name, object_name, name_of_local, name_of_object, literals}
+use Rattle.element_lang.specs.Surface.{named_expr, named_exprs, named_stmt, named_body, named_row, named_as, named_decl, named, local_name, name_of_local, name_of_object, literals}
 use Rattle.element_print.specs.declared.place.Place.{Place}
 use Rattle.element_print.specs.declared.place.Place.TheVariants.{Whole, Operand, Turned}
-use Rattle.element_print.specs.Printed.{token_text, text_of, in_brackets_if, in_brackets, in_braces, behind_each, joined, mark_of, needs_brackets, has_infix, is_turned, expr_tokens, parts, part, exprs_tokens, keyed, else_tokens, stmt_tokens, body_tokens, widths_tokens, literal_tokens, literals_tokens, rows_tokens, decl_tokens, decls_tokens, print_tokens}
+use Rattle.element_print.specs.Printed.{token_text, text_of, in_brackets_if, in_brackets, in_braces, behind_each, joined, mark_of, needs_brackets, has_infix, is_turned, expr_tokens, parts, part, exprs_tokens, else_tokens, stmt_tokens, body_tokens, widths_tokens, literal_tokens, literals_tokens, rows_tokens, decl_tokens, decls_tokens, print_tokens}
 use Rattle.element_print.specs.Spaced.{spaced}
-use Rattle.element_print.specs.Lengths.{lengths_of, nameless, mark_length, field_length, brackets_length, between_length, read_length, expr_length, parts_length, exprs_length, keyed_length, names_length, braces_length, else_length, head_length, stmt_length, body_length, widths_sum, widths_length, literals_sum, literals_length, rows_length, length_as, decls_length, text_length}
+use Rattle.element_print.specs.Lengths.{lengths_of, nameless, mark_length, field_length, brackets_length, between_length, read_length, expr_length, parts_length, exprs_length, names_length, braces_length, else_length, stmt_length, body_length, widths_sum, widths_length, literals_sum, literals_length, rows_length, length_as, decls_length, text_length}
 use Rattle.element_print.proofs.Spaces.{spaced_end}
 
 -- the bytes of tokens, each with the one that stands after it
@@ -72,16 +72,15 @@ bytes_in (p ∷ ps) = bytes_of p + bytes_in ps
 
 behind_bytes : (m : Mark) (ps : List (List Token)) → bytes_of (behind_each m ps) ≡ bytes_in ps + length ps * mark_length m
 behind_bytes m [] = sym (zero-mul (mark_length m)) ∙ omega arith
-behind_bytes m (p ∷ ps) =
-    omega (arith, bytes_append p (behind_each m ps), behind_bytes m ps, suc-mul (length ps) (mark_length m))
+behind_bytes m (p ∷ ps) = simp bytes_append (omega (arith, behind_bytes m ps, suc-mul (length ps) (mark_length m)))
 
 joined_bytes : (m : Mark) (ps : List (List Token)) → bytes_of (joined m ps) ≡ bytes_in ps + between_length m (length ps)
 joined_bytes m [] = sym (zero-mul (mark_length m)) ∙ omega arith
 joined_bytes m (p ∷ ps) =
     let less : suc (length ps) - 1 ≡ length ps = omega arith in
-    omega (arith, bytes_append p (behind_each m ps), behind_bytes m ps, ap (λ n. n * mark_length m) less)
+    simp bytes_append (omega (arith, behind_bytes m ps, ap (λ n. n * mark_length m) less))
 
--- so many parts of so many bytes
+-- the bytes of parts, of which there are so many with so many bytes
 listed : (m : Mark) (ps : List (List Token)) (bytes count : ℕ) → bytes_in ps ≡ bytes → length ps ≡ count
     → bytes_of (joined m ps) ≡ bytes + between_length m count
 listed m ps bytes count e f = omega (arith, joined_bytes m ps, ap (between_length m) f)
@@ -137,22 +136,12 @@ mutual
   expr_bytes m (local x) = omega (arith, local_bytes m.locals x)
   expr_bytes m (field f) = omega (arith, read_bytes m f)
   expr_bytes m (byte index) = omega (arith, enclosed (expr_tokens (named_expr m index)), expr_bytes m index)
-  expr_bytes m (shift op by arg) =
-      omega (
-        arith,
-        bytes_append (part Operand (named_expr m arg)) (fixed (mark_of op) ∷ number by ∷ []),
-        part_bytes m Operand arg (expr_length (lengths_of m) arg) (expr_bytes m arg),
-      )
+  expr_bytes m (shift op by arg) = simp bytes_append (omega (arith, part_bytes m Operand arg (expr_length (lengths_of m) arg) (expr_bytes m arg)))
   expr_bytes m (apply ops.Not width args) = omega (arith, list_bytes m Turned marks.Comma args (all_bytes m Turned args))
   expr_bytes m (apply ops.Cast width args) =
-      let rest : List Token = behind_each marks.Comma (parts Whole (named_exprs m args)) in
-      omega (
-        arith,
-        enclosed (number width ∷ rest),
-        behind_bytes marks.Comma (parts Whole (named_exprs m args)),
-        all_bytes m Whole args,
-        ap (λ n. n * mark_length marks.Comma) (same_count m Whole args),
-      )
+      let ps : List (List Token) = parts Whole (named_exprs m args) in
+      let between = ap (λ n. n * mark_length marks.Comma) (same_count m Whole args) in
+      omega (arith, enclosed (number width ∷ behind_each marks.Comma ps), behind_bytes marks.Comma ps, all_bytes m Whole args, between)
   expr_bytes m (apply ops.Select width args) =
       omega (arith, enclosed (exprs_tokens (named_exprs m args)), list_bytes m Whole marks.Comma args (all_bytes m Whole args))
   expr_bytes m (apply ops.Adjust width args) =
@@ -169,53 +158,10 @@ exprs_bytes m es = list_bytes m Whole marks.Comma es (all_bytes m Whole es)
 
 -- ## Statements
 
--- what a statement with a value ends with
-value_bytes : (m : Tree) (e : ExprTree) → bytes_of (expr_tokens (named_expr m e) ++ fixed marks.Semicolon ∷ []) ≡ expr_length (lengths_of m) e + mark_length marks.Semicolon
-value_bytes m e = omega (arith, bytes_append (expr_tokens (named_expr m e)) (fixed marks.Semicolon ∷ []), expr_bytes m e)
-
-keyed_bytes : (m : Tree) (x : ℕ) (keys : Exprs) → bytes_of (keyed (object_name m x) (named_exprs m keys)) ≡ keyed_length (lengths_of m) x keys
-keyed_bytes m x keys =
-    omega (
-      arith,
-      bytes_append (exprs_tokens (named_exprs m keys)) (fixed marks.RightBracket ∷ []),
-      exprs_bytes m keys,
-      object_bytes m.objects x,
-    )
-
 names_bytes : (m : Tree) (xs : List ℕ)
     → bytes_of (behind_each marks.Comma (map (λ word. tokens.name word ∷ []) (map (local_name m) xs))) ≡ names_length (lengths_of m) xs
 names_bytes m [] = refl
 names_bytes m (x ∷ xs) = omega (arith, local_bytes m.locals x, names_bytes m xs)
-
--- a key, what stands between, and the end of the statement
-behind_key : (m : Tree) (x : ℕ) (keys : Exprs) (ts : List Token)
-    → bytes_of (keyed (object_name m x) (named_exprs m keys) ++ ts) ≡ keyed_length (lengths_of m) x keys + bytes_of ts
-behind_key m x keys ts = omega (arith, bytes_append (keyed (object_name m x) (named_exprs m keys)) ts, keyed_bytes m x keys)
-
-look_bytes : (m : Tree) (found : ℕ) (into : List ℕ) (object : ℕ) (keys : Exprs)
-    → bytes_of (stmt_tokens (named_stmt m (look found into object keys))) ≡ head_length (lengths_of m) (look found into object keys)
-look_bytes m found into object keys =
-    let names : List Token = behind_each marks.Comma (map (λ word. tokens.name word ∷ []) (map (local_name m) into)) in
-    let last : List Token = keyed (object_name m object) (named_exprs m keys) ++ fixed marks.Semicolon ∷ [] in
-    omega (
-      arith,
-      local_bytes m.locals found,
-      bytes_append names (fixed marks.Assign ∷ last),
-      names_bytes m into,
-      behind_key m object keys (fixed marks.Semicolon ∷ []),
-    )
-
-put_bytes : (m : Tree) (ok object : ℕ) (keys values : Exprs)
-    → bytes_of (stmt_tokens (named_stmt m (put ok object keys values))) ≡ head_length (lengths_of m) (put ok object keys values)
-put_bytes m ok object keys values =
-    let last : List Token = exprs_tokens (named_exprs m values) ++ fixed marks.Semicolon ∷ [] in
-    omega (
-      arith,
-      local_bytes m.locals ok,
-      behind_key m object keys (fixed marks.Arrow ∷ last),
-      bytes_append (exprs_tokens (named_exprs m values)) (fixed marks.Semicolon ∷ []),
-      exprs_bytes m values,
-    )
 
 else_bytes : (m : Tree) (b : BodyTree) (bytes : ℕ) → bytes_of (body_tokens (named_body m b)) ≡ bytes
     → bytes_of (else_tokens (named_body m b) (body_tokens (named_body m b))) ≡ else_length (is_empty b) + bytes
@@ -224,33 +170,23 @@ else_bytes m (stmt s b) bytes h = omega (arith, braced (body_tokens (named_body 
 
 mutual
   stmt_bytes : (m : Tree) (s : StmtTree) → bytes_of (stmt_tokens (named_stmt m s)) ≡ stmt_length (lengths_of m) s
-  stmt_bytes m (let_local x value) = omega (arith, local_bytes m.locals x, value_bytes m value)
-  stmt_bytes m (assign x value) = omega (arith, local_bytes m.locals x, value_bytes m value)
-  stmt_bytes m (set_field f value) = omega (arith, value_bytes m value)
-  stmt_bytes m (look found into object keys) = look_bytes m found into object keys
-  stmt_bytes m (put ok object keys values) = put_bytes m ok object keys values
-  stmt_bytes m (del was object keys) =
-      omega (arith, local_bytes m.locals was, behind_key m object keys (fixed marks.Semicolon ∷ []))
+  stmt_bytes m (let_local x value) = simp bytes_append (omega (arith, local_bytes m.locals x, expr_bytes m value))
+  stmt_bytes m (assign x value) = simp bytes_append (omega (arith, local_bytes m.locals x, expr_bytes m value))
+  stmt_bytes m (set_field f value) = simp bytes_append (omega (arith, expr_bytes m value))
+  stmt_bytes m (look found into object keys) =
+      simp bytes_append (omega (arith, local_bytes m.locals found, names_bytes m into, object_bytes m.objects object, exprs_bytes m keys))
+  stmt_bytes m (put ok object keys values) =
+      simp bytes_append (omega (arith, local_bytes m.locals ok, object_bytes m.objects object, exprs_bytes m keys, exprs_bytes m values))
+  stmt_bytes m (del was object keys) = simp bytes_append (omega (arith, local_bytes m.locals was, object_bytes m.objects object, exprs_bytes m keys))
   stmt_bytes m (choose cond first second) =
-      let one : List Token = body_tokens (named_body m first) in
-      let two : List Token = else_tokens (named_body m second) (body_tokens (named_body m second)) in
-      omega (
-        arith,
-        bytes_append (expr_tokens (named_expr m cond)) (in_braces one ++ two),
-        bytes_append (in_braces one) two,
-        expr_bytes m cond,
-        braced one,
-        body_bytes m first,
-        else_bytes m second (body_length (lengths_of m) second) (body_bytes m second),
-      )
-  stmt_bytes m (repeat index count body) =
-      omega (arith, local_bytes m.locals index, braced (body_tokens (named_body m body)), body_bytes m body)
-  stmt_bytes m (send port) = omega (arith, value_bytes m port)
+      simp bytes_append (omega (arith, expr_bytes m cond, body_bytes m first, else_bytes m second (body_length (lengths_of m) second) (body_bytes m second)))
+  stmt_bytes m (repeat index count body) = simp bytes_append (omega (arith, local_bytes m.locals index, body_bytes m body))
+  stmt_bytes m (send port) = simp bytes_append (omega (arith, expr_bytes m port))
   stmt_bytes m drop = refl
 
   pub body_bytes : (m : Tree) (b : BodyTree) → bytes_of (body_tokens (named_body m b)) ≡ body_length (lengths_of m) b
   body_bytes m done = refl
-  body_bytes m (stmt s b) = omega (arith, bytes_append (stmt_tokens (named_stmt m s)) (body_tokens (named_body m b)), stmt_bytes m s, body_bytes m b)
+  body_bytes m (stmt s b) = simp bytes_append (omega (arith, stmt_bytes m s, body_bytes m b))
 
 -- ## Declarations
 
@@ -287,41 +223,17 @@ literals_bytes ws ns =
 rows_bytes : (keys values : List ℕ) (rows : List Row) → bytes_of (rows_tokens (map (named_row keys values) rows)) ≡ rows_length keys values rows
 rows_bytes keys values [] = refl
 rows_bytes keys values (r ∷ rows) =
-    let last : List Token = rows_tokens (map (named_row keys values) rows) in
-    let second : List Token = literals_tokens (literals values r.values) in
-    omega (
-      arith,
-      bytes_append (literals_tokens (literals keys r.keys)) (fixed marks.Arrow ∷ (second ++ fixed marks.Semicolon ∷ last)),
-      bytes_append second (fixed marks.Semicolon ∷ last),
-      literals_bytes keys r.keys,
-      literals_bytes values r.values,
-      rows_bytes keys values rows,
-    )
-
--- widths of keys and values, and what stands after them
-widths_behind : (keys values : List ℕ) (ts : List Token)
-    → bytes_of (widths_tokens keys ++ fixed marks.Arrow ∷ (widths_tokens values ++ ts)) ≡ widths_length keys + mark_length marks.Arrow + widths_length values + bytes_of ts
-widths_behind keys values ts =
-    omega (
-      arith,
-      bytes_append (widths_tokens keys) (fixed marks.Arrow ∷ (widths_tokens values ++ ts)),
-      bytes_append (widths_tokens values) ts,
-      widths_bytes keys,
-      widths_bytes values,
-    )
+    simp bytes_append (omega (arith, literals_bytes keys r.keys, literals_bytes values r.values, rows_bytes keys values rows))
 
 kind_bytes : (kind : Kind) (o : ObjectDecl) → bytes_of (decl_tokens (named_as kind o)) ≡ length o.name + length_as kind o
-kind_bytes Table o =
-    let rows : List Token = rows_tokens (map (named_row o.keys o.values) o.rows) in
-    omega (arith, widths_behind o.keys o.values (in_braces rows), braced rows, rows_bytes o.keys o.values o.rows)
-kind_bytes Map o = omega (arith, widths_behind o.keys o.values (fixed marks.Capacity ∷ number o.size ∷ fixed marks.Semicolon ∷ []))
-kind_bytes Vector o = omega (arith, bytes_append (widths_tokens o.values) (fixed marks.Semicolon ∷ []), widths_bytes o.values)
+kind_bytes Table o = simp bytes_append (omega (arith, widths_bytes o.keys, widths_bytes o.values, rows_bytes o.keys o.values o.rows))
+kind_bytes Map o = simp bytes_append (omega (arith, widths_bytes o.keys, widths_bytes o.values))
+kind_bytes Vector o = simp bytes_append (omega (arith, widths_bytes o.values))
 kind_bytes Int o = omega arith
 
 decls_bytes : (os : List ObjectDecl) → bytes_of (decls_tokens (map (λ o. record { at = 0; decl = named_decl o }) os)) ≡ decls_length os
 decls_bytes [] = refl
-decls_bytes (o ∷ os) =
-    omega (arith, bytes_append (decl_tokens (named_decl o)) (decls_tokens (map (λ o. record { at = 0; decl = named_decl o }) os)), kind_bytes o.kind o, decls_bytes os)
+decls_bytes (o ∷ os) = simp bytes_append (omega (arith, kind_bytes o.kind o, decls_bytes os))
 
 -- ## The whole
 
@@ -331,13 +243,5 @@ whole_bytes m =
     let body : List Token = body_tokens (named_body m m.body) in
     let but_last : List Token = decls ++ fixed marks.Process ∷ fixed marks.LeftBrace ∷ body in
     let same : but_last ++ fixed marks.RightBrace ∷ [] ≡ print_tokens (named m) = append_assoc decls (fixed marks.Process ∷ fixed marks.LeftBrace ∷ body) (fixed marks.RightBrace ∷ []) in
-    omega (
-      arith,
-      ap (λ ts. length (text_of ts)) same,
-      text_bytes but_last (fixed marks.RightBrace),
-      ap bytes_of same,
-      bytes_append decls (fixed marks.Process ∷ in_braces body),
-      braced body,
-      decls_bytes m.objects,
-      body_bytes m m.body,
-    )
+    let all : bytes_of (print_tokens (named m)) ≡ text_length m = simp bytes_append (omega (arith, decls_bytes m.objects, body_bytes m m.body)) in
+    ap (λ ts. length (text_of ts)) (sym same) ∙ text_bytes but_last (fixed marks.RightBrace) ∙ ap bytes_of same ∙ all

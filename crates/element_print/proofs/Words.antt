@@ -222,7 +222,7 @@ decimal_read n fits =
 
 -- ## Any token
 
--- it is read again as it is printed
+-- a token that is read again as it is printed
 pub record Readable (t : Token) : Type 0 where
   pub read : {b : ℕ} (bs : List ℕ) → Stop b → lexeme (token_text t ++ b ∷ bs) ≡ Some (record { token = t; len = length (token_text t) })
   pub front : {b : ℕ} (bs : List ℕ) → Stop b → gap false (token_text t ++ b ∷ bs) ≡ 0

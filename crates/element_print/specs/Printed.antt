@@ -64,7 +64,7 @@ mark_of ops.Cast = marks.Cast
 mark_of ops.Select = marks.Select
 mark_of ops.Adjust = marks.Adjust
 
--- it stands between its operands
+-- whether an operator stands between its operands
 abbrev pub is_infix : Op → Bool
 is_infix ops.Not = false
 is_infix ops.Cast = false
@@ -82,7 +82,7 @@ has_infix (shift op by arg) = true
 has_infix (apply op width args) = is_infix op
 has_infix _ = false
 
--- it is turned by `~`
+-- whether an expression is turned by `~`
 abbrev pub is_turned : SurfaceExpr → Bool
 is_turned (apply op width args) = is_not op
 is_turned _ = false

@@ -46,7 +46,7 @@ fn literals_sum(widths: &[u64], numbers: &[u64]) -> u64
     bytes
 }
 
-// Them in brackets.
+// The length of numbers with their widths, in brackets.
 fn literals_length(widths: &[u64], numbers: &[u64]) -> u64
     ensures { result ≡ capped (lengths.literals_length widths.now numbers.now) }
 {

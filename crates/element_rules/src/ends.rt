@@ -1,4 +1,4 @@
-//! Behind which statements a run never goes on.
+//! The statements behind which a run never goes on.
 ghost use Rattle.std.specs.Prelude.{◌≡◌, ◌&&◌, List, ℕ};
 ghost use Rattle.element_lang.specs.Broken as broken;
 ghost use Rattle.element_grammar.specs.Surface.{surface_stmt, surface_body};

@@ -19,7 +19,7 @@ use std::alloc::Global;
 pub(crate) struct Sight {
     /// How many bits each local in scope has, by its name, the oldest first.
     pub locals: IndexMap<Vec<u8>, u64>,
-    /// It stands within a repeat.
+    /// Whether what is read stands within a repeat.
     pub repeated: bool,
 }
 

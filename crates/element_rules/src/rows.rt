@@ -92,7 +92,7 @@ fn row_fits(row: &SurfaceRow, keys: &[u64], values: &[u64]) -> bool
     have_widths(&row.keys, keys) && have_widths(&row.values, values)
 }
 
-// These numbers, without their widths.
+// The numbers of literals, without their widths.
 fn numbers_of(alloc: Global, literals: &[Literal]) -> Result<Vec<u64>, NoMemory>
     ensures { IfOk result (λ numbers. numbers.items ≡ map (λ l. l.value) (map surface_literal literals.now)) }
 {

@@ -35,17 +35,17 @@ pub(crate) struct StmtFaults {
     pub taken: bool,
     /// A name that it uses is that of no local in scope or of no object.
     pub unknown: bool,
-    /// What it takes has another width than is wanted there.
+    /// An expression has another width than is wanted there.
     pub misfit: bool,
-    /// It writes a field that can't be written.
+    /// A field is set that can't be written.
     pub fixed_field: bool,
     /// Keys, values or locals don't fit the object in count or width.
     pub object_misfit: bool,
-    /// It puts to a table, or deletes from anything but a map.
+    /// A row is put to a table, or deleted from anything but a map.
     pub fixed_object: bool,
-    /// It is repeated not at all or too often, or stands within a repeat.
+    /// A repeat runs not at all or too often, or stands within a repeat.
     pub bad_repeat: bool,
-    /// It repeats statements behind which a run never goes on.
+    /// A repeat has statements behind which a run never goes on.
     pub repeats_an_end: bool,
 }
 

@@ -1,6 +1,5 @@
 -- A source has a middlebox exactly where none of its declarations and statements breaks a rule.
-use Rattle.std.proofs.Common.{◌≡◌, Bool, true, false, not, ◌&&◌, List, [], ◌∷◌, map, Option, Some, None, is_some, is_none, option_and_then, refl, sym, ap, ap₂, ◌∙◌}
-use Rattle.std.specs.List.{list_all}
+use Rattle.std.proofs.Common.{◌≡◌, Bool, true, false, not, ◌&&◌, List, [], ◌∷◌, map, Option, Some, None, is_some, is_none, refl, sym, ap, ap₂, ◌∙◌, arith}
 use Rattle.std.proofs.lemmas.Bool.{and_parts, false≢true}
 use Rattle.state_store.specs.declared.object.ObjectDecl.{ObjectDecl}
 use Rattle.element_lang.specs.declared.broken.Broken.{Broken}
@@ -10,12 +9,12 @@ use Rattle.element_lang.specs.Rules.{are_good_objects}
 use Rattle.element_lang.specs.Surface.{Declared, Surface, object_of}
 use Rattle.element_lang.specs.Grammar.{Spells}
 use Rattle.element_lang.specs.Broken.{broken_in, broken_decl, first_broken}
-use Rattle.element_text.specs.Resolve.{Env, MadeBody, made_body, is_written, are_good_decls, decls_of, resolved}
+use Rattle.element_text.specs.Resolve.{Env, MadeBody, are_good_decls, decls_of, resolved}
 use Rattle.element_text.proofs.Agreeing.{agrees_some, agrees_bound, agrees_when}
 use Rattle.element_text.proofs.AgreeingScopes.{Seen}
 use Rattle.element_text.proofs.AgreeingStmts.{sight_of}
 use Rattle.element_text.proofs.AgreeingSights.{none_or}
-use Rattle.element_text.proofs.AgreeingBodies.{odd_body, BodyFollows, body_agrees}
+use Rattle.element_text.proofs.AgreeingBodies.{odd_body, body_agrees}
 use Rattle.element_text.proofs.AgreeingDecls.{decls_agree, good_have_values}
 use Rattle.element_text.proofs.AgreeingSpells.{spelled_plain}
 use Rattle.lemmas.proofs.Tests.{and_true}
@@ -33,10 +32,7 @@ seen_first objects e = record {
 }
 
 all_tests : (g b x : Bool) → (g && ((b && not x) && true)) ≡ ((g && b) && not x)
-all_tests false b x = refl
-all_tests true false x = refl
-all_tests true true true = refl
-all_tests true true false = refl
+all_tests g b x = grind arith
 
 -- There is a middlebox exactly where no rule is broken. A tree that no source spells may have an odd expression, of which
 -- the rules say nothing, and then has none either.
@@ -50,11 +46,8 @@ resolved_same s =
     let x = odd_body s.body in
     let Q : Tree → Type 0 = λ m. Unit {0} in
     let made : MadeBody → Tree = λ r. record { objects = objects; locals = r.locals; body = r.tree } in
-    let h = agrees_when good ((b && not x) && true) (option_and_then (λ r. Some (made r)) (made_body env s.body)) Q (λ e.
-    let parts = and_parts (list_all is_written decls) (are_good_objects [] objects) e in
-    agrees_bound (made_body env s.body) (λ r. Some (made r)) (b && not x) true (BodyFollows s.body) Q
-    (body_agrees objects [] env (seen_first objects parts.1) s.body) (λ r f.
-    agrees_some (made r) Q tt)) in
+    let h = agrees_when good (λ e.
+    agrees_bound (body_agrees objects [] env (seen_first objects (and_parts _ _ e).1) s.body) (λ r f. agrees_some (made r) Q tt)) in
     h.same
     ∙ all_tests good b x
     ∙ ap₂ (λ v os. (v && is_none (broken_in (sight_of os []) s.body)) && not x) (sym (decls_agree s.objects)) (objects_same s.objects)

@@ -1,22 +1,22 @@
 -- A body of statements has numbers exactly where none of its statements breaks a rule.
-use Rattle.std.proofs.Common.{◌≡◌, ℕ, Bool, true, false, not, ◌&&◌, ◌||◌, List, [], ◌∷◌, ◌++◌, length, ◌==◌, if◌then◌else◌, Option, Some, is_none, option_and_then, refl, sym, ap, ap₂, subst, ◌∙◌}
+use Rattle.std.proofs.Common.{◌≡◌, ℕ, Bool, true, false, not, ◌&&◌, ◌||◌, List, [], ◌∷◌, ◌++◌, length, ◌==◌, if◌then◌else◌, is_none, refl, sym, ap, ap₂, subst, ◌∙◌, arith}
 use Rattle.std.proofs.lemmas.List.{append-nil}
 use Rattle.state_store.specs.declared.object.ObjectDecl.{ObjectDecl}
 use Rattle.element_lang.specs.declared.tree.Local.{Local}
 use Rattle.element_lang.specs.Tree as trees
-use Rattle.element_lang.specs.Tree.{ExprTree, StmtTree, BodyTree}
+use Rattle.element_lang.specs.Tree.{StmtTree, BodyTree}
 use Rattle.element_lang.specs.Rules.{is_count, is_empty}
 use Rattle.element_lang.specs.Rules as rules
 use Rattle.element_lang.specs.Surface.{SurfaceExpr, SurfaceStmt, SurfaceBody, let_local, assign, set_field, look, put, del, choose, repeat, send, drop, done, stmt}
 use Rattle.element_lang.specs.Broken.{width_in, in_expr, in_exprs, always_ends, ends_always, own_exprs, are_free, stmt_tests, binds, broken_within, broken_in}
-use Rattle.element_text.specs.Resolve.{when, Env, Made, MadeBody, typed_expr, declared, with_locals, is_done, made_condition, made_stmt, made_body}
+use Rattle.element_text.specs.Resolve.{Env, Made, MadeBody, with_locals, is_done, made_condition, made_stmt, made_body}
 use Rattle.element_text.proofs.Agreeing.{Agrees, agrees_some, agrees_to, agrees_bound, agrees_when}
-use Rattle.element_text.proofs.AgreeingExprs.{is_odd, is_wrong, HasWidth, expr_agrees}
+use Rattle.element_text.proofs.AgreeingExprs.{is_odd, is_wrong, expr_agrees}
 use Rattle.element_text.proofs.AgreeingScopes.{Seen, sole_agrees}
 use Rattle.element_text.proofs.AgreeingTests.{none_of, tests_apart}
-use Rattle.element_text.proofs.AgreeingStmts.{sight_of, have_repeats, Follows, StmtAgrees, let_agrees, assign_agrees, field_agrees, look_agrees, put_agrees, del_agrees, send_agrees, drop_agrees, send_tests}
+use Rattle.element_text.proofs.AgreeingStmts.{sight_of, have_repeats, Follows, follows, StmtAgrees, let_agrees, assign_agrees, field_agrees, look_agrees, put_agrees, del_agrees, send_agrees, drop_agrees, send_tests}
 use Rattle.element_text.proofs.AgreeingSights.{none_or, first_kept, ended_body, kept, repeated_body}
-use Rattle.lemmas.proofs.Tests.{and_false, and_true}
+use Rattle.lemmas.proofs.Tests.{and_true}
 
 -- an expression in it is odd, at any depth
 abbrev mutual
@@ -61,42 +61,17 @@ follows_stmt objects locals at s b first rest f g = record {
 -- ## What the tests come to
 
 choose_tests : (t o a x b y : Bool) → ((t && not o) && ((a && not x) && ((b && not y) && true))) ≡ ((t && (a && b)) && not (o || (x || y)))
-choose_tests false o a x b y = refl
-choose_tests true true a x b y = sym (and_false (a && b))
-choose_tests true false false x b y = refl
-choose_tests true false true true b y = sym (and_false b)
-choose_tests true false true false false y = refl
-choose_tests true false true false true true = refl
-choose_tests true false true false true false = refl
+choose_tests t o a x b y = grind arith
 
 repeat_tests : (c f n b x r : Bool)
     → (c && (f && ((b && not x) && ((not r && not n) && true)))) ≡ (((not (not c || false) && (not n && (f && true))) && (b && not r)) && not x)
-repeat_tests false f n b x r = refl
-repeat_tests true false true b x r = refl
-repeat_tests true false false b x r = refl
-repeat_tests true true true false x r = refl
-repeat_tests true true true true true r = refl
-repeat_tests true true true true false true = refl
-repeat_tests true true true true false false = refl
-repeat_tests true true false false x r = refl
-repeat_tests true true false true true true = refl
-repeat_tests true true false true true false = refl
-repeat_tests true true false true false true = refl
-repeat_tests true true false true false false = refl
+repeat_tests c f n b x r = grind arith
 
 next_tests : (t w o g b x : Bool) → (((t && w) && not o) && (g && ((b && not x) && true))) ≡ ((t && (w && (g && b))) && not (o || x))
-next_tests false w o g b x = refl
-next_tests true false o g b x = refl
-next_tests true true true g b x = sym (and_false (g && b))
-next_tests true true false false b x = refl
-next_tests true true false true false x = refl
-next_tests true true false true true true = refl
-next_tests true true false true true false = refl
+next_tests t w o g b x = grind arith
 
 own_alone : (t o : Bool) → (t && not o) ≡ ((t && true) && not (o || false))
-own_alone false o = refl
-own_alone true true = refl
-own_alone true false = refl
+own_alone t o = grind arith
 
 -- ## Statements and bodies
 
@@ -114,11 +89,8 @@ only_own objects locals env s h = agrees_to (own_alone (none_of (stmt_tests (sig
 
 condition_agrees : (objects : List ObjectDecl) (locals : List Local) (env : Env) → Seen objects locals env → (cond : SurfaceExpr)
     → Agrees (made_condition env cond) (not (in_expr (is_wrong locals) cond) && ((width_in locals cond == 1) && true)) (λ c. Unit {0})
-condition_agrees objects locals env h cond =
-    let w = width_in locals cond in
-    agrees_bound (typed_expr env.scope cond) (λ c. when (c.width == 1) (Some c.tree)) (not (in_expr (is_wrong locals) cond)) ((w == 1) && true) (HasWidth w)
-    (λ c. Unit {0}) (expr_agrees locals env.scope h.in_scope cond) (λ c f.
-    agrees_to (ap (λ a. (a == 1) && true) f.width) (agrees_when (c.width == 1) true (Some c.tree) (λ t. Unit {0}) (λ e. agrees_some c.tree (λ t. Unit {0}) tt)))
+condition_agrees objects locals env h cond = agrees_bound (expr_agrees locals env.scope h.in_scope cond) (λ c f.
+    agrees_to (ap (λ a. (a == 1) && true) f.width) (agrees_when (c.width == 1) (λ e. agrees_some c.tree (λ t. Unit {0}) tt)))
 
 -- other locals that are declared, of which none is in scope
 seen_still : (objects : List ObjectDecl) (locals : List Local) (env : Env) (more : List Local) → Seen objects locals env
@@ -142,21 +114,12 @@ module _ (objects : List ObjectDecl) (locals : List Local) (env : Env) (h : Seen
       let b = is_none (broken_in sight second) in
       let x = odd_body first in
       let y = odd_body second in
-      let Q = Follows objects locals s in
-      let made : ExprTree → MadeBody → MadeBody → Made = λ c i j. record { tree = trees.choose c i.tree j.tree; env = with_locals env j.locals } in
-      let last : ExprTree → MadeBody → Option Made = λ c i. option_and_then (λ j. Some (made c i j)) (made_body (with_locals env i.locals) second) in
       let own = send_tests e q ∙ sym (tests_apart sight s) in
       agrees_to (ap (λ i. i && ((a && not x) && ((b && not y) && true))) own ∙ choose_tests t o a x b y
       ∙ ap (λ i. (t && i) && not (o || (x || y))) (sym (none_or (broken_in sight first) (broken_in sight second))))
-      (agrees_bound (made_condition env cond) (λ c. option_and_then (λ i. last c i) (made_body env first)) (not e && (q && true))
-      ((a && not x) && ((b && not y) && true)) (λ c. Unit {0}) Q (condition_agrees objects locals env h cond) (λ c u.
-      agrees_bound (made_body env first) (λ i. last c i) (a && not x) ((b && not y) && true) (BodyFollows first) Q one (λ i f.
-      agrees_bound (made_body (with_locals env i.locals) second) (λ j. Some (made c i j)) (b && not y) true (BodyFollows second) Q (other i.locals) (λ j g.
-      agrees_some (made c i j) Q (record {
-        seen = left_scope j.locals;
-        ends = ap₂ (λ v w. v && w) f.ends g.ends;
-        repeats = ap₂ (λ v w. v || w) f.repeats g.repeats;
-      })))))
+      (agrees_bound (condition_agrees objects locals env h cond) (λ c u. agrees_bound one (λ i f. agrees_bound (other i.locals) (λ j g.
+      follows s (record { tree = trees.choose c i.tree j.tree; env = with_locals env j.locals }) (left_scope j.locals)
+      (ap₂ (λ v w. v && w) f.ends g.ends) (ap₂ (λ v w. v || w) f.repeats g.repeats)))))
 
   repeat_agrees : (index : List ℕ) (count : ℕ) (body : SurfaceBody)
       → ((inside : Env) → Seen objects (locals ++ record { name = index; width = 32 } ∷ []) inside
@@ -172,19 +135,12 @@ module _ (objects : List ObjectDecl) (locals : List Local) (env : Env) (h : Seen
       let x = odd_body body in
       let r = have_repeats body in
       let n = ends_always body in
-      let Q = Follows objects locals s in
-      let made : MadeBody → Made = λ i. record { tree = trees.repeat (length env.locals) count i.tree; env = with_locals env i.locals } in
       let goes_on : MadeBody → Bool = λ i. not (rules.any_repeats i.tree) && not (rules.ends_always i.tree) in
-      let last : Env → Option Made = λ inside. option_and_then (λ i. when (goes_on i) (Some (made i))) (made_body inside body) in
       let own = sym (tests_apart sight s) ∙ and_true (none_of (stmt_tests sight s)) in
       agrees_to (repeat_tests c free n b x r ∙ ap₂ (λ i j. (i && j) && not x) own (sym (repeated_body objects within false body)))
-      (agrees_when c (free && ((b && not x) && ((not r && not n) && true))) (option_and_then last (declared env index 32)) Q (λ t.
-      agrees_bound (declared env index 32) last free ((b && not x) && ((not r && not n) && true)) (Seen objects within) Q
-      (sole_agrees objects locals env h index 32 refl) (λ inside k.
-      agrees_bound (made_body inside body) (λ i. when (goes_on i) (Some (made i))) (b && not x) ((not r && not n) && true) (BodyFollows body) Q (all inside k)
-      (λ i f.
-      agrees_to (ap₂ (λ v w. (not v && not w) && true) f.repeats f.ends) (agrees_when (goes_on i) true (Some (made i)) Q (λ u.
-      agrees_some (made i) Q (record { seen = left_scope i.locals; ends = refl; repeats = refl })))))))
+      (agrees_when c (λ t. agrees_bound (sole_agrees objects locals env h index 32 refl) (λ inside k. agrees_bound (all inside k) (λ i f.
+      agrees_to (ap₂ (λ v w. (not v && not w) && true) f.repeats f.ends) (agrees_when (goes_on i) (λ u.
+      follows s (record { tree = trees.repeat (length env.locals) count i.tree; env = with_locals env i.locals }) (left_scope i.locals) refl refl))))))
 
 mutual
   stmt_agrees : (objects : List ObjectDecl) (locals : List Local) (env : Env) → Seen objects locals env → (s : SurfaceStmt) → StmtKept objects locals env s
@@ -216,17 +172,11 @@ mutual
       let others = is_none (broken_in (sight_of objects after) b) in
       let x = odd_body b in
       let goes_on = not (always_ends s) || is_done b in
-      let Q = BodyFollows (stmt at s b) in
-      let made : Made → MadeBody → MadeBody = λ first rest. record { tree = trees.stmt first.tree rest.tree; locals = rest.locals } in
       let behind_it = sym (ended_body objects after false (always_ends s) b) in
       agrees_to (next_tests tests inner o goes_on others x
       ∙ ap (λ i. i && not (o || x)) (ap (λ i. tests && (inner && i)) behind_it ∙ sym (first_kept sight at s b)))
-      (agrees_bound (made_stmt env s) (λ first. when (not (rules.always_ends first.tree) || is_done b)
-      (option_and_then (λ rest. Some (made first rest)) (made_body first.env b))) ((tests && inner) && not o) (goes_on && ((others && not x) && true))
-      (Follows objects locals s) Q (stmt_agrees objects locals env h s) (λ first f.
+      (agrees_bound (stmt_agrees objects locals env h s) (λ first f.
       agrees_to (ap (λ i. (not i || is_done b) && ((others && not x) && true)) f.ends)
-      (agrees_when (not (rules.always_ends first.tree) || is_done b) ((others && not x) && true)
-      (option_and_then (λ rest. Some (made first rest)) (made_body first.env b)) Q (λ t.
-      agrees_bound (made_body first.env b) (λ rest. Some (made first rest)) (others && not x) true (BodyFollows b) Q
-      (body_agrees objects after first.env f.seen b) (λ rest g.
-      agrees_some (made first rest) Q (follows_stmt objects locals at s b first rest f g))))))
+      (agrees_when (not (rules.always_ends first.tree) || is_done b) (λ t. agrees_bound (body_agrees objects after first.env f.seen b) (λ rest g.
+      agrees_some (record { tree = trees.stmt first.tree rest.tree; locals = rest.locals }) (BodyFollows (stmt at s b))
+      (follows_stmt objects locals at s b first rest f g))))))

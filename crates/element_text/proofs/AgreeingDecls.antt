@@ -1,5 +1,5 @@
 -- Declarations are good exactly where none breaks a rule.
-use Rattle.std.proofs.Common.{◌≡◌, ℕ, ◌^◌, Bool, true, false, not, ◌&&◌, ◌||◌, List, [], ◌∷◌, ◌++◌, map, length, nat_le, nat_lt, ◌==◌, if◌then◌else◌, Option, Some, None, is_none, refl, sym, ap, ap₂, ◌∙◌}
+use Rattle.std.proofs.Common.{◌≡◌, ℕ, ◌^◌, Bool, true, false, not, ◌&&◌, ◌||◌, List, [], ◌∷◌, ◌++◌, map, length, nat_le, nat_lt, ◌==◌, if◌then◌else◌, Option, Some, None, is_none, refl, sym, ap, ap₂, ◌∙◌, arith}
 use Rattle.std.specs.List.{list_any, list_all}
 use Rattle.std.specs.Str.{bytes_eq}
 use Rattle.std.proofs.lemmas.Bool.{eqb-true, eq-eqb, and_parts, and_from, false≢true}
@@ -17,7 +17,6 @@ use Rattle.element_text.proofs.AgreeingScopes.{has_values}
 use Rattle.element_text.proofs.AgreeingTests.{none_of, none_lowest}
 use Rattle.element_text.proofs.AgreeingSights.{none_or}
 use Rattle.gal_bits.specs.Fits.{same_list}
-use Rattle.lemmas.proofs.Tests.{and_false, and_true}
 
 -- ## Rows of a table
 
@@ -32,8 +31,7 @@ wide_literals : (ws : List ℕ) (ls : List Literal) → list_all is_width ws ≡
 wide_literals ws ls wide e = ap (list_all is_width) (same_list (widths_in ls) ws e) ∙ wide
 
 both_small : (x y h : Bool) → not y ≡ h → not (not x || y) ≡ (x && h)
-both_small true y h e = e
-both_small false y h e = refl
+both_small x y h e = grind arith
 
 small_literals : (ws : List ℕ) (ls : List Literal) → same_widths (widths_in ls) ws ≡ true
     → not (list_any is_too_large_literal ls) ≡ have_widths ws (numbers_in ls)
@@ -45,43 +43,12 @@ small_literals (w ∷ ws) (l ∷ ls) e =
     both_small (nat_lt l.value (2 ^ l.width)) (list_any is_too_large_literal ls) (have_widths ws (numbers_in ls)) (small_literals ws ls p.1)
     ∙ ap (λ n. nat_lt l.value (2 ^ n) && have_widths ws (numbers_in ls)) (eqb-true l.width w p.0)
 
-inner_fails : (x y : Bool) → (x && (y && false)) ≡ false
-inner_fails true true = refl
-inner_fails true false = refl
-inner_fails false y = refl
-
-middle_fails : (x y z : Bool) → (x && ((y && false) && z)) ≡ false
-middle_fails true true z = refl
-middle_fails true false z = refl
-middle_fails false y z = refl
-
--- literals of these widths (k), which are then widths (n) and small enough (not t) where they have the widths as numbers (h)
-abbrev Literals : Bool → Bool → Bool → Bool → Type 0
-Literals k n t h = k ≡ true → (n ≡ true) × (not t ≡ h)
-
-neither_large : (s t u h i : Bool) → not s ≡ h → not t ≡ i → not ((s || t) || u) ≡ ((h && i) && not u)
-neither_large true t u h i e f = ap (λ x. (x && i) && not u) e
-neither_large false true u h i e f = ap₂ (λ x y. (x && y) && not u) e f
-neither_large false false u h i e f = ap₂ (λ x y. (x && y) && not u) e f
-
-rows_behind : (x l t b w g : Bool) → (l && (not t && not b)) ≡ (w && g) → (l && ((x && not t) && not b)) ≡ (w && ((x && true) && g))
-rows_behind true l t b w g e = e
-rows_behind false true t b true g e = refl
-rows_behind false true t b false g e = refl
-rows_behind false false t b true g e = refl
-rows_behind false false t b false g e = refl
-
-row_tests : (n m l s t u k v a b h i w g : Bool) → Literals k n s h → Literals v m t i → (l && (not u && not b)) ≡ (w && g)
+-- Where literals have the declared widths (k and v), their widths are widths (n and m), and they are small enough where they have these widths as
+-- numbers.
+row_tests : (n m l s t u k v a b h i w g : Bool) → (k ≡ true → n ≡ true) → (k ≡ true → not s ≡ h) → (v ≡ true → m ≡ true) → (v ≡ true → not t ≡ i)
+    → (l && (not u && not b)) ≡ (w && g)
     → ((n && (m && l)) && (not ((s || t) || u) && not (((not k || not v) || a) || b))) ≡ (((k && v) && w) && (((h && i) && not a) && g))
-row_tests n m l s t u false v a b h i w g p q e = inner_fails (n && (m && l)) (not ((s || t) || u))
-row_tests n m l s t u true false a b h i w g p q e = inner_fails (n && (m && l)) (not ((s || t) || u))
-row_tests n m l s t u true true true b h i w g p q e = inner_fails (n && (m && l)) (not ((s || t) || u)) ∙ sym (middle_fails w (h && i) g)
-row_tests n m l s t u true true false b h i w g p q e =
-    let keys = p refl in
-    let values = q refl in
-    ap₂ (λ x y. (x && (y && l)) && (not ((s || t) || u) && not b)) keys.0 values.0
-    ∙ ap (λ x. l && (x && not b)) (neither_large s t u h i keys.1 values.1)
-    ∙ rows_behind (h && i) l u b w g e
+row_tests n m l s t u k v a b h i w g p q r o e = grind arith
 
 all_three : (p : ℕ → Bool) (xs ys zs : List ℕ) → list_all p (xs ++ (ys ++ zs)) ≡ (list_all p xs && (list_all p ys && list_all p zs))
 all_three p xs ys zs = list_all-append p xs (ys ++ zs) ∙ ap (λ b. list_all p xs && b) (list_all-append p ys zs)
@@ -105,73 +72,32 @@ rows_agree keys values seen (row ∷ rows) a b =
     (same_widths ks keys) (same_widths vs values) new (has_bad_rows keys values (key ∷ seen) rows)
     (have_widths keys key) (have_widths values (numbers_in row.values)) (are_written keys values rows)
     (are_good_rows keys values (key ∷ seen) (map value_row rows))
-    (λ e. (wide_literals keys row.keys a e, small_literals keys row.keys e)) (λ e. (wide_literals values row.values b e, small_literals values row.values e))
+    (λ e. wide_literals keys row.keys a e) (λ e. small_literals keys row.keys e) (λ e. wide_literals values row.values b e) (λ e. small_literals values row.values e)
     (rows_agree keys values (key ∷ seen) rows a b)
 
 -- ## Each declaration
 
 widths_split : (v a s : Bool) → ((v && a) && s) ≡ (a && (v && s))
-widths_split true true s = refl
-widths_split true false s = refl
-widths_split false true s = refl
-widths_split false false s = refl
+widths_split v a s = grind arith
 
 -- widths of values, in a list that isn't too long
 lists_agree : (ws : List ℕ) → are_widths ws ≡ (list_all is_width ws && is_list_of_numbers ws)
 lists_agree ws = widths_split (nat_le 1 (length ws) && nat_le (length ws) 8) (list_all is_width ws) (nat_le (sum_of ws) 128)
 
 int_tests : (n w s q : Bool) → q ≡ true → (not (not n) && (not (not (w && true)) && (not (not s) && true))) ≡ ((((q && true) && w && true) && s && true) && n)
-int_tests n w s false e = absurd (false≢true e)
-int_tests false w s true e = sym (and_false (((w && true) && s) && true))
-int_tests true false s true e = refl
-int_tests true true true true e = refl
-int_tests true true false true e = refl
+int_tests n w s q e = grind arith
 
 vector_tests : (n a v s : Bool) → (not (not n) && (not (not a) && (not (not v) && (not (not s) && true)))) ≡ (((((a && v) && s) && true) && true) && n)
-vector_tests false a v s = sym (and_false ((((a && v) && s) && true) && true))
-vector_tests true false v s = refl
-vector_tests true true false s = refl
-vector_tests true true true true = refl
-vector_tests true true true false = refl
+vector_tests n a v s = grind arith
 
 map_tests : (n a b k v s : Bool)
     → (not (not n) && (not (not (a && b)) && (not (not k || not v) && (not (not s) && true)))) ≡ ((((((a && k) && (b && v)) && s) && true) && true) && n)
-map_tests false a b k v s = sym (and_false (((((a && k) && (b && v)) && s) && true) && true))
-map_tests true false b k v s = refl
-map_tests true true false true v s = refl
-map_tests true true false false v s = refl
-map_tests true true true false v s = refl
-map_tests true true true true false s = refl
-map_tests true true true true true true = refl
-map_tests true true true true true false = refl
-
-fails_behind : (w x : Bool) → false ≡ (w && (x && false))
-fails_behind w x = sym (inner_fails w x)
-
-fails_early : (w x : Bool) → false ≡ (w && (false && x))
-fails_early true x = refl
-fails_early false x = refl
-
-fails_within : (l x : Bool) → (not (not l) && (false && x)) ≡ false
-fails_within true x = refl
-fails_within false x = refl
-
-held : (l t b w g : Bool) → (l && (not t && not b)) ≡ (w && g) → (not (not l) && (not (t || false) && (not b && true))) ≡ (w && (g && true))
-held true true b w g e = e ∙ ap (λ x. w && x) (sym (and_true g))
-held true false b w g e = and_true (not b) ∙ e ∙ ap (λ x. w && x) (sym (and_true g))
-held false t b w g e = e ∙ ap (λ x. w && x) (sym (and_true g))
+map_tests n a b k v s = grind arith
 
 table_tests : (n a b l k v t r w g q : Bool) → q ≡ true → (a ≡ true → b ≡ true → (l && (not t && not r)) ≡ (w && g))
     → (not (not n) && (not (not (a && (b && l))) && (not (not k || not v) && (not (t || false) && (not r && true))))) ≡
     (w && ((((((a && k) && (b && v)) && q) && true) && g) && n))
-table_tests false a b l k v t r w g q e h = fails_behind w (((((a && k) && (b && v)) && q) && true) && g)
-table_tests true false b l k v t r w g q e h = fails_early w true
-table_tests true true false l true v t r w g q e h = fails_early w true
-table_tests true true false l false v t r w g q e h = fails_early w true
-table_tests true true true l false v t r w g q e h = fails_within l (not (t || false) && (not r && true)) ∙ fails_early w true
-table_tests true true true l true false t r w g q e h = fails_within l (not (t || false) && (not r && true)) ∙ fails_early w true
-table_tests true true true l true true t r w g true e h = held l t r w g (h refl refl)
-table_tests true true true l true true t r w g false e h = absurd (false≢true e)
+table_tests n a b l k v t r w g q e h = grind arith
 
 -- a declaration breaks no rule exactly where it is written with the declared widths, keeps the rules of its kind, and has a name of its own
 decl_agrees : (objects : List ObjectDecl) (d : SurfaceDecl)
@@ -245,12 +171,7 @@ names_pushed names objects o h word =
     taken false x false e = e
 
 shared : (w g n v h : Bool) → ((w && (g && n)) && (v && h)) ≡ ((w && v) && ((g && n) && h))
-shared false g n v h = refl
-shared true true true v h = refl
-shared true true false true h = refl
-shared true true false false h = refl
-shared true false n true h = refl
-shared true false n false h = refl
+shared w g n v h = grind arith
 
 decls_agree_from : (names : List (List ℕ)) (objects : List ObjectDecl) → AreNames names objects → (ds : List Declared)
     → is_none (broken_decl objects ds) ≡ (list_all is_written (decls_of ds) && are_good_objects names (map object_of (decls_of ds)))
@@ -275,7 +196,5 @@ decls_agree ds = decls_agree_from [] [] (λ word. refl) ds
 pub good_have_values : (names : List (List ℕ)) (os : List ObjectDecl) → are_good_objects names os ≡ true → list_all has_values os ≡ true
 good_have_values names [] e = refl
 good_have_values names (o ∷ os) e =
-    let good = is_good_object o.kind o in
-    let new = not (list_any (bytes_eq o.name) names) in
-    let p = and_parts (good && new) (are_good_objects (o.name ∷ names) os) e in
-    and_from (has_values o) (list_all has_values os) (good_values o.kind o (and_parts good new p.0).0) (good_have_values (o.name ∷ names) os p.1)
+    let p = and_parts _ _ e in
+    and_from _ _ (good_values o.kind o (and_parts _ _ p.0).0) (good_have_values (o.name ∷ names) os p.1)

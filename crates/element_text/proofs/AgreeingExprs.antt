@@ -1,20 +1,20 @@
 -- An expression has numbers exactly where the tests find nothing wrong in it, and then has the width that they say.
-use Rattle.std.proofs.Common.{◌≡◌, ℕ, ◌^◌, Bool, true, false, not, ◌&&◌, ◌||◌, List, [], ◌∷◌, map, length, nat_le, nat_lt, slice_index, ◌==◌, if◌then◌else◌, Some, is_none, option_map, option_and_then, refl, sym, ap, ap₂, subst, ◌∙◌}
+use Rattle.std.proofs.Common.{◌≡◌, ℕ, ◌^◌, Bool, true, false, not, ◌&&◌, ◌||◌, List, [], ◌∷◌, map, nat_le, nat_lt, ◌==◌, if◌then◌else◌, Some, is_none, option_map, refl, sym, ap, subst, ◌∙◌, arith}
 use Rattle.std.specs.List.{list_all}
 use Rattle.std.specs.Str.{bytes_eq}
-use Rattle.std.proofs.lemmas.Bool.{eqb-true, eq-eqb, and_parts, and_from, false≢true}
+use Rattle.std.proofs.lemmas.Bool.{eqb-true, eq-eqb, and_parts, false≢true}
+use Rattle.std.proofs.lemmas.Option.{IfSome_then}
 use Rattle.gal_bits.specs.declared.op.Op.{Op}
 use Rattle.gal_bits.specs.declared.op.Op.TheVariants.{Add, Sub, Mul, Div, Rem, And, Or, Xor, Not, Shl, Shr, Cast, Select, Adjust}
 use Rattle.packet_fields.specs.Table.{row}
 use Rattle.element_lang.specs.declared.tree.Local.{Local}
 use Rattle.element_lang.specs.Tree as trees
-use Rattle.element_lang.specs.Rules.{is_width, is_shift, same_widths, fits_operator}
+use Rattle.element_lang.specs.Rules.{is_width, is_shift, fits_operator}
 use Rattle.element_lang.specs.Surface.{SurfaceExpr, SurfaceExprs, lit, name, field, byte, shift, apply, no_expr, expr, written_width}
 use Rattle.element_lang.specs.Broken.{local_named, width_of_local, width_in, widths_in, in_expr, in_exprs, is_bad_width, is_too_large, is_unknown, is_misfit, is_far_shift}
 use Rattle.element_lang.specs.Broken as broken
-use Rattle.element_text.specs.Resolve.{Known, local_in, Typed, TypedList, accepted_width, typed_apply, typed_local, typed_byte, typed_shift, typed_expr, typed_exprs}
-use Rattle.element_text.proofs.Optional.{if_so}
-use Rattle.element_text.proofs.Operators.{Fitting, result_fits, fitting_result, result_wide}
+use Rattle.element_text.specs.Resolve.{Known, local_in, Typed, TypedList, accepted_width, typed_apply, typed_local, typed_expr, typed_exprs}
+use Rattle.element_text.proofs.Operators.{result_fits, fitting_result, result_wide}
 use Rattle.element_text.proofs.CompleteExprs.{field_wide}
 use Rattle.element_text.proofs.Agreeing.{Agrees, agrees_some, agrees_none, agrees_to, agrees_bound, agrees_when, agrees_map, agrees_from}
 use Rattle.gal_bits.specs.Fits.{same_list}
@@ -61,8 +61,8 @@ Looked locals scope word = Agrees (local_in scope word) (not (is_none (local_nam
 looked : (scope : List Known) (word : List ℕ) → list_all is_wide (decls scope) ≡ true → Looked (decls scope) scope word
 looked [] word e = agrees_none (λ k. HasWidth 0 (typed_local k))
 looked (k ∷ ks) word e =
-    let parts = and_parts (is_wide k.decl) (list_all is_wide (decls ks)) e in
-    by_test (bytes_eq word k.decl.name) parts.0 (looked ks word parts.1)
+    let p = and_parts _ _ e in
+    by_test (bytes_eq word k.decl.name) p.0 (looked ks word p.1)
   where
     by_test : (b : Bool) → is_width k.decl.width ≡ true → Looked (decls ks) ks word
         → Agrees (if b then Some k else local_in ks word) (not (is_none (if b then Some k.decl else local_named (decls ks) word)))
@@ -90,29 +90,29 @@ none_odd _ v written e = eq-eqb written 0 (sym e)
 -- a cast's width is one
 none_bad : (op : Op) (v written : ℕ) (ws : List ℕ) (args : SurfaceExprs) → fits_operator op v ws ≡ true → written_width op v ≡ written
     → is_bad_width (apply op written args) ≡ false
-none_bad Cast v written ws args e back = ap (λ w. not (is_width w)) (sym back) ∙ ap not (and_parts (is_width v) (length ws == 1) e).0
+none_bad Cast v written ws args e back = ap (λ w. not (is_width w)) (sym back) ∙ ap not (and_parts _ _ e).0
 none_bad _ v written ws args e back = refl
 
 number_is : (v n : ℕ) (b : Bool) → (v == n && b) ≡ true → v ≡ n
-number_is v n b e = eqb-true v n (and_parts (v == n) b e).0
+number_is v n b e = eqb-true v n (and_parts _ _ e).0
 
 -- the width of a result that fits
 result_is : (op : Op) (v written : ℕ) (ws : List ℕ) → fits_operator op v ws ≡ true → written_width op v ≡ written → v ≡ broken.result_width op written ws
-result_is Add v written ws e back = sym (ap (broken.result_width Add written) (same_list ws (v ∷ v ∷ []) e))
-result_is Sub v written ws e back = sym (ap (broken.result_width Sub written) (same_list ws (v ∷ v ∷ []) e))
-result_is Mul v written ws e back = sym (ap (broken.result_width Mul written) (same_list ws (v ∷ v ∷ []) e))
-result_is Div v written ws e back = sym (ap (broken.result_width Div written) (same_list ws (v ∷ v ∷ []) e))
-result_is Rem v written ws e back = sym (ap (broken.result_width Rem written) (same_list ws (v ∷ v ∷ []) e))
-result_is And v written ws e back = sym (ap (broken.result_width And written) (same_list ws (v ∷ v ∷ []) e))
-result_is Or v written ws e back = sym (ap (broken.result_width Or written) (same_list ws (v ∷ v ∷ []) e))
-result_is Xor v written ws e back = sym (ap (broken.result_width Xor written) (same_list ws (v ∷ v ∷ []) e))
-result_is Not v written ws e back = sym (ap (broken.result_width Not written) (same_list ws (v ∷ []) e))
+result_is Add v written ws e back = rw (same_list ws (v ∷ v ∷ []) e)
+result_is Sub v written ws e back = rw (same_list ws (v ∷ v ∷ []) e)
+result_is Mul v written ws e back = rw (same_list ws (v ∷ v ∷ []) e)
+result_is Div v written ws e back = rw (same_list ws (v ∷ v ∷ []) e)
+result_is Rem v written ws e back = rw (same_list ws (v ∷ v ∷ []) e)
+result_is And v written ws e back = rw (same_list ws (v ∷ v ∷ []) e)
+result_is Or v written ws e back = rw (same_list ws (v ∷ v ∷ []) e)
+result_is Xor v written ws e back = rw (same_list ws (v ∷ v ∷ []) e)
+result_is Not v written ws e back = rw (same_list ws (v ∷ []) e)
 result_is Shl v written ws e back = absurd (false≢true e)
 result_is Shr v written ws e back = absurd (false≢true e)
 result_is Cast v written ws e back = back
-result_is Select v written ws e back = sym (ap (broken.result_width Select written) (same_list ws (1 ∷ v ∷ v ∷ []) e))
-result_is Adjust v written ws e back = number_is v 16 (same_widths ws (16 ∷ 16 ∷ 16 ∷ [])) e
-result_is _ v written ws e back = number_is v 1 (same_widths ws (slice_index ws 0 ∷ slice_index ws 0 ∷ [])) e
+result_is Select v written ws e back = rw (same_list ws (1 ∷ v ∷ v ∷ []) e)
+result_is Adjust v written ws e back = number_is v 16 _ e
+result_is _ v written ws e back = number_is v 1 _ e
 
 -- the tests of an operator
 operator_parts : (f b o : Bool) → not (not f || (b || not o)) ≡ true → (f ≡ true) × (o ≡ true)
@@ -122,10 +122,7 @@ operator_parts true false false e = absurd (false≢true e)
 operator_parts false b o e = absurd (false≢true e)
 
 operator_tests : (f b o : Bool) → f ≡ true → b ≡ false → o ≡ true → not (not f || (b || not o)) ≡ true
-operator_tests true true o e g h = cc
-operator_tests true false true e g h = refl
-operator_tests true false false e g h = cc
-operator_tests false b o e g h = cc
+operator_tests f b o e g h = grind arith
 
 -- what is known of the width of a result
 record IsResult (w v : ℕ) : Type 0 where
@@ -146,7 +143,7 @@ operator_agrees op written ws args wide =
     (λ e.
     let parts = operator_parts fits bad own e in
     ap (λ n. accepted_width op n ws) (sym (written_back op written ws parts.1)) ∙ fitting_result op w ws parts.0)
-    (if_so (accepted_width op written ws) (Fitting op written ws) (λ v. (test ≡ true) × IsResult w v) (result_fits op written ws) (λ v p.
+    (IfSome_then (accepted_width op written ws) {Q = λ v. (test ≡ true) × IsResult w v} (result_fits op written ws) (λ v p.
     let is : v ≡ w = result_is op v written ws p.0 p.1 in
     let good : fits ≡ true = ap (λ x. fits_operator op x ws) (sym is) ∙ p.0 in
     let tests = operator_tests fits bad own good (none_bad op v written ws args p.0 p.1) (none_odd op v written p.1) in
@@ -155,117 +152,63 @@ operator_agrees op written ws args wide =
 apply_agrees : (op : Op) (written : ℕ) (locals : List Local) (args : SurfaceExprs) (ts : TypedList) → HaveWidths (widths_in locals args) ts
     → Agrees (typed_apply op written ts) (not (is_wrong locals (apply op written args))) (HasWidth (width_in locals (apply op written args)))
 apply_agrees op written locals args ts h =
-    let ws = widths_in locals args in
+    let Q = HasWidth (width_in locals (apply op written args)) in
     let made : ℕ → Typed = λ w. record { tree = trees.apply op w ts.trees; width = w } in
-    let test = not (is_wrong locals (apply op written args)) in
-    subst (λ vs. Agrees (option_map made (accepted_width op written vs)) test (HasWidth (width_in locals (apply op written args)))) (sym h.widths)
-    (agrees_map (accepted_width op written ws) made test (IsResult (broken.result_width op written ws)) (HasWidth (width_in locals (apply op written args)))
-    (operator_agrees op written ws args h.wide) (λ w r. record { width = r.same; wide = r.wide }))
+    subst (λ vs. Agrees (option_map made (accepted_width op written vs)) (not (is_wrong locals (apply op written args))) Q) (sym h.widths)
+    (agrees_map made Q (operator_agrees op written (widths_in locals args) args h.wide) (λ w r. record { width = r.same; wide = r.wide }))
 
 -- ## Expressions
 
 literal_tests : (a b : Bool) → ((a && b) && true) ≡ not (not b || (not a || false))
-literal_tests true true = refl
-literal_tests true false = refl
-literal_tests false true = refl
-literal_tests false false = refl
+literal_tests a b = grind arith
 
 name_tests : (a : Bool) → not a ≡ not (a || false)
-name_tests true = refl
-name_tests false = refl
+name_tests a = grind arith
 
 byte_tests : (i w : Bool) → (not i && (w && true)) ≡ not ((not w || false) || i)
-byte_tests true true = refl
-byte_tests true false = refl
-byte_tests false true = refl
-byte_tests false false = refl
+byte_tests i w = grind arith
 
 shift_tests : (i s n : Bool) → (not i && ((s && n) && true)) ≡ not ((not n || not s) || i)
-shift_tests true true true = refl
-shift_tests true true false = refl
-shift_tests true false true = refl
-shift_tests true false false = refl
-shift_tests false true true = refl
-shift_tests false true false = refl
-shift_tests false false true = refl
-shift_tests false false false = refl
+shift_tests i s n = grind arith
 
 apply_tests : (i w : Bool) → (not i && not w) ≡ not (w || i)
-apply_tests true true = refl
-apply_tests true false = refl
-apply_tests false true = refl
-apply_tests false false = refl
+apply_tests i w = grind arith
 
 list_tests : (a b : Bool) → (not a && (not b && true)) ≡ not (a || b)
-list_tests true b = refl
-list_tests false true = refl
-list_tests false false = refl
+list_tests a b = grind arith
 
-literal_agrees : (locals : List Local) (scope : List Known) (value width : ℕ)
-    → Agrees (typed_expr scope (lit value width)) (not (in_expr (is_wrong locals) (lit value width))) (HasWidth width)
-literal_agrees locals scope value width =
-    let t : Typed = record { tree = trees.lit value width; width = width } in
-    let a = is_width width in
-    let b = nat_lt value (2 ^ width) in
-    agrees_to (literal_tests a b) (agrees_when (a && b) true (Some t) (HasWidth width)
-    (λ e. agrees_some t (HasWidth width) (record { width = refl; wide = (and_parts a b e).0 })))
-
-byte_agrees : (t : Typed) (w : ℕ) → HasWidth w t → Agrees (typed_byte t) ((w == 16) && true) (HasWidth 8)
-byte_agrees t w h =
-    let made : Typed = record { tree = trees.byte t.tree; width = 8 } in
-    agrees_to (ap (λ v. (v == 16) && true) h.width) (agrees_when (t.width == 16) true (Some made) (HasWidth 8)
-    (λ e. agrees_some made (HasWidth 8) (record { width = refl; wide = refl })))
-
-shift_agrees : (op : Op) (by : ℕ) (t : Typed) (w : ℕ) → HasWidth w t → Agrees (typed_shift op by t) ((is_shift op && nat_le by 63) && true) (HasWidth w)
-shift_agrees op by t w h =
-    let made : Typed = record { tree = trees.shift op by t.tree; width = t.width } in
-    agrees_when (is_shift op && nat_le by 63) true (Some made) (HasWidth w) (λ e. agrees_some made (HasWidth w) (record { width = h.width; wide = h.wide }))
+-- an expression of this width
+typed : (t : Typed) (w : ℕ) → t.width ≡ w → is_width w ≡ true → Agrees (Some t) true (HasWidth w)
+typed t w e f = agrees_some t (HasWidth w) (record { width = e; wide = f })
 
 mutual
   pub expr_agrees : (locals : List Local) (scope : List Known) → InScope locals scope → (e : SurfaceExpr)
       → Agrees (typed_expr scope e) (not (in_expr (is_wrong locals) e)) (HasWidth (width_in locals e))
-  expr_agrees locals scope h (lit value width) = literal_agrees locals scope value width
+  expr_agrees locals scope h (lit value width) =
+      let a = is_width width in
+      let b = nat_lt value (2 ^ width) in
+      agrees_to (literal_tests a b) (agrees_when (a && b) (λ e. typed (record { tree = trees.lit value width; width = width }) width refl (and_parts _ _ e).0))
   expr_agrees locals scope h (name word) =
       let w = width_of_local (local_named locals word) in
-      let unknown = is_none (local_named locals word) in
-      agrees_to (name_tests unknown) (agrees_map (local_in scope word) typed_local (not unknown) (λ k. HasWidth w (typed_local k)) (HasWidth w)
-      (local_agrees locals scope word h) (λ k f. f))
-  expr_agrees locals scope h (field f) = agrees_some (record { tree = trees.field f; width = (row f).width }) (HasWidth (row f).width)
-      (record { width = refl; wide = field_wide f })
+      agrees_to (name_tests (is_none (local_named locals word))) (agrees_map typed_local (HasWidth w) (local_agrees locals scope word h) (λ k f. f))
+  expr_agrees locals scope h (field f) = typed (record { tree = trees.field f; width = (row f).width }) (row f).width refl (field_wide f)
   expr_agrees locals scope h (byte index) =
       let w = width_in locals index in
-      let inner = in_expr (is_wrong locals) index in
-      agrees_to (byte_tests inner (w == 16))
-      (agrees_bound (typed_expr scope index) typed_byte (not inner) ((w == 16) && true) (HasWidth w) (HasWidth 8) (expr_agrees locals scope h index)
-      (λ t f. byte_agrees t w f))
+      agrees_to (byte_tests (in_expr (is_wrong locals) index) (w == 16)) (agrees_bound (expr_agrees locals scope h index) (λ t f.
+      agrees_to (ap (λ v. (v == 16) && true) f.width) (agrees_when (t.width == 16) (λ e. typed (record { tree = trees.byte t.tree; width = 8 }) 8 refl refl))))
   expr_agrees locals scope h (shift op by arg) =
       let w = width_in locals arg in
-      let inner = in_expr (is_wrong locals) arg in
-      agrees_to (shift_tests inner (is_shift op) (nat_le by 63))
-      (agrees_bound (typed_expr scope arg) (typed_shift op by) (not inner) ((is_shift op && nat_le by 63) && true) (HasWidth w) (HasWidth w)
-      (expr_agrees locals scope h arg) (λ t f. shift_agrees op by t w f))
+      agrees_to (shift_tests (in_expr (is_wrong locals) arg) (is_shift op) (nat_le by 63)) (agrees_bound (expr_agrees locals scope h arg) (λ t f.
+      agrees_when (is_shift op && nat_le by 63) (λ e. typed (record { tree = trees.shift op by t.tree; width = t.width }) w f.width f.wide)))
   expr_agrees locals scope h (apply op written args) =
-      let inner = in_exprs (is_wrong locals) args in
-      let own = is_wrong locals (apply op written args) in
-      agrees_to (apply_tests inner own)
-      (agrees_bound (typed_exprs scope args) (typed_apply op written) (not inner) (not own) (HaveWidths (widths_in locals args))
-      (HasWidth (width_in locals (apply op written args))) (exprs_agree locals scope h args) (λ ts f. apply_agrees op written locals args ts f))
+      agrees_to (apply_tests (in_exprs (is_wrong locals) args) (is_wrong locals (apply op written args)))
+      (agrees_bound (exprs_agree locals scope h args) (λ ts f. apply_agrees op written locals args ts f))
 
   pub exprs_agree : (locals : List Local) (scope : List Known) → InScope locals scope → (es : SurfaceExprs)
       → Agrees (typed_exprs scope es) (not (in_exprs (is_wrong locals) es)) (HaveWidths (widths_in locals es))
   exprs_agree locals scope h no_expr = agrees_some (record { trees = trees.no_expr; widths = [] }) (HaveWidths []) (record { widths = refl; wide = refl })
   exprs_agree locals scope h (expr e es) =
-      let w = width_in locals e in
-      let ws = widths_in locals es in
-      let first = in_expr (is_wrong locals) e in
-      let others = in_exprs (is_wrong locals) es in
       let both : Typed → TypedList → TypedList = λ t ts. record { trees = trees.expr t.tree ts.trees; widths = t.width ∷ ts.widths } in
-      agrees_to (list_tests first others)
-      (agrees_bound (typed_expr scope e) (λ t. option_and_then (λ ts. Some (both t ts)) (typed_exprs scope es)) (not first) (not others && true) (HasWidth w)
-      (HaveWidths (w ∷ ws)) (expr_agrees locals scope h e) (λ t f.
-      agrees_bound (typed_exprs scope es) (λ ts. Some (both t ts)) (not others) true (HaveWidths ws) (HaveWidths (w ∷ ws)) (exprs_agree locals scope h es)
-      (λ ts g.
-      agrees_some (both t ts) (HaveWidths (w ∷ ws)) (record {
-        widths = ap₂ (λ a b. a ∷ b) f.width g.widths;
-        wide = and_from (is_width w) (list_all is_width ws) f.wide g.wide;
-      }))))
+      agrees_to (list_tests (in_expr (is_wrong locals) e) (in_exprs (is_wrong locals) es))
+      (agrees_bound (expr_agrees locals scope h e) (λ t f. agrees_bound (exprs_agree locals scope h es) (λ ts g.
+      agrees_some (both t ts) (HaveWidths (width_in locals e ∷ widths_in locals es)) (record { widths = rw (f.width, g.widths); wide = rw (f.wide, g.wide) }))))

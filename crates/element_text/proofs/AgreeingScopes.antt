@@ -2,7 +2,7 @@
 use Rattle.std.proofs.Common.{◌≡◌, ℕ, zero, suc, ◌+◌, ◌-◌, ◌≤◌, Bool, true, false, not, ◌&&◌, ◌||◌, List, [], ◌∷◌, ◌++◌, map, length, ◌==◌, if◌then◌else◌, Option, Some, None, is_some, is_none, slice_get, refl, sym, ap, ap₂, subst, ◌∙◌, arith, append_assoc}
 use Rattle.std.specs.List.{list_any, list_all}
 use Rattle.std.specs.Str.{bytes_eq}
-use Rattle.std.proofs.lemmas.Bool.{eqb-true, eq-eqb, and_parts, and_from, false≢true}
+use Rattle.std.proofs.lemmas.Bool.{eqb-true, eq-eqb, and_parts, false≢true}
 use Rattle.std.proofs.lemmas.List.{map-append, append-nil}
 use Rattle.std.proofs.lemmas.List.Folds.{list_all-append}
 use Rattle.state_store.specs.declared.object.ObjectDecl.{ObjectDecl}
@@ -80,8 +80,7 @@ module _ (objects : List ObjectDecl) (locals : List Local) (env : Env) (h : Seen
     same_objects = h.same_objects;
     in_scope = record {
       same = map-append (λ (k : Known). k.decl) env.scope (record { number = length env.locals; decl = l } ∷ []) ∙ ap (λ ls. ls ++ l ∷ []) h.in_scope.same;
-      wide = list_all-append is_wide locals (l ∷ [])
-          ∙ and_from (list_all is_wide locals) (is_wide l && true) h.in_scope.wide (and_from (is_wide l) true wide refl);
+      wide = rw (list_all-append is_wide locals (l ∷ []), h.in_scope.wide, wide);
     };
     values = h.values;
   }
@@ -94,8 +93,7 @@ module _ (objects : List ObjectDecl) (locals : List Local) (env : Env) (h : Seen
       let l : Local = record { name = word; width = width } in
       let free = is_none (object_named objects word) && is_none (local_named locals word) in
       agrees_to (ap₂ (λ a b. (a && b) && true) (free_agrees word) wide ∙ and_true (free && true) ∙ and_true free)
-      (agrees_when (is_free env word && is_width width) true (Some (with_local env l)) (Seen objects (locals ++ l ∷ [])) (λ e.
-      agrees_some (with_local env l) (Seen objects (locals ++ l ∷ [])) (seen_pushed l wide)))
+      (agrees_when (is_free env word && is_width width) (λ e. agrees_some (with_local env l) (Seen objects (locals ++ l ∷ [])) (seen_pushed l wide)))
 
   -- the only one of a statement
   pub sole_agrees : (word : List ℕ) (width : ℕ) → is_width width ≡ true
@@ -133,12 +131,11 @@ all_agree objects locals env h [] (v ∷ vs) wide = agrees_none (Seen objects (l
 all_agree objects locals env h (w ∷ ws) [] wide = agrees_none (Seen objects (locals ++ locals_of (w ∷ ws) []))
 all_agree objects locals env h (w ∷ ws) (v ∷ vs) wide =
     let l : Local = record { name = w; width = v } in
-    let parts = and_parts (is_width v) (list_all is_width vs) wide in
+    let p = and_parts _ _ wide in
     let free = is_none (object_named objects w) && is_none (local_named locals w) in
     let even = is_even ws vs in
     let others = are_free objects (locals ++ l ∷ []) (locals_of ws vs) in
-    let longer : (locals ++ l ∷ []) ++ locals_of ws vs ≡ locals ++ l ∷ locals_of ws vs = append_assoc locals (l ∷ []) (locals_of ws vs) in
     agrees_to (swapped free even others)
-    (agrees_bound (declared env w v) (λ next. all_declared next ws vs) free (even && others) (Seen objects (locals ++ l ∷ []))
-    (Seen objects (locals ++ l ∷ locals_of ws vs)) (one_agrees objects locals env h w v parts.0) (λ next k.
-    subst (λ ls. Agrees (all_declared next ws vs) (even && others) (Seen objects ls)) longer (all_agree objects (locals ++ l ∷ []) next k ws vs parts.1)))
+    (agrees_bound (one_agrees objects locals env h w v p.0) (λ next k.
+    subst (λ ls. Agrees (all_declared next ws vs) (even && others) (Seen objects ls)) (append_assoc locals (l ∷ []) (locals_of ws vs))
+    (all_agree objects (locals ++ l ∷ []) next k ws vs p.1)))

@@ -1,5 +1,5 @@
 -- Within a repeat, and behind a statement that always ends, one more rule may be broken.
-use Rattle.std.proofs.Common.{◌≡◌, ℕ, Bool, true, false, not, ◌&&◌, ◌||◌, List, ◌++◌, Option, Some, None, is_none, refl, sym, ap, ap₂, ◌∙◌}
+use Rattle.std.proofs.Common.{◌≡◌, ℕ, Bool, true, false, not, ◌&&◌, ◌||◌, List, ◌++◌, Option, Some, None, is_none, refl, sym, ap, ap₂, ◌∙◌, arith}
 use Rattle.std.proofs.lemmas.Bool.{or_right}
 use Rattle.state_store.specs.declared.object.ObjectDecl.{ObjectDecl}
 use Rattle.element_lang.specs.declared.tree.Local.{Local}
@@ -43,24 +43,13 @@ binds_same objects locals r e (let_local word value) = refl
 binds_same objects locals r e _ = refl
 
 two_inside : (t a b r s : Bool) → (t && ((a && not r) && (b && not s))) ≡ ((t && (a && b)) && not (r || s))
-two_inside false a b r s = refl
-two_inside true false b r s = refl
-two_inside true true false true s = refl
-two_inside true true false false s = refl
-two_inside true true true true s = refl
-two_inside true true true false s = refl
+two_inside t a b r s = grind arith
 
 one_and_more : (t w b r s : Bool) → (((t && w) && not r) && (b && not s)) ≡ ((t && (w && b)) && not (r || s))
-one_and_more false w b r s = refl
-one_and_more true false b r s = refl
-one_and_more true true false true s = refl
-one_and_more true true false false s = refl
-one_and_more true true true true s = refl
-one_and_more true true true false s = refl
+one_and_more t w b r s = grind arith
 
 grouped : (a b c : Bool) → (a && (b && c)) ≡ ((a && b) && c)
-grouped true b c = refl
-grouped false b c = refl
+grouped a b c = grind arith
 
 -- what is kept by a statement and those inside it
 abbrev pub kept : Sight → SurfaceStmt → Bool

@@ -28,11 +28,14 @@ shifts marks.ShiftLeft op e = let same : rules.is_shift op ≡ true = cc in ap n
 shifts marks.ShiftRight op e = let same : rules.is_shift op ≡ true = cc in ap not same
 shifts _ op e = cc
 
-two : (a b : Bool) → a ≡ false → b ≡ false → (a || (b || false)) ≡ false
-two a b e f = or_from a (b || false) e (or_from b false f refl)
+neither : {a b : Bool} → a ≡ false → b ≡ false → (a || b) ≡ false
+neither {a = a} {b = b} e f = or_from a b e f
 
-three : (a b c : Bool) → a ≡ false → b ≡ false → c ≡ false → (a || (b || (c || false))) ≡ false
-three a b c e f g = or_from a (b || (c || false)) e (two b c f g)
+two : {a b : Bool} → a ≡ false → b ≡ false → (a || (b || false)) ≡ false
+two e f = neither e (neither f refl)
+
+three : {a b c : Bool} → a ≡ false → b ≡ false → c ≡ false → (a || (b || (c || false))) ≡ false
+three e f g = neither e (two f g)
 
 mutual
   prim_plain : {e : SurfaceExpr} {ts rest : List Token} → IsPrim e ts rest → in_expr is_odd e ≡ false
@@ -41,25 +44,22 @@ mutual
   prim_plain is_field = refl
   prim_plain (is_in_brackets h) = expr_plain h
   prim_plain (is_byte h) = expr_plain h
-  prim_plain (is_cast {e = e} {width = width} h) = two (not (width == width)) (in_expr is_odd e) (own_written width) (expr_plain h)
-  prim_plain (is_select {a = a} {b = b} {c = c} h i j) =
-      three (in_expr is_odd a) (in_expr is_odd b) (in_expr is_odd c) (expr_plain h) (expr_plain i) (expr_plain j)
-  prim_plain (is_adjust {a = a} {b = b} {c = c} h i j) =
-      three (in_expr is_odd a) (in_expr is_odd b) (in_expr is_odd c) (expr_plain h) (expr_plain i) (expr_plain j)
+  prim_plain (is_cast {width = width} h) = two (own_written width) (expr_plain h)
+  prim_plain (is_select h i j) = three (expr_plain h) (expr_plain i) (expr_plain j)
+  prim_plain (is_adjust h i j) = three (expr_plain h) (expr_plain i) (expr_plain j)
 
   unary_plain : {e : SurfaceExpr} {ts rest : List Token} → IsUnary e ts rest → in_expr is_odd e ≡ false
   unary_plain (is_prim h) = prim_plain h
-  unary_plain (is_not {e = e} h) = or_from (in_expr is_odd e) false (prim_plain h) refl
+  unary_plain (is_not h) = neither (prim_plain h) refl
 
   expr_plain : {e : SurfaceExpr} {ts rest : List Token} → IsExpr e ts rest → in_expr is_odd e ≡ false
   expr_plain (is_unary h) = unary_plain h
-  expr_plain (is_infix {a = a} {b = b} {op = op} h e i) =
-      three (not (0 == written_width op 0)) (in_expr is_odd a) (in_expr is_odd b) (none_written op) (unary_plain h) (unary_plain i)
-  expr_plain (is_shift {a = a} {mark = mark} {op = op} h e) = or_from (not (rules.is_shift op)) (in_expr is_odd a) (shifts mark op e) (unary_plain h)
+  expr_plain (is_infix {op = op} h e i) = three (none_written op) (unary_plain h) (unary_plain i)
+  expr_plain (is_shift {mark = mark} {op = op} h e) = neither (shifts mark op e) (unary_plain h)
 
 exprs_plain : {es : SurfaceExprs} {close : Mark} {ts rest : List Token} → AreExprs es close ts rest → in_exprs is_odd es ≡ false
-exprs_plain (are_last {e = e} h) = or_from (in_expr is_odd e) false (expr_plain h) refl
-exprs_plain (are_more {e = e} {es = es} h i) = or_from (in_expr is_odd e) (in_exprs is_odd es) (expr_plain h) (exprs_plain i)
+exprs_plain (are_last h) = neither (expr_plain h) refl
+exprs_plain (are_more h i) = neither (expr_plain h) (exprs_plain i)
 
 keys_plain : {es : SurfaceExprs} {ts rest : List Token} → AreKeys es ts rest → in_exprs is_odd es ≡ false
 keys_plain are_no_keys = refl
@@ -67,23 +67,18 @@ keys_plain (are_keys h) = exprs_plain h
 
 -- a statement of one expression
 one_plain : {e : SurfaceExpr} {ts rest : List Token} → IsExpr e ts rest → ((in_expr is_odd e || false) || false) ≡ false
-one_plain {e = e} h = or_from (in_expr is_odd e || false) false (or_from (in_expr is_odd e) false (expr_plain h) refl) refl
-
-only_keys : {es : SurfaceExprs} {ts rest : List Token} → AreKeys es ts rest → (in_exprs is_odd es || false) ≡ false
-only_keys {es = es} h = or_from (in_exprs is_odd es) false (keys_plain h) refl
+one_plain h = neither (neither (expr_plain h) refl) refl
 
 mutual
   stmt_plain : {s : SurfaceStmt} {ts rest : List Token} → IsStmt s ts rest → odd_in s ≡ false
   stmt_plain (is_let h) = one_plain h
   stmt_plain (is_assign h) = one_plain h
   stmt_plain (is_set_field h) = one_plain h
-  stmt_plain (is_look names h) = only_keys h
+  stmt_plain (is_look names h) = neither (keys_plain h) refl
   stmt_plain (is_put {keys = keys} {values = values} h i) =
-      ap (λ b. b || false) (in_joined is_odd keys values ∙ or_from (in_exprs is_odd keys) (in_exprs is_odd values) (keys_plain h) (exprs_plain i))
-  stmt_plain (is_del h) = only_keys h
-  stmt_plain (is_if {cond = cond} {first = first} {second = second} h i j) =
-      or_from (in_expr is_odd cond || false) (odd_body first || odd_body second) (or_from (in_expr is_odd cond) false (expr_plain h) refl)
-      (or_from (odd_body first) (odd_body second) (body_plain i) (else_plain j))
+      neither (in_joined is_odd keys values ∙ neither (keys_plain h) (exprs_plain i)) refl
+  stmt_plain (is_del h) = neither (keys_plain h) refl
+  stmt_plain (is_if h i j) = neither (neither (expr_plain h) refl) (neither (body_plain i) (else_plain j))
   stmt_plain (is_repeat h) = body_plain h
   stmt_plain (is_send h) = one_plain h
   stmt_plain is_drop = refl
@@ -94,7 +89,7 @@ mutual
 
   body_plain : {b : SurfaceBody} {ts rest : List Token} → IsBody b ts rest → odd_body b ≡ false
   body_plain is_end = refl
-  body_plain (is_more {s = s} {b = b} h i) = or_from (odd_in s) (odd_body b) (stmt_plain h) (body_plain i)
+  body_plain (is_more h i) = neither (stmt_plain h) (body_plain i)
 
 middlebox_plain : {ds : List Declared} {b : SurfaceBody} {ts rest : List Token} → IsMiddlebox ds b ts rest → odd_body b ≡ false
 middlebox_plain (is_process h) = body_plain h

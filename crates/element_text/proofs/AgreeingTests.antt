@@ -1,11 +1,10 @@
 -- The tests of a statement, those of its expressions first.
-use Rattle.std.proofs.Common.{◌≡◌, ℕ, Bool, true, false, not, ◌&&◌, ◌||◌, List, [], ◌∷◌, ◌++◌, is_none, refl, sym, ap, ap₂, ◌∙◌}
+use Rattle.std.proofs.Common.{◌≡◌, ℕ, Bool, true, false, not, ◌&&◌, ◌||◌, List, [], ◌∷◌, ◌++◌, is_none, refl, sym, ap, ap₂, ◌∙◌, arith}
 use Rattle.element_lang.specs.declared.tree.Local.{Local}
 use Rattle.element_lang.specs.Surface.{SurfaceExpr, SurfaceExprs, SurfaceStmt, byte, shift, apply, no_expr, expr}
 use Rattle.element_lang.specs.Broken.{Sight, in_expr, in_exprs, is_bad_width, is_too_large, is_unknown, is_misfit, is_far_shift, appended, own_exprs, declares, are_free, uses_unknown, takes_misfit, writes_fixed, misfits_object, changes_fixed, repeats_badly, repeats_an_end, stmt_tests, lowest_broken}
 use Rattle.element_text.proofs.Agreeing.{all_of, pulled, one_fails}
 use Rattle.element_text.proofs.AgreeingExprs.{is_odd, is_wrong}
-use Rattle.lemmas.proofs.Tests.{and_false, and_true}
 
 -- no rule is broken
 abbrev pub none_of : List (ℕ × Bool) → Bool
@@ -20,10 +19,7 @@ none_lowest at ((rule, false) ∷ tests) = none_lowest at tests
 -- ## Several tests of expressions at once
 
 either : (a b c d : Bool) → ((a || b) || (c || d)) ≡ ((a || c) || (b || d))
-either true b c d = refl
-either false true true d = refl
-either false true false d = refl
-either false false c d = refl
+either a b c d = grind arith
 
 mutual
   in_either : (p q : SurfaceExpr → Bool) (e : SurfaceExpr) → in_expr (λ x. p x || q x) e ≡ (in_expr p e || in_expr q e)
@@ -72,19 +68,7 @@ in_order : (b l f u v m n w o c h r e : Bool)
     → none_of ((2, b) ∷ (4, l) ∷ (7, not f) ∷ (8, u || v) ∷ (9, not (u || v) && (m || n)) ∷ (10, w) ∷ (11, not (u || v) && o) ∷ (12, not (u || v) && c)
     ∷ (13, h || r) ∷ (14, e) ∷ [])
     ≡ all_of (not b ∷ not l ∷ f ∷ not u ∷ not v ∷ not m ∷ not n ∷ not w ∷ not o ∷ not c ∷ not h ∷ not r ∷ not e ∷ [])
-in_order true l f u v m n w o c h r e = refl
-in_order false true f u v m n w o c h r e = refl
-in_order false false false u v m n w o c h r e = refl
-in_order false false true true v m n w o c h r e = refl
-in_order false false true false true m n w o c h r e = refl
-in_order false false true false false true n w o c h r e = refl
-in_order false false true false false false true w o c h r e = refl
-in_order false false true false false false false true o c h r e = refl
-in_order false false true false false false false false true c h r e = refl
-in_order false false true false false false false false false true h r e = refl
-in_order false false true false false false false false false false true r e = refl
-in_order false false true false false false false false false false false true e = refl
-in_order false false true false false false false false false false false false e = refl
+in_order b l f u v m n w o c h r e = grind arith
 
 -- those of the expressions in front
 expressions_first : (b l f u v m n w o c h r e : Bool)
@@ -97,13 +81,7 @@ expressions_first b l f u v m n w o c h r e =
     ∙ ap (λ t. l && (b && t)) (sym (pulled (v ∷ n ∷ w ∷ o ∷ c ∷ r ∷ e ∷ []) f [])))))
 
 together : (h m u l b o x : Bool) → ((not h && (not m && (not u && (not l && (not b && x))))) && not o) ≡ (not (h || (m || (u || (l || (b || o))))) && x)
-together true m u l b o x = refl
-together false true u l b o x = refl
-together false false true l b o x = refl
-together false false false true b o x = refl
-together false false false false true o x = refl
-together false false false false false true x = and_false x
-together false false false false false false x = and_true x
+together h m u l b o x = grind arith
 
 -- the tests of what isn't an expression
 abbrev pub own_tests : Sight → SurfaceStmt → List Bool

@@ -1,6 +1,5 @@
 -- What a choice between two bodies that has numbers is made of.
-use Rattle.std.proofs.Common.{Vec, Global, ◌≡◌, ℕ, List, Option, Some, sym, ap, ◌∙◌}
-use Rattle.std.specs.Prelude.{IsSome}
+use Rattle.std.proofs.Common.{Vec, Global, ◌≡◌, ℕ, List, Some, sym, ap, ◌∙◌}
 use Rattle.element_lang.specs.Tree as trees
 use Rattle.element_lang.specs.Tree.{ExprTree, StmtTree}
 use Rattle.element_lang.specs.Surface as surface
@@ -10,8 +9,7 @@ use Rattle.element_grammar.specs.declared.surface.SurfaceStmt.{SurfaceStmt, fold
 use Rattle.element_grammar.specs.declared.surface.SurfaceStmt.TheVariants.{If, rolls-If}
 use Rattle.element_grammar.specs.declared.surface.SurfaceStmt.TheOpen.{SurfaceStmt-F}
 use Rattle.element_grammar.specs.Surface.{surface_expr, surface_body, stmt_step, surface_stmt}
-use Rattle.element_text.specs.Resolve.{Env, Made, MadeBody, with_locals, made_condition, made_stmt, made_body}
-use Rattle.element_text.proofs.Optional.{bound_is}
+use Rattle.element_text.specs.Resolve.{Env, MadeBody, with_locals, made_condition, made_stmt, made_body}
 
 -- the choice that a source spells, of the bodies that were read
 pub choice_read : (text : List ℕ) (cond : SurfaceExpr) (left right : Vec (At SurfaceStmt) Global) {first second : List (At SurfaceStmt)}
@@ -27,9 +25,5 @@ module _ (env : Env) (cond : surface.SurfaceExpr) (first second : surface.Surfac
       → made_body next second ≡ Some b → last ≡ with_locals next b.locals → s ≡ trees.choose c a.tree b.tree
       → made_stmt env (surface.choose cond first second) ≡ Some (record { tree = s; env = last })
   choice_made next last a b s made is made_second last_is s_is =
-      let behind : made_body (with_locals env a.locals) second ≡ Some b = ap (λ n. made_body n second) (sym is) ∙ made_second in
-      let P : StmtTree → Env → Option Made = λ t n. Some (record { tree = t; env = n }) in
-      let all : P (trees.choose c a.tree b.tree) (with_locals env b.locals) ≡ P s last =
-      ap (λ t. P t (with_locals env b.locals)) (sym s_is) ∙ ap (λ n. P s (with_locals n b.locals)) (sym is) ∙ ap (P s) (sym last_is) in
-      bound_is (made_condition env cond) _ c (P s last) tested
-      (bound_is (made_body env first) _ a (P s last) made (bound_is (made_body (with_locals env a.locals) second) _ b (P s last) behind all))
+      let behind = rw is at made_second in
+      rw (tested, made, behind, last_is, s_is, is)

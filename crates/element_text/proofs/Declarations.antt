@@ -6,7 +6,7 @@ use Rattle.std.proofs.lemmas.Bool.{and_parts, and_from}
 use Rattle.std.proofs.lemmas.List.{length-map}
 use Rattle.element_lang.specs.Rules.{same_widths, is_good_object, are_good_objects}
 use Rattle.element_lang.specs.Surface.{SurfaceDecl, SurfaceRow, Literal, object_of}
-use Rattle.element_text.specs.Resolve.{is_written, is_good_decl, is_written_row, are_written}
+use Rattle.element_text.specs.Resolve.{is_written, is_good_decl, are_written}
 use Rattle.element_grammar.specs.declared.surface.SurfaceRow as rows
 use Rattle.element_grammar.specs.Surface.{surface_literal, surface_row}
 use Rattle.gal_bits.specs.Fits.{same_list}
@@ -32,8 +32,7 @@ pub next_short : (keys values : List ℕ) (all : List rows.SurfaceRow) (at : ℕ
     → (length next.keys.items ≡ length keys) × (length next.values.items ≡ length values)
 next_short keys values all at next within item e =
     let row = surface_row next in
-    let rest = map surface_row (drop (at + 1) all) in
-    let here : are_written keys values (row ∷ rest) ≡ true = sym (folded_item (λ l. are_written keys values (map surface_row l)) all at next within item) ∙ e in
-    let parts = and_parts (is_written_row keys values row) (are_written keys values rest) here in
-    let both = and_parts (same_widths (map (λ l. l.width) row.keys) keys) (same_widths (map (λ l. l.width) row.values) values) parts.0 in
+    let here : are_written keys values (row ∷ map surface_row (drop (at + 1) all)) ≡ true =
+    sym (folded_item (λ l. are_written keys values (map surface_row l)) all at next within item) ∙ e in
+    let both = and_parts _ _ (and_parts _ _ here).0 in
     (sym (length-map next.keys.items surface_literal) ∙ as_many row.keys keys both.0, sym (length-map next.values.items surface_literal) ∙ as_many row.values values both.1)

@@ -45,5 +45,4 @@ module _ {text : List ℕ} {start env : Env} {numbers : List ℕ} {all : List Sp
       (ap is_some (sym (split_both text env all widths at d within width_within) ∙ h.told) ∙ there)
 
   pub declaring_wide : is_width (get_or widths at 0) ≡ true
-  declaring_wide =
-      (and_parts (is_free env (span_text text (get_or all at d))) (is_width (get_or widths at 0)) (test_holds _ _ declaring_there)).1
+  declaring_wide = (and_parts (is_free env (span_text text (get_or all at d))) _ (test_holds _ _ declaring_there)).1

@@ -197,13 +197,7 @@ module _ (text : List ℕ) (placed : List Placed) (surface : Surface) (h : HasOn
   too_large : (m : Tree) (e : TextError) → length surface.objects ≤ MAX_OBJECTS → Keeps surface m → IsTooLarge m e → IsOnlyRefused text e
   too_large m (errors.TooLarge Entries have allowed) few k (is, limit, above) = only_late (late_entries m have allowed (spelling m few k) is limit above)
   too_large m (errors.TooLarge Writes have allowed) few k (entered, is, limit, above) = only_late (late_writes m have allowed (spelling m few k) entered is limit above)
-  too_large m (errors.TooLarge Depth have allowed) few k large = absurd large
-  too_large m (errors.TooLarge Objects have allowed) few k large = absurd large
-  too_large m (errors.NotUtf8 n) few k large = absurd large
-  too_large m (errors.Token n) few k large = absurd large
-  too_large m (errors.Syntax n) few k large = absurd large
-  too_large m (errors.Rule number n) few k large = absurd large
-  too_large m errors.NoMemory few k large = absurd large
+  too_large m _ few k large = absurd large
 
   -- the one middlebox of the tree is the answer for the text
   pub middlebox_answer : (r : Result Middlebox TextError) → length surface.objects ≤ MAX_OBJECTS → IsResolved surface r → IsAnswer text r

@@ -8,7 +8,6 @@ pub mod CompleteExprs
 pub mod CompleteStmts
 pub mod Complete
 pub mod Unplaced
-pub mod Chains
 pub mod Typing
 pub mod Links
 pub mod Kept

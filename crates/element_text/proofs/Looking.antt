@@ -1,7 +1,6 @@
 -- The lookup that a source spells, and where the locals go that a body declares.
 use Rattle.std.proofs.Common.{◌≡◌, ℕ, List, ◌++◌, length, take, map, sym, ap, ◌∙◌}
 use Rattle.std.proofs.lemmas.List.{take-map, take_at, length-map}
-use Rattle.element_lang.specs.Surface as surface
 use Rattle.element_text.specs.Scopes.{known_of}
 use Rattle.element_text.specs.Resolve.{Known}
 use Rattle.element_text.proofs.Kept.{Entries}

@@ -11,7 +11,7 @@ use Rattle.element_text.specs.Resolve.{Known, Env, Made, MadeBody, declared, wit
 use Rattle.element_text.proofs.Optional.{when_is}
 use Rattle.element_text.proofs.Links.{test_holds, test_there, chain_is, tested_is}
 use Rattle.element_text.proofs.Kept.{Entries}
-use Rattle.element_text.proofs.Numbering.{Within}
+use Rattle.element_text.proofs.Scoping.{Within}
 use Rattle.element_text.proofs.Looking.{cut_scope}
 
 module _ (env : Env) (index : List ℕ) (count : ℕ) (body : surface.SurfaceBody) (there : IsSome (made_stmt env (surface.repeat index count body))) where

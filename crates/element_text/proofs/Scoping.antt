@@ -1,19 +1,20 @@
 -- Which locals and objects go by which names.
-use Rattle.std.proofs.Common.{◌≡◌, ℕ, zero, suc, ◌+◌, ◌-◌, ◌≤◌, Bool, true, false, ◌||◌, List, [], ◌∷◌, ◌++◌, map, length, Option, Some, None, IfSome, is_none, if◌then◌else◌, slice_get, slice_index, refl, sym, ap, ◌∙◌, arith}
+use Rattle.std.proofs.Common.{◌≡◌, ℕ, zero, suc, ◌+◌, ◌-◌, ◌≤◌, Bool, true, false, ◌||◌, List, [], ◌∷◌, ◌++◌, map, Option, Some, None, IfSome, is_none, if◌then◌else◌, slice_get, slice_index, refl, sym, ap, subst, ◌∙◌, arith, append_assoc}
 use Rattle.std.specs.List.{list_any}
 use Rattle.std.specs.Option.{option_or}
 use Rattle.std.specs.Str.{bytes_eq}
 use Rattle.std.proofs.lemmas.Slice.Eq.{bytes_eq-Decides}
 use Rattle.std.proofs.lemmas.Bool.{false≢true}
-use Rattle.std.proofs.lemmas.Option.{slice_get_within}
+use Rattle.std.proofs.lemmas.List.{append-nil}
+use Rattle.std.proofs.lemmas.Option.{IfSome_then, slice_get_within}
 use Rattle.state_store.specs.declared.object.ObjectDecl.{ObjectDecl}
 use Rattle.element_lang.specs.declared.tree.Local.{Local}
 use Rattle.element_lang.specs.Tree as trees
 use Rattle.element_lang.specs.Tree.{BodyTree, Tree}
 use Rattle.element_lang.specs.Rules.{is_empty}
 use Rattle.element_lang.specs.Surface.{name_of_object, named_body}
-use Rattle.element_text.specs.Resolve.{Known, local_in, object_from, is_done}
-use Rattle.element_text.proofs.Optional.{if_so}
+use Rattle.element_text.specs.Resolve.{Known, Env, local_in, object_from, with_locals, is_done}
+use Rattle.element_text.proofs.Optional.{Gives}
 use Rattle.lemmas.proofs.Lists.{bytes_eq_true}
 
 -- ## Words
@@ -49,10 +50,6 @@ push_old : (ls : List Local) (new : Local) (i : ℕ) (l : Local) → slice_get l
 push_old [] new i l e = absurd (omega (arith, slice_get_within [] i l e))
 push_old (x ∷ ls) new zero l e = e
 push_old (x ∷ ls) new (suc i) l e = push_old ls new i l e
-
-pub push_new : (ls : List Local) (new : Local) → slice_get (ls ++ new ∷ []) (length ls) ≡ Some new
-push_new [] new = refl
-push_new (x ∷ ls) new = push_new ls new
 
 pub keeps_pushed : (ls : List Local) (new : Local) → Keeps ls (ls ++ new ∷ [])
 keeps_pushed ls new = record { at = push_old ls new }
@@ -105,6 +102,31 @@ pub none_of_two : (o p : Option Known) → option_or o p ≡ None → (o ≡ Non
 none_of_two None p e = (refl, e)
 none_of_two (Some k) p e = cc
 
+-- ## What is declared behind others
+
+-- the objects stay, and more locals are in scope
+pub record Within (outer inner : Env) : Type 0 where
+  pub objects : inner.objects ≡ outer.objects
+  pub more : List Known
+  pub scope : inner.scope ≡ outer.scope ++ more
+
+pub within_same : (env : Env) → Within env env
+within_same env = record { objects = refl; more = []; scope = sym (append-nil env.scope) }
+
+pub within_both : {a b c : Env} → Within a b → Within b c → Within a c
+within_both {a = a} h g = record {
+  objects = g.objects ∙ h.objects;
+  more = h.more ++ g.more;
+  scope = g.scope ∙ ap (λ l. l ++ g.more) h.scope ∙ append_assoc a.scope h.more g.more;
+}
+
+pub within_to : {a b c : Env} → Within a b → b ≡ c → Within a c
+within_to {a = a} h same = let P : Env → Type 0 = λ n. Within a n in subst P same h
+
+-- other locals that are declared change nothing of it
+pub within_locals : {a b : Env} (locals : List Local) → Within a b → Within a (with_locals b locals)
+within_locals locals h = record { objects = h.objects; more = h.more; scope = h.scope }
+
 -- ## Objects
 
 -- a number under which the object of that name stands
@@ -125,11 +147,12 @@ object_at n (d ∷ os) word = by_test (bytes_eq word d.name) refl (object_from (
     by_test false e (Some o) h = later o h.0 h.1
 
 -- the number of the object that has a name
-pub object_found : (os : List ObjectDecl) (word : List ℕ) → IfSome (object_from 0 os word) (λ o. name_of_object (slice_get os o) ≡ word)
-object_found os word =
-    if_so (object_from 0 os word) (λ o. (0 ≤ o) × (name_of_object (slice_get os (o - 0)) ≡ word)) (λ o. name_of_object (slice_get os o) ≡ word) (object_at 0 os word) (λ o h.
-    let same : o ≡ o - 0 = omega arith in
-    ap (λ i. name_of_object (slice_get os i)) same ∙ h.1)
+pub object_found : (os : List ObjectDecl) (word : List ℕ) → Gives (object_from 0 os word) (λ o. name_of_object (slice_get os o) ≡ word)
+object_found os word = record {
+  known = IfSome_then (object_from 0 os word) (object_at 0 os word) (λ o h.
+      let same : o ≡ o - 0 = omega arith in
+      ap (λ i. name_of_object (slice_get os i)) same ∙ h.1);
+}
 
 -- ## Bodies
 

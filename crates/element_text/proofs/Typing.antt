@@ -37,11 +37,7 @@ join t o = o >>= (λ rest. Some (record { trees = expr t.tree rest.trees; widths
 
 in_front_more : (ts : List ExprTree) (ws : List ℕ) (t : Typed) (o : Option TypedList) → in_front (ts ++ t.tree ∷ []) (ws ++ t.width ∷ []) o ≡ in_front ts ws (join t o)
 in_front_more ts ws t None = refl
-in_front_more ts ws t (Some r) =
-    let trees = exprs_onto_more ts t.tree r.trees in
-    let widths = append_assoc ws (t.width ∷ []) r.widths in
-    let P : Exprs → List ℕ → Option TypedList = λ a b. Some (record { trees = a; widths = b }) in
-    ap (λ a. P a ((ws ++ t.width ∷ []) ++ r.widths)) trees ∙ ap (P (exprs_onto ts (expr t.tree r.trees))) widths
+in_front_more ts ws t (Some r) = rw (exprs_onto_more ts t.tree r.trees, append_assoc ws (t.width ∷ []) r.widths)
 
 -- the expressions that were made, and those that are left, are all
 pub record Typing (text : List ℕ) (scope : List Known) (made : List Expr) (widths : List ℕ) (left all : List SurfaceExpr) : Type 0 where

@@ -13,7 +13,7 @@ use gal_io::{Bytes, NoMemory};
 use state_store::{Kind, ObjectDecl, Objects, Row, Rows};
 use std::alloc::Global;
 
-// These widths as a value of their own.
+// A list of at most eight widths as a value of its own.
 fn widths_of(source: &[u64]) -> Widths
     requires { length source.now ≤ 8 }
     ensures { result ≡ source.now }

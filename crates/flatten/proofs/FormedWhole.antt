@@ -1,64 +1,77 @@
 -- The flat program of a good middlebox is well formed.
-use Rattle.std.proofs.Common.{◌≡◌, ℕ, zero, suc, ◌+◌, ◌<◌, ◌≤◌, ◌==◌, Bool, true, false, cond, List, [], ◌∷◌, ◌++◌, map, length, replicate, get_or, Option, Some, None, refl, sym, ap, ◌∙◌, subst, arith, true≢false, eqb-true, lit<}
+use Rattle.std.proofs.Common.{◌≡◌, ℕ, zero, suc, ◌+◌, ◌<◌, ◌≤◌, ◌==◌, Bool, true, false, cond, List, [], ◌∷◌, ◌++◌, map, length, get_or, Option, Some, None, refl, sym, ap, ◌∙◌, subst, arith, true≢false, eqb-true, lit<}
 use Rattle.std.proofs.lemmas.List.{length-map}
 use Rattle.std.specs.List.{AllByRecursion as Each}
 use Rattle.std.proofs.lemmas.Option.{same_Some}
 use Rattle.packet_fields.specs.declared.field.Field.{Field}
 use Rattle.packet_fields.specs.declared.field.Field.TheVariants.{MetaPort}
+use Rattle.packet_fields.specs.Fields.{field_value}
 use Rattle.packet_fields.specs.Table.{row, all_fields, field_index}
 use Rattle.element_lang.specs.Tree.{BodyTree, Tree}
+use Rattle.element_lang.specs.Meaning.{do_body}
 use Rattle.element_lang.specs.Widths.{local_widths}
 use Rattle.element_lang.specs.Rules.{are_good_objects, is_good}
 use Rattle.flat_ir.specs.declared.program.ValueId.{ValueId}
 use Rattle.flat_ir.specs.declared.program.FieldValue.{FieldValue}
 use Rattle.flat_ir.specs.Program as flat
+use Rattle.flat_ir.specs.Fits.{fits}
 use Rattle.flat_ir.specs.Program.{Program}
 use Rattle.flat_ir.specs.WellFormed.{IsOutput, IsWritten, AreInOrder, IsWellFormed}
-use Rattle.flatten.specs.Flatten.{Given, Scoped, Merged, root, constants, same_id, give_field, give_fields, arrived, start_view, end_of, flat_of, changed, all_changed}
+use Rattle.flatten.specs.Flatten.{Emitted, Scoped, Merged, root, constants, same_id, give_field, give_fields, arrived, start_view, end_of, flat_of, changed, all_changed}
 use Rattle.flatten.specs.Occurs.{is_in_body}
 use Rattle.packet_fields.specs.FieldOrder.{at_index, index-lt, length-all_fields}
 use Rattle.flatten.proofs.Growth.{Grows, grows, then_grows, both_bits, emit_grows, empty, body_grows, zero_bit}
-use Rattle.flatten.proofs.Views.{HasId, IsThere}
+use Rattle.flatten.proofs.Meanings.{Run, val, store_at, emit_reads, emit_still, Carried}
+use Rattle.flatten.proofs.Views.{HasOption, AllHave, Agree, Meets, HasId, IsThere, have_none}
 use Rattle.flatten.proofs.Written.{counted, all_counted, same_itself}
-use Rattle.flatten.proofs.Forming.{whole, IsPart, HasOption, AllHave, option_later, Ready, IsFormed, Open, open_more, emit_formed, given_ready, in_root, constants_ready, low_of}
+use Rattle.flatten.proofs.Forming.{whole, IsPart, WorkFits, option_later, Ready, IsFormed, Open, open_more, emit_formed, given_ready, in_root, constants_ready, low_of}
 use Rattle.flatten.proofs.Formed.{Ahead, Made, body_formed}
 use Rattle.lemmas.proofs.Tests.{and_first, and_second}
 
 -- ## What comes first
 
-field_given : (b : Bool) (f : Field) (g : Given) → Grows g (give_field b f g).given
+field_given : (b : Bool) (f : Field) (g : Emitted) → Grows g (give_field b f g).given
 field_given false f g = grows g
 field_given true f g = emit_grows root (flat.field f) g
 
-fields_given : (body : BodyTree) (fs : List Field) (g : Given) → Grows g (give_fields body fs g).given
+fields_given : (body : BodyTree) (fs : List Field) (g : Emitted) → Grows g (give_fields body fs g).given
 fields_given body [] g = grows g
 fields_given body (f ∷ fs) g =
     let r = give_field (is_in_body f body) f g in
     then_grows g r.given (give_fields body fs r.given).given (field_given (is_in_body f body) f g) (fields_given body fs r.given)
 
 module _ (F : Program) where
-  record First (b : Bool) (f : Field) (r : Merged) : Type 0 where
+  abbrev pub came_as : Run F → Field → ℕ
+  came_as c = field_value c.packet.bytes c.packet.port
+
+  record First (b : Bool) (f : Field) (g : Emitted) (r : Merged) : Type 0 where
     formed : IsFormed F r.given
     ready : HasOption (Ready F 0 (length r.given.code)) (row f).width r.id
     there : b ≡ true → HasId r.id
+    still : (c : Run F) → store_at F c r.given ≡ store_at F c g
+    meets : (c : Run F) → Meets (val F c) r.id (came_as c f)
 
-  first_formed : (b : Bool) (f : Field) (g : Given) → IsPart F (give_field b f g).given → IsFormed F g → Open F g 0 → First b f (give_field b f g)
-  first_formed false f g part h opens = record { formed = h; ready = tt; there = λ e. absurd (true≢false (sym e)) }
+  first_formed : (b : Bool) (f : Field) (g : Emitted) → IsPart F (give_field b f g).given → IsFormed F g → Open F g 0 → First b f g (give_field b f g)
+  first_formed false f g part h opens = record { formed = h; ready = tt; there = λ e. absurd (true≢false (sym e)); still = λ c. refl; meets = λ c. tt }
   first_formed true f g part h opens =
       let work = flat.field f in
       record {
         formed = emit_formed F root work g part h opens (record { before = tt; names = tt; sees = tt; fit = refl });
         ready = given_ready F root work g part 0 (lit< tt);
         there = λ e. tt;
+        still = λ c. emit_still F c root work g part refl;
+        meets = λ c. emit_reads F c root work g part 0;
       }
 
-  record AllFirst (body : BodyTree) (fs : List Field) (r : Scoped) : Type 0 where
-    formed : IsFormed F r.given
-    ready : AllHave (Ready F 0 (length r.given.code)) (map (λ (f : Field). (row f).width) fs) r.ids
-    there : (i : ℕ) → i < length fs → is_in_body (get_or fs i MetaPort) body ≡ true → IsThere r.ids i
+  pub record AllFirst (body : BodyTree) (fs : List Field) (g : Emitted) (r : Scoped) : Type 0 where
+    pub formed : IsFormed F r.given
+    pub ready : AllHave (Ready F 0 (length r.given.code)) (map (λ (f : Field). (row f).width) fs) r.ids
+    pub there : (i : ℕ) → i < length fs → is_in_body (get_or fs i MetaPort) body ≡ true → IsThere r.ids i
+    pub still : (c : Run F) → store_at F c r.given ≡ store_at F c g
+    pub meets : (c : Run F) → Agree (val F c) r.ids (map (came_as c) fs)
 
-  all_first : (body : BodyTree) (fs : List Field) (g : Given) → IsPart F (give_fields body fs g).given → IsFormed F g → Open F g 0 → AllFirst body fs (give_fields body fs g)
-  all_first body [] g part h opens = record { formed = h; ready = tt; there = λ i lt e. tt }
+  all_first : (body : BodyTree) (fs : List Field) (g : Emitted) → IsPart F (give_fields body fs g).given → IsFormed F g → Open F g 0 → AllFirst body fs g (give_fields body fs g)
+  all_first body [] g part h opens = record { formed = h; ready = tt; there = λ i lt e. tt; still = λ c. refl; meets = λ c. tt }
   all_first body (f ∷ fs) g part h opens =
       let r = give_field (is_in_body f body) f g in
       let rest = give_fields body fs r.given in
@@ -74,19 +87,29 @@ module _ (F : Program) where
         formed = t.formed;
         ready = (option_later F 0 (length r.given.code) (length rest.given.code) grow.longer (row f).width r.id s.ready, t.ready);
         there = there_at;
+        still = λ c. t.still c ∙ s.still c;
+        meets = λ c. (s.meets c, t.meets c);
       }
 
-  open_root : (g : Given) → Open F g 0
+  open_root : (g : Emitted) → Open F g 0
   open_root g = record { within = omega arith; before = (tt, tt) }
 
-  constants_formed : IsPart F constants → IsFormed F constants
+  record FirstOfAll : Type 0 where
+    formed : IsFormed F constants
+    still : (c : Run F) → store_at F c constants ≡ c.store
+
+  constants_formed : IsPart F constants → FirstOfAll
   constants_formed part =
       let part2 : IsPart F both_bits = then_grows both_bits constants (whole F) (emit_grows root (flat.const 8 0) both_bits) part in
       let part1 : IsPart F zero_bit = then_grows zero_bit both_bits (whole F) (emit_grows root (flat.const 1 1) zero_bit) part2 in
+      let fit : (width number n : ℕ) → fits F (flat.const width number) ≡ true → WorkFits F 0 n (flat.const width number) = λ width number n e. record { before = tt; names = tt; sees = tt; fit = e } in
       let none : IsFormed F empty = record { steps = λ i lt. absurd (omega (arith, lt)); blocks = λ k lt. absurd (omega (arith, lt)) } in
-      let first : IsFormed F zero_bit = emit_formed F root (flat.const 1 0) empty part1 none (open_root empty) (record { before = tt; names = tt; sees = tt; fit = refl }) in
-      let second : IsFormed F both_bits = emit_formed F root (flat.const 1 1) zero_bit part2 first (open_root zero_bit) (record { before = tt; names = tt; sees = tt; fit = refl }) in
-      emit_formed F root (flat.const 8 0) both_bits part second (open_root both_bits) (record { before = tt; names = tt; sees = tt; fit = refl })
+      let first : IsFormed F zero_bit = emit_formed F root (flat.const 1 0) empty part1 none (open_root empty) (fit 1 0 0 refl) in
+      let second : IsFormed F both_bits = emit_formed F root (flat.const 1 1) zero_bit part2 first (open_root zero_bit) (fit 1 1 1 refl) in
+      record {
+        formed = emit_formed F root (flat.const 8 0) both_bits part second (open_root both_bits) (fit 8 0 2 refl);
+        still = λ c. emit_still F c root (flat.const 8 0) both_bits part refl ∙ emit_still F c root (flat.const 1 1) zero_bit part2 refl ∙ emit_still F c root (flat.const 1 0) empty part1 refl;
+      }
 
 -- ## What leaves
 
@@ -160,21 +183,17 @@ module _ (F : Program) (n : ℕ) where
 
 -- ## The whole
 
-have_none : (P : ℕ → ValueId → Type 0) (ws : List ℕ) → AllHave P ws (replicate (length ws) None)
-have_none P [] = tt
-have_none P (w ∷ ws) = (tt, have_none P ws)
-
 module _ (m : Tree) (good : is_good m ≡ true) where
-  abbrev F : Program
+  abbrev pub F : Program
   F = flat_of m
 
-  abbrev g0 : Given
+  abbrev g0 : Emitted
   g0 = (arrived m).given
 
-  abbrev g1 : Given
+  abbrev g1 : Emitted
   g1 = (end_of m).given
 
-  declared : are_good_objects [] m.objects ≡ true
+  pub declared : are_good_objects [] m.objects ≡ true
   declared = and_first _ _ (and_first _ _ good)
 
   part_end : IsPart F g1
@@ -183,13 +202,16 @@ module _ (m : Tree) (good : is_good m ≡ true) where
   part_first : IsPart F g0
   part_first = then_grows g0 g1 (whole F) (body_grows (local_widths m) m.body root g0 (start_view m)) part_end
 
-  base : IsPart F constants
+  pub base : IsPart F constants
   base = then_grows constants g0 (whole F) (fields_given m.body all_fields constants) part_first
 
-  came : AllFirst F m.body all_fields (arrived m)
-  came = all_first F m.body all_fields constants part_first (constants_formed F base) (open_root F constants)
+  pub came : AllFirst F m.body all_fields constants (arrived m)
+  came = all_first F m.body all_fields constants part_first (constants_formed F base).formed (open_root F constants)
 
-  abbrev occurs : Field → Bool
+  pub came_still : (c : Run F) → store_at F c g0 ≡ c.store
+  came_still c = came.still c ∙ (constants_formed F base).still c
+
+  abbrev pub occurs : Field → Bool
   occurs f = is_in_body f m.body
 
   some : 2 < length g0.code
@@ -200,13 +222,12 @@ module _ (m : Tree) (good : is_good m ≡ true) where
       let n = length g0.code in
       let low = low_of F g0 came.formed in
       let cs = constants_ready F base (length g0.blocks) low 0 (omega arith) n some in
-      let counted_locals : length (local_widths m) ≡ length m.locals = length-map m.locals (λ l. l.width) in
       record {
         formed = came.formed;
         opens = open_root F g0;
         some = some;
         holds = record {
-          locals = subst (λ count. AllHave (Ready F 0 n) (local_widths m) (replicate count None)) counted_locals (have_none (Ready F 0 n) (local_widths m));
+          locals = have_none (Ready F 0 n) (local_widths m) (length m.locals) (length-map m.locals (λ l. l.width));
           fields = came.ready;
           send = cs.nought;
           port = cs.port;
@@ -214,13 +235,19 @@ module _ (m : Tree) (good : is_good m ≡ true) where
         };
       }
 
-  shown : (f : Field) → is_in_body f m.body ≡ true → IsThere (arrived m).ids (field_index f)
+  pub shown : (f : Field) → is_in_body f m.body ≡ true → IsThere (arrived m).ids (field_index f)
   shown f e =
       let within : field_index f < length all_fields = omega (arith, index-lt f, length-all_fields) in
       came.there (field_index f) within (ap (λ h. is_in_body h m.body) (at_index f) ∙ e)
 
-  made : Made m F refl base declared occurs 0 (start_view m) (end_of m)
-  made = body_formed m F refl base declared occurs m.body [] 0 (and_second _ _ good) tt (λ f h. h) root g0 (start_view m) part_end ahead tt shown
+  both : Made m F refl base declared occurs 0 (start_view m) (end_of m) × ((c : Run F) → Carried F c base m occurs true g0 (start_view m) (do_body (local_widths m) c.packet m.body) (end_of m))
+  both = body_formed m F refl base declared occurs m.body [] 0 (and_second _ _ good) tt (λ f h. h) root g0 (start_view m) part_end ahead tt shown
+
+  pub made : Made m F refl base declared occurs 0 (start_view m) (end_of m)
+  made = both.0
+
+  pub means : (c : Run F) → Carried F c base m occurs true g0 (start_view m) (do_body (local_widths m) c.packet m.body) (end_of m)
+  means = both.1
 
   fixed_here : (i : ℕ) → i < length all_fields → (row (get_or all_fields i MetaPort)).writable ≡ false → get_or (end_of m).view.fields i None ≡ get_or (arrived m).ids i None
   fixed_here i lt not_it =

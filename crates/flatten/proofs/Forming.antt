@@ -14,39 +14,18 @@ use Rattle.flat_ir.specs.WellFormed.{IsSeenFrom, IsInArm, SeesOperands, EachCond
 use Rattle.flatten.specs.declared.place.Place.{Place}
 use Rattle.flatten.specs.declared.place.Ending.{Ending}
 use Rattle.flatten.specs.declared.place.Ending.TheVariants.{No, Yes}
-use Rattle.flatten.specs.Flatten.{Given, Valued, Scoped, Merged, EndedAt, result_of, nought, one, nought_port, emit, give, opened, same_id, merge_id, merge_option, merge_ids, merge_ended, ended_id, select_ended, constants}
+use Rattle.flatten.specs.Flatten.{Emitted, Valued, Scoped, Merged, EndedAt, result_of, nought, one, nought_port, emit, give, opened, same_id, merge_id, merge_option, merge_ids, merge_ended, ended_id, select_ended, constants}
 use Rattle.flatten.proofs.Growth.{Grows, then_grows, emit_length, blank_step, blank_block, merge_option_grows, merge_ids_grow}
-use Rattle.flatten.proofs.Views.{HasId, IsThere, there_cons, alike_cons}
+use Rattle.flatten.proofs.Views.{HasOption, AllHave, option_map, all_map, HasId, IsThere, there_cons, alike_cons}
 use Rattle.flatten.proofs.Written.{same_ids, same_itself}
 use Rattle.lemmas.proofs.Lists.{each_weaker}
 
--- ## Values of variables
-
-abbrev pub HasOption : (ℕ → ValueId → Type 0) → ℕ → Option ValueId → Type 0
-HasOption P w None = Unit {0}
-HasOption P w (Some v) = P w v
-
--- there is a place for each width, and this holds of each value that is there
-abbrev pub AllHave : (ℕ → ValueId → Type 0) → List ℕ → List (Option ValueId) → Type 0
-AllHave P [] [] = Unit {0}
-AllHave P (w ∷ ws) (i ∷ is) = HasOption P w i × AllHave P ws is
-AllHave _ _ _ = ⊥
-
-option_map : (P Q : ℕ → ValueId → Type 0) → ((w : ℕ) (v : ValueId) → P w v → Q w v) → (w : ℕ) (i : Option ValueId) → HasOption P w i → HasOption Q w i
-option_map P Q go w None h = tt
-option_map P Q go w (Some v) h = go w v h
-
-pub all_map : (P Q : ℕ → ValueId → Type 0) → ((w : ℕ) (v : ValueId) → P w v → Q w v) → (ws : List ℕ) (is : List (Option ValueId)) → AllHave P ws is → AllHave Q ws is
-all_map P Q go [] [] h = tt
-all_map P Q go (w ∷ ws) (i ∷ is) h = (option_map P Q go w i h.0, all_map P Q go ws is h.1)
-all_map _ _ go _ _ h = h
-
 module _ (F : Program) where
-  abbrev pub whole : Given
+  abbrev pub whole : Emitted
   whole = record { code = F.code; blocks = F.blocks }
 
   -- what is given so far is the beginning of the program
-  abbrev pub IsPart : Given → Type 0
+  abbrev pub IsPart : Emitted → Type 0
   IsPart g = Grows g whole
 
   abbrev pub block_of : ValueId → ℕ
@@ -168,19 +147,19 @@ module _ (F : Program) where
     pub wide : width_of_value F b.cond ≡ 1
     pub seen : IsSeenFrom F b.parent b.cond
 
-  pub record IsFormed (g : Given) : Type 0 where
+  pub record IsFormed (g : Emitted) : Type 0 where
     pub steps : (i : ℕ) → i < length g.code → StepFits i (step_at F i)
     pub blocks : (k : ℕ) → k < length g.blocks → BlockFits k (block_at F.blocks k)
 
-  pub low_of : (g : Given) → IsFormed g → Low (length g.blocks)
+  pub low_of : (g : Emitted) → IsFormed g → Low (length g.blocks)
   low_of g h k lt = (h.blocks k lt).parent
 
   -- an instruction that comes next may stand in this block
-  pub record Open (g : Given) (k : ℕ) : Type 0 where
+  pub record Open (g : Emitted) (k : ℕ) : Type 0 where
     pub within : k ≤ length g.blocks
     pub before : Before (length g.code) k
 
-  pub open_more : (g g' : Given) (k : ℕ) → Grows g g' → Open g k → Open g' k
+  pub open_more : (g g' : Emitted) (k : ℕ) → Grows g g' → Open g k → Open g' k
   open_more g g' k p h = record {
     within = omega (arith, h.within, p.more);
     before = before_more (length g.code) (length g'.code) k p.longer h.before;
@@ -197,12 +176,12 @@ module _ (F : Program) where
   abbrev step_in : Place → Work → Step
   step_in p work = record { block = p.block; looped = p.looped; work = work }
 
-  step_emitted : (p : Place) (work : Work) (g : Given) → IsPart (emit p work g) → step_at F (length g.code) ≡ step_in p work
+  pub step_emitted : (p : Place) (work : Work) (g : Emitted) → IsPart (emit p work g) → step_at F (length g.code) ≡ step_in p work
   step_emitted p work g part =
       let lt : length g.code < length (emit p work g).code = omega (arith, emit_length p work g) in
       part.steps (length g.code) lt ∙ get_or-append_seam g.code (step_in p work) [] blank_step
 
-  pub emit_formed : (p : Place) (work : Work) (g : Given) → IsPart (emit p work g) → IsFormed g → Open g p.block → WorkFits p.block (length g.code) work → IsFormed (emit p work g)
+  pub emit_formed : (p : Place) (work : Work) (g : Emitted) → IsPart (emit p work g) → IsFormed g → Open g p.block → WorkFits p.block (length g.code) work → IsFormed (emit p work g)
   emit_formed p work g part h open_ w =
       let n = length g.code in
       let here : StepFits n (step_in p work) = record {
@@ -225,7 +204,7 @@ module _ (F : Program) where
       }
 
   -- its results
-  pub given_ready : (p : Place) (work : Work) (g : Given) → IsPart (emit p work g) → (j : ℕ) → j < result_count F.objects work
+  pub given_ready : (p : Place) (work : Work) (g : Emitted) → IsPart (emit p work g) → (j : ℕ) → j < result_count F.objects work
       → Ready p.block (length (emit p work g).code) (slice_index (result_widths F.objects work) j) (result_of (length g.code) j)
   given_ready p work g part j lt =
       let n = length g.code in
@@ -244,15 +223,15 @@ module _ (F : Program) where
   abbrev block_in : Place → ValueId → Bool → Block
   block_in p v polarity = record { parent = p.block; cond = v; polarity = polarity }
 
-  opened_length : (p : Place) (v : ValueId) (polarity : Bool) (g : Given) → length (opened p v polarity g).blocks ≡ suc (length g.blocks)
+  opened_length : (p : Place) (v : ValueId) (polarity : Bool) (g : Emitted) → length (opened p v polarity g).blocks ≡ suc (length g.blocks)
   opened_length p v polarity g = omega (arith, length-append g.blocks (block_in p v polarity ∷ []))
 
-  block_opened : (p : Place) (v : ValueId) (polarity : Bool) (g : Given) → IsPart (opened p v polarity g) → block_at F.blocks (length g.blocks) ≡ block_in p v polarity
+  pub block_opened : (p : Place) (v : ValueId) (polarity : Bool) (g : Emitted) → IsPart (opened p v polarity g) → block_at F.blocks (length g.blocks) ≡ block_in p v polarity
   block_opened p v polarity g part =
       let lt : length g.blocks < length (opened p v polarity g).blocks = omega (arith, opened_length p v polarity g) in
       part.blocks (length g.blocks) lt ∙ get_or-append_seam g.blocks (block_in p v polarity) [] blank_block
 
-  pub open_formed : (p : Place) (v : ValueId) (polarity : Bool) (g : Given) → IsPart (opened p v polarity g) → IsFormed g → Open g p.block → Ready p.block (length g.code) 1 v → IsFormed (opened p v polarity g)
+  pub open_formed : (p : Place) (v : ValueId) (polarity : Bool) (g : Emitted) → IsPart (opened p v polarity g) → IsFormed g → Open g p.block → Ready p.block (length g.code) 1 v → IsFormed (opened p v polarity g)
   open_formed p v polarity g part h open_ r =
       let n = length g.blocks in
       let here : BlockFits n (block_in p v polarity) = record { parent = open_.within; named = r.named; wide = r.wide; seen = r.seen } in
@@ -267,7 +246,7 @@ module _ (F : Program) where
             (cases_lt k n);
       }
 
-  pub open_below : (p : Place) (v : ValueId) (polarity : Bool) (g : Given) → IsPart (opened p v polarity g) → IsFormed g → Open g p.block → Ready p.block (length g.code) 1 v → Open (opened p v polarity g) (suc (length g.blocks))
+  pub open_below : (p : Place) (v : ValueId) (polarity : Bool) (g : Emitted) → IsPart (opened p v polarity g) → IsFormed g → Open g p.block → Ready p.block (length g.code) 1 v → Open (opened p v polarity g) (suc (length g.blocks))
   open_below p v polarity g part h open_ r =
       let n = length g.blocks in
       let o = opened p v polarity g in
@@ -280,7 +259,7 @@ module _ (F : Program) where
       record { within = lt; before = subst (Each P) (sym (line_suc (length o.blocks) low n lt)) (first, rest) }
 
   -- what is ready above is ready there
-  pub ready_below : (p : Place) (v : ValueId) (polarity : Bool) (g : Given) → IsPart (opened p v polarity g) → Low (length (opened p v polarity g).blocks)
+  pub ready_below : (p : Place) (v : ValueId) (polarity : Bool) (g : Emitted) → IsPart (opened p v polarity g) → Low (length (opened p v polarity g).blocks)
       → (w : ℕ) (u : ValueId) → Ready p.block (length g.code) w u → Ready (suc (length g.blocks)) (length g.code) w u
   ready_below p v polarity g part low w u h =
       let n = length g.blocks in
@@ -294,7 +273,7 @@ module _ (F : Program) where
       }
 
   -- and what is ready there may be a side
-  pub sided_above : (p : Place) (v : ValueId) (polarity : Bool) (g : Given) → IsPart (opened p v polarity g) → Low (length (opened p v polarity g).blocks)
+  pub sided_above : (p : Place) (v : ValueId) (polarity : Bool) (g : Emitted) → IsPart (opened p v polarity g) → Low (length (opened p v polarity g).blocks)
       → (n w : ℕ) (u : ValueId) → Ready (suc (length g.blocks)) n w u → Sided p.block n v polarity w u
   sided_above p v polarity g part low n w u h =
       let k = length g.blocks in
@@ -363,7 +342,7 @@ module _ (F : Program) where
     pub ready : Ready k (length r.given.code) w r.id
     pub alike : a ≡ b → r.id ≡ a
 
-  chosen_case : (c : Bool) (p : Place) (v : ValueId) (w : ℕ) (a b : ValueId) (g : Given) → same_id a b ≡ c → IsPart (cond c (record { given = g; id = a }) (give p (flat.select w v a b) g)).given
+  chosen_case : (c : Bool) (p : Place) (v : ValueId) (w : ℕ) (a b : ValueId) (g : Emitted) → same_id a b ≡ c → IsPart (cond c (record { given = g; id = a }) (give p (flat.select w v a b) g)).given
       → IsFormed g → Open g p.block → Ready p.block (length g.code) 1 v → Sided p.block (length g.code) v true w a → Sided p.block (length g.code) v false w b
       → Chosen p.block w a b (cond c (record { given = g; id = a }) (give p (flat.select w v a b) g))
   chosen_case true p v w a b g e part h open_ rv ra rb =
@@ -382,7 +361,7 @@ module _ (F : Program) where
         alike = λ is. absurd (true≢false (sym (same_itself a) ∙ ap (λ c. same_id a c) is ∙ e));
       }
 
-  pub merge_id_formed : (p : Place) (v : ValueId) (w : ℕ) (a b : ValueId) (g : Given) → IsPart (merge_id p v w a b g).given → IsFormed g → Open g p.block → Ready p.block (length g.code) 1 v
+  pub merge_id_formed : (p : Place) (v : ValueId) (w : ℕ) (a b : ValueId) (g : Emitted) → IsPart (merge_id p v w a b g).given → IsFormed g → Open g p.block → Ready p.block (length g.code) 1 v
       → Sided p.block (length g.code) v true w a → Sided p.block (length g.code) v false w b → Chosen p.block w a b (merge_id p v w a b g)
   merge_id_formed p v w a b g part h open_ rv ra rb = chosen_case (same_id a b) p v w a b g refl part h open_ rv ra rb
 
@@ -392,7 +371,7 @@ module _ (F : Program) where
     pub there : HasId x → HasId y → HasId r.id
     pub alike : x ≡ y → r.id ≡ x
 
-  merge_option_formed : (p : Place) (v : ValueId) (w : ℕ) (x y : Option ValueId) (g : Given) → IsPart (merge_option p v w x y g).given → IsFormed g → Open g p.block → Ready p.block (length g.code) 1 v
+  merge_option_formed : (p : Place) (v : ValueId) (w : ℕ) (x y : Option ValueId) (g : Emitted) → IsPart (merge_option p v w x y g).given → IsFormed g → Open g p.block → Ready p.block (length g.code) 1 v
       → HasOption (Sided p.block (length g.code) v true) w x → HasOption (Sided p.block (length g.code) v false) w y → ChosenOption p.block w x y (merge_option p v w x y g)
   merge_option_formed p v w None y g part h open_ rv rx ry = record { formed = h; ready = tt; there = λ i j. i; alike = λ e. refl }
   merge_option_formed p v w (Some a) None g part h open_ rv rx ry = record { formed = h; ready = tt; there = λ i j. j; alike = λ e. absurd (none-some a (sym e)) }
@@ -406,7 +385,7 @@ module _ (F : Program) where
     pub there : (x : ℕ) → IsThere xs x → IsThere ys x → IsThere r.ids x
     pub alike : (x : ℕ) → get_or xs x None ≡ get_or ys x None → get_or r.ids x None ≡ get_or xs x None
 
-  pub merge_ids_formed : (p : Place) (v : ValueId) (ws : List ℕ) (xs ys : List (Option ValueId)) (g : Given) → IsPart (merge_ids p v ws xs ys g).given → IsFormed g → Open g p.block → Ready p.block (length g.code) 1 v
+  pub merge_ids_formed : (p : Place) (v : ValueId) (ws : List ℕ) (xs ys : List (Option ValueId)) (g : Emitted) → IsPart (merge_ids p v ws xs ys g).given → IsFormed g → Open g p.block → Ready p.block (length g.code) 1 v
       → AllHave (Sided p.block (length g.code) v true) ws xs → AllHave (Sided p.block (length g.code) v false) ws ys → ChosenAll p.block ws xs ys (merge_ids p v ws xs ys g)
   merge_ids_formed p v [] [] [] g part h open_ rv rx ry = record { formed = h; ready = tt; there = λ x i j. tt; alike = λ x e. refl }
   merge_ids_formed p v [] (x ∷ xs) ys g part h open_ rv rx ry = absurd rx
@@ -437,7 +416,7 @@ module _ (F : Program) where
     pub formed : IsFormed r.given
     pub ready : Ready k (length r.given.code) 1 (ended_id r.ended)
 
-  end_select : (p : Place) (v : ValueId) (x y : Ending) (g : Given) → IsPart (select_ended p v x y g).given → IsFormed g → Open g p.block → Ready p.block (length g.code) 1 v
+  end_select : (p : Place) (v : ValueId) (x y : Ending) (g : Emitted) → IsPart (select_ended p v x y g).given → IsFormed g → Open g p.block → Ready p.block (length g.code) 1 v
       → Sided p.block (length g.code) v true 1 (ended_id x) → Sided p.block (length g.code) v false 1 (ended_id y) → ChosenEnd p.block (select_ended p v x y g)
   end_select p v x y g part h open_ rv rx ry =
       let work = flat.select 1 v (ended_id x) (ended_id y) in
@@ -446,7 +425,7 @@ module _ (F : Program) where
         ready = given_ready p work g part 0 (lit< tt);
       }
 
-  pub merge_ended_formed : (p : Place) (v : ValueId) (x y : Ending) (g : Given) → IsPart (merge_ended p v x y g).given → IsFormed g → Open g p.block → Constants p.block (length g.code) → Ready p.block (length g.code) 1 v
+  pub merge_ended_formed : (p : Place) (v : ValueId) (x y : Ending) (g : Emitted) → IsPart (merge_ended p v x y g).given → IsFormed g → Open g p.block → Constants p.block (length g.code) → Ready p.block (length g.code) 1 v
       → Sided p.block (length g.code) v true 1 (ended_id x) → Sided p.block (length g.code) v false 1 (ended_id y) → ChosenEnd p.block (merge_ended p v x y g)
   merge_ended_formed p v No No g part h open_ cs rv rx ry = record { formed = h; ready = cs.nought }
   merge_ended_formed p v Yes Yes g part h open_ cs rv rx ry = record { formed = h; ready = cs.one }

@@ -18,26 +18,26 @@ use Rattle.flatten.specs.declared.error.FlatError.TheVariants.{TooLarge, NoMemor
 use Rattle.flatten.specs.declared.place.Ending.{Ending}
 use Rattle.flatten.specs.declared.place.Ending.TheVariants.{No, Yes, Maybe}
 use Rattle.flatten.specs.declared.place.Place.{Place}
-use Rattle.flatten.specs.Flatten.{Given, View, At, root, Valued, Flattener, emit, give, opened, below, flat_expr, flat_exprs, operation, same_id, merge_id, merge_option, merge_ids, field_widths, merge, merge_ended, ends, select_ended, join, follow, go_on, in_order, bound, flat_turn, flat_turns, looping, second_side, flat_stmt, flat_body}
+use Rattle.flatten.specs.Flatten.{Emitted, View, At, root, Valued, Flattener, emit, give, opened, below, flat_expr, flat_exprs, operation, same_id, merge_id, merge_option, merge_ids, field_widths, merge, merge_ended, ends, select_ended, join, follow, go_on, in_order, bound, flat_turn, flat_turns, looping, second_side, flat_stmt, flat_body}
 use Rattle.flatten.specs.Over.{IsOver}
 use Rattle.flatten.specs.Pending.{first_at, rest_at}
 use Rattle.flatten.specs.declared.stretch.Pending.{Pending}
 use Rattle.flatten.specs.Open.{closed, outermost}
 
-abbrev pub size : Given → ℕ
+abbrev pub size : Emitted → ℕ
 size g = length g.code
 
-pub emit_length : (p : Place) (work : Work) (g : Given) → length (emit p work g).code ≡ suc (length g.code)
+pub emit_length : (p : Place) (work : Work) (g : Emitted) → length (emit p work g).code ≡ suc (length g.code)
 emit_length p work g = omega (arith, length-append g.code (record { block = p.block; looped = p.looped; work = work } ∷ []))
 
 -- the constants, given one after the other
-abbrev pub empty : Given
+abbrev pub empty : Emitted
 empty = record { code = []; blocks = [] }
 
-abbrev pub zero_bit : Given
+abbrev pub zero_bit : Emitted
 zero_bit = emit root (flat.const 1 0) empty
 
-abbrev pub both_bits : Given
+abbrev pub both_bits : Emitted
 both_bits = emit root (flat.const 1 1) zero_bit
 
 abbrev pub blank_step : Step
@@ -47,16 +47,16 @@ abbrev pub blank_block : Block
 blank_block = record { parent = 0; cond = record { instruction = 0; result = 0 }; polarity = true }
 
 -- no instruction and no block is taken back
-pub record Grows (g h : Given) : Type 0 where
+pub record Grows (g h : Emitted) : Type 0 where
   pub longer : size g ≤ size h
   pub steps : (i : ℕ) → i < size g → get_or h.code i blank_step ≡ get_or g.code i blank_step
   pub more : length g.blocks ≤ length h.blocks
   pub blocks : (k : ℕ) → k < length g.blocks → block_at h.blocks k ≡ block_at g.blocks k
 
-pub grows : (g : Given) → Grows g g
+pub grows : (g : Emitted) → Grows g g
 grows g = record { longer = omega arith; steps = λ i lt. refl; more = omega arith; blocks = λ k lt. refl }
 
-pub then_grows : (f g h : Given) → Grows f g → Grows g h → Grows f h
+pub then_grows : (f g h : Emitted) → Grows f g → Grows g h → Grows f h
 then_grows f g h p q = record {
   longer = omega (arith, p.longer, q.longer);
   steps = λ i lt. q.steps i (omega (arith, p.longer, lt)) ∙ p.steps i lt;
@@ -65,22 +65,22 @@ then_grows f g h p q = record {
 }
 
 -- what is too large stays so
-pub over_later : (g h : Given) (e : FlatError) → Grows g h → IsOver g e → IsOver h e
+pub over_later : (g h : Emitted) (e : FlatError) → Grows g h → IsOver g e → IsOver h e
 over_later g h TooLarge p over = omega (arith, p.longer, over)
 over_later g h NoMemory p over = tt
 
-pub emit_grows : (p : Place) (work : Work) (g : Given) → Grows g (emit p work g)
+pub emit_grows : (p : Place) (work : Work) (g : Emitted) → Grows g (emit p work g)
 emit_grows p work g =
     let last : List Step = record { block = p.block; looped = p.looped; work = work } ∷ [] in
     record { longer = omega (arith, length-append g.code last); steps = λ i lt. get_or-append g.code last blank_step i lt; more = omega arith; blocks = λ k lt. refl }
 
-pub open_grows : (p : Place) (cond : ValueId) (polarity : Bool) (g : Given) → Grows g (opened p cond polarity g)
+pub open_grows : (p : Place) (cond : ValueId) (polarity : Bool) (g : Emitted) → Grows g (opened p cond polarity g)
 open_grows p cond polarity g =
     let last : List Block = record { parent = p.block; cond = cond; polarity = polarity } ∷ [] in
     record { longer = omega arith; steps = λ i lt. refl; more = omega (arith, length-append g.blocks last); blocks = λ k lt. get_or-append g.blocks last blank_block k lt }
 
 mutual
-  pub expr_grows : (ws : List ℕ) (p : Place) (w : View) (e : ExprTree) (g : Given) → Grows g (flat_expr ws p w e g).given
+  pub expr_grows : (ws : List ℕ) (p : Place) (w : View) (e : ExprTree) (g : Emitted) → Grows g (flat_expr ws p w e g).given
   expr_grows ws p w (lit value width) g = emit_grows p (flat.const width value) g
   expr_grows ws p w (byte index) g =
       let r = flat_expr ws p w index g in
@@ -95,30 +95,30 @@ mutual
       then_grows g r.given (emit p work r.given) (exprs_grow ws p w args g) (emit_grows p work r.given)
   expr_grows ws p w _ g = grows g
 
-  pub exprs_grow : (ws : List ℕ) (p : Place) (w : View) (es : Exprs) (g : Given) → Grows g (flat_exprs ws p w es g).given
+  pub exprs_grow : (ws : List ℕ) (p : Place) (w : View) (es : Exprs) (g : Emitted) → Grows g (flat_exprs ws p w es g).given
   exprs_grow ws p w no_expr g = grows g
   exprs_grow ws p w (expr e es) g =
       let first = flat_expr ws p w e g in
       then_grows g first.given (flat_exprs ws p w es first.given).given (expr_grows ws p w e g) (exprs_grow ws p w es first.given)
 
-by_test : (b : Bool) (p : Place) (work : Work) (id : ValueId) (g : Given) → Grows g (cond b (record { given = g; id = id }) (give p work g)).given
+by_test : (b : Bool) (p : Place) (work : Work) (id : ValueId) (g : Emitted) → Grows g (cond b (record { given = g; id = id }) (give p work g)).given
 by_test true p work id g = grows g
 by_test false p work id g = emit_grows p work g
 
-pub merge_id_grows : (p : Place) (v : ValueId) (width : ℕ) (a b : ValueId) (g : Given) → Grows g (merge_id p v width a b g).given
+pub merge_id_grows : (p : Place) (v : ValueId) (width : ℕ) (a b : ValueId) (g : Emitted) → Grows g (merge_id p v width a b g).given
 merge_id_grows p v width a b g = by_test (same_id a b) p (flat.select width v a b) a g
 
-pub merge_option_grows : (p : Place) (v : ValueId) (width : ℕ) (a b : Option ValueId) (g : Given) → Grows g (merge_option p v width a b g).given
+pub merge_option_grows : (p : Place) (v : ValueId) (width : ℕ) (a b : Option ValueId) (g : Emitted) → Grows g (merge_option p v width a b g).given
 merge_option_grows p v width (Some a) (Some b) g = merge_id_grows p v width a b g
 merge_option_grows p v width _ _ g = grows g
 
-pub merge_ids_grow : (p : Place) (v : ValueId) (ws : List ℕ) (xs ys : List (Option ValueId)) (g : Given) → Grows g (merge_ids p v ws xs ys g).given
+pub merge_ids_grow : (p : Place) (v : ValueId) (ws : List ℕ) (xs ys : List (Option ValueId)) (g : Emitted) → Grows g (merge_ids p v ws xs ys g).given
 merge_ids_grow p v (width ∷ ws) (a ∷ xs) (b ∷ ys) g =
     let r = merge_option p v width a b g in
     then_grows g r.given (merge_ids p v ws xs ys r.given).given (merge_option_grows p v width a b g) (merge_ids_grow p v ws xs ys r.given)
 merge_ids_grow p v _ _ _ g = grows g
 
-pub merge_grows : (ws : List ℕ) (p : Place) (v : ValueId) (a b : View) (g : Given) → Grows g (merge ws p v a b g).given
+pub merge_grows : (ws : List ℕ) (p : Place) (v : ValueId) (a b : View) (g : Emitted) → Grows g (merge ws p v a b g).given
 merge_grows ws p v a b g =
     let locals = merge_ids p v ws a.locals b.locals g in
     let fields = merge_ids p v field_widths a.fields b.fields locals.given in
@@ -128,10 +128,10 @@ merge_grows ws p v a b g =
     (then_grows locals.given fields.given port.given (merge_ids_grow p v field_widths a.fields b.fields locals.given)
     (then_grows fields.given send.given port.given (merge_id_grows p v 1 a.send b.send fields.given) (merge_id_grows p v 8 a.port b.port send.given)))
 
-pub select_grows : (p : Place) (v : ValueId) (a b : Ending) (g : Given) → Grows g (select_ended p v a b g).given
+pub select_grows : (p : Place) (v : ValueId) (a b : Ending) (g : Emitted) → Grows g (select_ended p v a b g).given
 select_grows p v a b g = emit_grows p _ g
 
-pub merge_ended_grows : (p : Place) (v : ValueId) (a b : Ending) (g : Given) → Grows g (merge_ended p v a b g).given
+pub merge_ended_grows : (p : Place) (v : ValueId) (a b : Ending) (g : Emitted) → Grows g (merge_ended p v a b g).given
 merge_ended_grows p v No No g = grows g
 merge_ended_grows p v Yes Yes g = grows g
 merge_ended_grows p v Yes No g = grows g
@@ -150,9 +150,9 @@ closed_grows ws (p ∷ ps) start r =
 -- ## Pieces
 
 abbrev pub Growing : Flattener → Type 0
-Growing go = (p : Place) (g : Given) (w : View) → Grows g (go p g w).given
+Growing go = (p : Place) (g : Emitted) (w : View) → Grows g (go p g w).given
 
-pub go_on_grows : (ws : List ℕ) (ended : Ending) (go : Flattener) → Growing go → (p : Place) (g : Given) (w : View) → Grows g (go_on ws ended p go g w).given
+pub go_on_grows : (ws : List ℕ) (ended : Ending) (go : Flattener) → Growing go → (p : Place) (g : Emitted) (w : View) → Grows g (go_on ws ended p go g w).given
 go_on_grows ws No go ok p g w = ok p g w
 go_on_grows ws Yes go ok p g w = grows g
 go_on_grows ws (Maybe v) go ok p g w =
@@ -176,13 +176,13 @@ turns_grow ws zero i x go ok p g w = grows g
 turns_grow ws (suc n) i x go ok p g w =
     in_order_grows ws (flat_turn i x go) (flat_turns ws n (suc i) x go) (turn_grows i x go ok) (turns_grow ws n (suc i) x go ok) p g w
 
-pub second_grows : (empty : Bool) (p : Place) (v : ValueId) (go : Flattener) → Growing go → (g : Given) (w : View) → Grows g (second_side empty p v go g w).given
+pub second_grows : (empty : Bool) (p : Place) (v : ValueId) (go : Flattener) → Growing go → (g : Emitted) (w : View) → Grows g (second_side empty p v go g w).given
 second_grows true p v go ok g w = grows g
 second_grows false p v go ok g w =
     let o = opened p v false g in
     then_grows g o (go (below p g) o w).given (open_grows p v false g) (ok (below p g) o w)
 
-choice_grows : (ws : List ℕ) (p : Place) (g : Given) (c : Valued) (a b : At) → Grows g c.given → Grows (opened p c.id true c.given) a.given → Grows a.given b.given → Grows g (join ws p c.id a.view b).given
+choice_grows : (ws : List ℕ) (p : Place) (g : Emitted) (c : Valued) (a b : At) → Grows g c.given → Grows (opened p c.id true c.given) a.given → Grows a.given b.given → Grows g (join ws p c.id a.view b).given
 choice_grows ws p g c a b pc pa pb =
     let j = join ws p c.id a.view b in
     let o = opened p c.id true c.given in
@@ -190,7 +190,7 @@ choice_grows ws p g c a b pc pa pb =
     (then_grows c.given o j.given (open_grows p c.id true c.given)
     (then_grows o a.given j.given pa (then_grows a.given b.given j.given pb (join_grows ws p c.id a.view b))))
 
-pub give_more : (p : Place) (work : Work) (g h : Given) → Grows g h → Grows g (emit p work h)
+pub give_more : (p : Place) (work : Work) (g h : Emitted) → Grows g h → Grows g (emit p work h)
 give_more p work g h q = then_grows g h (emit p work h) q (emit_grows p work h)
 
 mutual
@@ -218,7 +218,7 @@ mutual
   body_grows ws done p g w = grows g
   body_grows ws (stmt s rest) p g w = in_order_grows ws (flat_stmt ws s) (flat_body ws rest) (stmt_grows ws s) (body_grows ws rest) p g w
 
-pub over_stmt : (ws : List ℕ) (s : StmtTree) (p : Place) (g : Given) (w : View) (e : FlatError) → IsOver g e → IsOver (flat_stmt ws s p g w).given e
+pub over_stmt : (ws : List ℕ) (s : StmtTree) (p : Place) (g : Emitted) (w : View) (e : FlatError) → IsOver g e → IsOver (flat_stmt ws s p g w).given e
 over_stmt ws s p g w e over = over_later g (flat_stmt ws s p g w).given e (stmt_grows ws s p g w) over
 
 -- ## Choices
@@ -234,7 +234,7 @@ rest_grows ws p second v a w =
     let b = second_side (is_empty second) p v (flat_body ws second) a.given w in
     then_grows a.given b.given (join ws p v a.view b).given (second_grows (is_empty second) p v (flat_body ws second) (body_grows ws second) a.given w) (join_grows ws p v a.view b)
 
-pub first_over : (ws : List ℕ) (p : Place) (c : ExprTree) (first second b : BodyTree) (g : Given) (w : View) (x : Valued) (e : FlatError) → x ≡ flat_expr ws p w c g → b ≡ first → IsOver (first_at ws p b x w).given e
+pub first_over : (ws : List ℕ) (p : Place) (c : ExprTree) (first second b : BodyTree) (g : Emitted) (w : View) (x : Valued) (e : FlatError) → x ≡ flat_expr ws p w c g → b ≡ first → IsOver (first_at ws p b x w).given e
     → IsOver (flat_stmt ws (choose c first second) p g w).given e
 first_over ws p c first second b g w x e ex eb over =
     let y = flat_expr ws p w c g in

@@ -16,7 +16,7 @@ use Rattle.flat_ir.specs.Program as flat
 use Rattle.flatten.specs.declared.entry.Entry.{Entry}
 use Rattle.flatten.specs.declared.entry.Change.{Change}
 use Rattle.flatten.specs.declared.place.Place.{Place}
-use Rattle.flatten.specs.Flatten.{Given, View, At, join, same_id, give, merge_option, merge_ids, kept, in_scope, leave}
+use Rattle.flatten.specs.Flatten.{Emitted, View, At, join, same_id, give, merge_option, merge_ids, kept, in_scope, leave}
 use Rattle.flatten.specs.Journal.{Past, before, undone, with_locals, entry_locals, value_or_none, change_at, second_at, with_first, IsOther, AreRising, AreOn, AreSides, AreAssigned, merge_each, merge_rest, leave_each}
 use Rattle.flatten.specs.Pending.{placed, scoped, merged, valued}
 use Rattle.flatten.proofs.Written.{same_itself}
@@ -112,21 +112,21 @@ sides_made es fs now start first xs seconds made are es' e ef em =
 
 -- ## Two sides made one
 
-by_test : (c : _) (a : ValueId) (p : Place) (v : ValueId) (width : ℕ) (g : Given) → c ≡ true → cond c (valued g a) (give p (flat.select width v a a) g) ≡ valued g a
+by_test : (c : _) (a : ValueId) (p : Place) (v : ValueId) (width : ℕ) (g : Emitted) → c ≡ true → cond c (valued g a) (give p (flat.select width v a a) g) ≡ valued g a
 by_test c a p v width g is = ap (λ c. cond c (valued g a) (give p (flat.select width v a a) g)) is
 
 -- a variable that is the same on both sides
-merge_same : (p : Place) (v : ValueId) (width : ℕ) (a : Option ValueId) (g : Given) → merge_option p v width a a g ≡ merged g a
+merge_same : (p : Place) (v : ValueId) (width : ℕ) (a : Option ValueId) (g : Emitted) → merge_option p v width a a g ≡ merged g a
 merge_same p v width None g = refl
 merge_same p v width (Some a) g = ap (λ r. merged r.given (Some r.id)) (by_test (same_id a a) a p v width g (same_itself a))
 
-merge_alike : (p : Place) (v : ValueId) (width : ℕ) (a b : Option ValueId) (g : Given) → a ≡ b → merge_option p v width a b g ≡ merged g b
+merge_alike : (p : Place) (v : ValueId) (width : ℕ) (a b : Option ValueId) (g : Emitted) → a ≡ b → merge_option p v width a b g ≡ merged g b
 merge_alike p v width a b g e = ap (λ a. merge_option p v width a b g) e ∙ merge_same p v width b g
 
 abbrev AreAlike : Ids → Ids → Type 0
 AreAlike xs ys = (x : ℕ) → value_or_none xs x ≡ value_or_none ys x
 
-merge_all_alike : (p : Place) (v : ValueId) (ws : List ℕ) (xs ys : Ids) (g : Given) → length xs ≡ length ws → length ys ≡ length ws → AreAlike xs ys → merge_ids p v ws xs ys g ≡ scoped g ys
+merge_all_alike : (p : Place) (v : ValueId) (ws : List ℕ) (xs ys : Ids) (g : Emitted) → length xs ≡ length ws → length ys ≡ length ws → AreAlike xs ys → merge_ids p v ws xs ys g ≡ scoped g ys
 merge_all_alike p v [] xs [] g l m alike = refl
 merge_all_alike p v (w ∷ ws) [] ys g l m alike = absurd (omega (arith, l))
 merge_all_alike p v (w ∷ ws) (a ∷ xs) (b ∷ ys) g l m alike =
@@ -135,7 +135,7 @@ merge_all_alike p v (w ∷ ws) (a ∷ xs) (b ∷ ys) g l m alike =
 merge_all_alike p v _ _ _ g l m alike = absurd (omega (arith, m))
 
 -- A variable before which both sides are alike may be made one first.
-merge_first : (p : Place) (v : ValueId) (x : ℕ) (ws : List ℕ) (xs ys : Ids) (g : Given) → length xs ≡ length ws → length ys ≡ length ws → ((k : ℕ) → k < x → value_or_none xs k ≡ value_or_none ys k)
+merge_first : (p : Place) (v : ValueId) (x : ℕ) (ws : List ℕ) (xs ys : Ids) (g : Emitted) → length xs ≡ length ws → length ys ≡ length ws → ((k : ℕ) → k < x → value_or_none xs k ≡ value_or_none ys k)
     → let m = merge_option p v (get_or ws x 1) (value_or_none xs x) (value_or_none ys x) g in merge_ids p v ws (slice_set xs x m.id) (slice_set ys x m.id) m.given ≡ merge_ids p v ws xs ys g
 merge_first p v x [] [] [] g l m alike = refl
 merge_first p v x [] (a ∷ xs) ys g l m alike = absurd (omega (arith, l))
@@ -151,7 +151,7 @@ merge_first p v (suc x) (w ∷ ws) (a ∷ xs) (b ∷ ys) g l m alike =
     ∙ ap (λ q. let rest = merge_ids p v ws xs ys q.given in scoped rest.given (q.id ∷ rest.ids)) (sym (merge_alike p v w a b g e))
 merge_first p v x _ _ _ g l m alike = absurd (omega (arith, m))
 
-merge_this : (p : Place) (v : ValueId) (x : ℕ) (ws : List ℕ) (xs ys : Ids) (a b : Option ValueId) (g : Given) → length xs ≡ length ws → length ys ≡ length ws → ((k : ℕ) → k < x → value_or_none xs k ≡ value_or_none ys k)
+merge_this : (p : Place) (v : ValueId) (x : ℕ) (ws : List ℕ) (xs ys : Ids) (a b : Option ValueId) (g : Emitted) → length xs ≡ length ws → length ys ≡ length ws → ((k : ℕ) → k < x → value_or_none xs k ≡ value_or_none ys k)
     → a ≡ value_or_none xs x → b ≡ value_or_none ys x
     → let m = merge_option p v (get_or ws x 1) a b g in merge_ids p v ws (slice_set xs x m.id) (slice_set ys x m.id) m.given ≡ merge_ids p v ws xs ys g
 merge_this p v x ws xs ys a b g l m alike ea eb =
@@ -177,7 +177,7 @@ on_later xs ys x id n (c ∷ cs) lt rising on = (
   on_later xs ys x id (suc c.local) cs (omega (arith, lt, rising.0)) rising.1 on.2,
 )
 
-pub merge_told : (p : Place) (v : ValueId) (ws : List ℕ) (cs : List Change) (n : ℕ) (xs ys start : Ids) (w : View) (g : Given) → length xs ≡ length ws → length ys ≡ length ws → length start ≡ length ws → AreOn xs ys cs → AreRising n cs
+pub merge_told : (p : Place) (v : ValueId) (ws : List ℕ) (cs : List Change) (n : ℕ) (xs ys start : Ids) (w : View) (g : Emitted) → length xs ≡ length ws → length ys ≡ length ws → length start ≡ length ws → AreOn xs ys cs → AreRising n cs
     → ((x : ℕ) → IsOther x cs → value_or_none xs x ≡ value_or_none start x) → ((x : ℕ) → IsOther x cs → value_or_none ys x ≡ value_or_none start x)
     → merge_each p v ws cs (placed g (with_locals start w)) ≡ (let r = merge_ids p v ws xs ys g in placed r.given (with_locals r.ids w))
 merge_told p v ws [] n xs ys start w g l m s on rising firsts seconds =
@@ -196,7 +196,7 @@ merge_told p v ws (c ∷ cs) n xs ys start w g l m s on rising firsts seconds =
     (merge_this p v x ws xs ys c.first c.second g l m (λ k lt. let o = other_below k x (c ∷ cs) lt from in firsts k o ∙ sym (seconds k o)) on.0 on.1)
 
 -- the first side is had again from where both began, and the second is here
-pub join_told : (ws : List ℕ) (p : Place) (v : ValueId) (first : Past) (start now left : View) (g : Given) (cs ds : List Change) (r total : At) → length now.locals ≡ length ws → length start.locals ≡ length now.locals
+pub join_told : (ws : List ℕ) (p : Place) (v : ValueId) (first : Past) (start now left : View) (g : Emitted) (cs ds : List Change) (r total : At) → length now.locals ≡ length ws → length start.locals ≡ length now.locals
     → left ≡ with_locals start.locals now → ds ≡ cs → AreSides (before first start).locals now.locals start.locals cs
     → r ≡ merge_each p v ws ds (placed g left) → total ≡ merge_rest p v first r → total ≡ join ws p v (before first start) (placed g now)
 join_told ws p v first start now left g cs ds r total l m el ed sides er et =

@@ -6,7 +6,7 @@ use Rattle.element_lang.specs.Tree.{StmtTree}
 use Rattle.element_lang.specs.Rules.{binds}
 use Rattle.flat_ir.specs.declared.program.ValueId.{ValueId}
 use Rattle.flatten.specs.declared.place.Place.{Place}
-use Rattle.flatten.specs.Flatten.{Given, View, Flattener, result_of, flat_expr, flat_exprs, bound, bound_to, flat_stmt}
+use Rattle.flatten.specs.Flatten.{Emitted, View, Flattener, result_of, flat_expr, flat_exprs, bound, bound_to, flat_stmt}
 use Rattle.flatten.proofs.Views.{IsThere, there_set, there_new, Knows, knows_later}
 
 -- what is in scope stays so, and so does the value of a field that can't be written
@@ -46,7 +46,7 @@ knows_bound_to scope i j (x ∷ xs) w kn =
 
 -- what is in scope behind a piece
 abbrev pub Leads : List ℕ → List ℕ → Flattener → Type 0
-Leads scope scope' go = (p : Place) (g : Given) (w : View) → Knows scope w.locals → Keeps w (go p g w).view → Knows scope' (go p g w).view.locals
+Leads scope scope' go = (p : Place) (g : Emitted) (w : View) → Knows scope w.locals → Keeps w (go p g w).view → Knows scope' (go p g w).view.locals
 
 -- what is in scope behind a statement
 pub knows_after : (ws : List ℕ) (t : StmtTree) (scope : List ℕ) → Leads scope (binds t ++ scope) (flat_stmt ws t)

@@ -1,29 +1,26 @@
--- Lists of values, and the numbers that they stand for.
-use Rattle.std.proofs.Common.{◌≡◌, ℕ, zero, suc, ◌<◌, ◌≤◌, ◌==◌, true, List, [], ◌∷◌, length, get_or, Option, Some, None, sym, ◌∙◌, subst, arith, slice_index, slice_set, replicate, true≢false, eqb-true, ⊎_elim}
+-- Lists of values, the numbers that they stand for, and which of them are there.
+use Rattle.std.proofs.Common.{◌≡◌, ℕ, zero, suc, ◌==◌, true, List, [], ◌∷◌, length, get_or, Option, Some, None, refl, sym, subst, arith, slice_index, slice_set, replicate, true≢false, eqb-true, ⊎_elim}
 use Rattle.std.specs.List.{list_any}
 use Rattle.std.proofs.lemmas.Bool.{or_cases}
 use Rattle.flat_ir.specs.declared.program.ValueId.{ValueId}
 use Rattle.flatten.specs.Flatten.{nought, or_nought, value_at, kept, in_scope}
 
-abbrev pub Below : ℕ → Option ValueId → Type 0
-Below n None = Unit {0}
-Below n (Some v) = v.instruction < n
+abbrev pub HasOption : (ℕ → ValueId → Type 0) → ℕ → Option ValueId → Type 0
+HasOption P n None = Unit {0}
+HasOption P n (Some v) = P n v
 
--- there is a place for each width, and each value comes before instruction n
-abbrev pub InRange : ℕ → List ℕ → List (Option ValueId) → Type 0
-InRange n [] [] = Unit {0}
-InRange n (w ∷ ws) (i ∷ is) = Below n i × InRange n ws is
-InRange n _ _ = ⊥
-
-abbrev pub Meets : (ValueId → ℕ) → Option ValueId → ℕ → Type 0
-Meets f None u = Unit {0}
-Meets f (Some v) u = f v ≡ u
+-- there is a place for each number, and this holds of the number and the value at its place, where one is there
+abbrev pub AllHave : (ℕ → ValueId → Type 0) → List ℕ → List (Option ValueId) → Type 0
+AllHave P [] [] = Unit {0}
+AllHave P (n ∷ ns) (i ∷ is) = HasOption P n i × AllHave P ns is
+AllHave _ _ _ = ⊥
 
 -- the values that are there stand for these numbers
+abbrev pub Meets : (ValueId → ℕ) → Option ValueId → ℕ → Type 0
+Meets f i u = HasOption (λ u v. f v ≡ u) u i
+
 abbrev pub Agree : (ValueId → ℕ) → List (Option ValueId) → List ℕ → Type 0
-Agree f [] [] = Unit {0}
-Agree f (i ∷ is) (u ∷ us) = Meets f i u × Agree f is us
-Agree f _ _ = ⊥
+Agree f is us = AllHave (λ u v. f v ≡ u) us is
 
 abbrev pub HasId : Option ValueId → Type 0
 HasId None = ⊥
@@ -35,55 +32,37 @@ IsThere [] x = Unit {0}
 IsThere (i ∷ is) zero = HasId i
 IsThere (i ∷ is) (suc x) = IsThere is x
 
-pub below_more : (n n' : ℕ) (i : Option ValueId) → n ≤ n' → Below n i → Below n' i
-below_more n n' None le r = tt
-below_more n n' (Some v) le r = omega (arith, r, le)
+pub option_map : (P Q : ℕ → ValueId → Type 0) → ((n : ℕ) (v : ValueId) → P n v → Q n v) → (n : ℕ) (i : Option ValueId) → HasOption P n i → HasOption Q n i
+option_map P Q go n None h = tt
+option_map P Q go n (Some v) h = go n v h
 
-pub range_more : (n n' : ℕ) (ws : List ℕ) (is : List (Option ValueId)) → n ≤ n' → InRange n ws is → InRange n' ws is
-range_more n n' [] [] le r = tt
-range_more n n' (w ∷ ws) (i ∷ is) le r = (below_more n n' i le r.0, range_more n n' ws is le r.1)
-range_more n n' _ _ le r = r
+pub all_map : (P Q : ℕ → ValueId → Type 0) → ((n : ℕ) (v : ValueId) → P n v → Q n v) → (ns : List ℕ) (is : List (Option ValueId)) → AllHave P ns is → AllHave Q ns is
+all_map P Q go [] [] h = tt
+all_map P Q go (n ∷ ns) (i ∷ is) h = (option_map P Q go n i h.0, all_map P Q go ns is h.1)
+all_map _ _ go _ _ h = h
 
-below_or : (n : ℕ) (i : Option ValueId) → 0 < n → Below n i → (or_nought i).instruction < n
-below_or n None pos r = pos
-below_or n (Some v) pos r = r
+have_some : (P : ℕ → ValueId → Type 0) (n : ℕ) (i : Option ValueId) → HasId i → HasOption P n i → P n (or_nought i)
+have_some P n None there h = absurd there
+have_some P n (Some v) there h = h
 
-pub range_at : (n : ℕ) (ws : List ℕ) (is : List (Option ValueId)) (x : ℕ) → 0 < n → InRange n ws is → (value_at is x).instruction < n
-range_at n ws [] x pos r = pos
-range_at n [] (i ∷ is) x pos r = absurd r
-range_at n (w ∷ ws) (i ∷ is) zero pos r = below_or n i pos r.0
-range_at n (w ∷ ws) (i ∷ is) (suc x) pos r = range_at n ws is x pos r.1
+-- past the end the number is 0 and the value the first constant
+pub have_at : (P : ℕ → ValueId → Type 0) (ns : List ℕ) (is : List (Option ValueId)) (x : ℕ) → (slice_index ns x ≡ 0 → P 0 nought) → IsThere is x → AllHave P ns is → P (slice_index ns x) (value_at is x)
+have_at P [] [] x past there h = past refl
+have_at P (n ∷ ns) (i ∷ is) zero past there h = have_some P n i there h.0
+have_at P (n ∷ ns) (i ∷ is) (suc x) past there h = have_at P ns is x past there h.1
+have_at _ _ _ x past there h = absurd h
 
-pub range_set : (n : ℕ) (ws : List ℕ) (is : List (Option ValueId)) (x : ℕ) (v : ValueId) → v.instruction < n → InRange n ws is → InRange n ws (slice_set is x (Some v))
-range_set n ws [] x v lt r = r
-range_set n [] (i ∷ is) x v lt r = absurd r
-range_set n (w ∷ ws) (i ∷ is) zero v lt r = (lt, r.1)
-range_set n (w ∷ ws) (i ∷ is) (suc x) v lt r = (r.0, range_set n ws is x v lt r.1)
-
-pub meets_more : (f g : ValueId → ℕ) (n : ℕ) (i : Option ValueId) (u : ℕ) → ((v : ValueId) → v.instruction < n → g v ≡ f v) → Below n i → Meets f i u → Meets g i u
-meets_more f g n None u same r a = tt
-meets_more f g n (Some v) u same r a = same v r ∙ a
-
-pub agree_more : (f g : ValueId → ℕ) (n : ℕ) (ws : List ℕ) (is : List (Option ValueId)) (us : List ℕ) → ((v : ValueId) → v.instruction < n → g v ≡ f v) → InRange n ws is → Agree f is us → Agree g is us
-agree_more f g n ws [] [] same r a = tt
-agree_more f g n [] (i ∷ is) (u ∷ us) same r a = absurd r
-agree_more f g n (w ∷ ws) (i ∷ is) (u ∷ us) same r a = (meets_more f g n i u same r.0 a.0, agree_more f g n ws is us same r.1 a.1)
-agree_more f g n ws _ _ same r a = a
-
-meets_at : (f : ValueId → ℕ) (i : Option ValueId) (u : ℕ) → HasId i → Meets f i u → f (or_nought i) ≡ u
-meets_at f None u h a = absurd h
-meets_at f (Some v) u h a = a
-
-pub agree_at : (f : ValueId → ℕ) (is : List (Option ValueId)) (us : List ℕ) (x : ℕ) → f nought ≡ 0 → IsThere is x → Agree f is us → f (value_at is x) ≡ slice_index us x
-agree_at f [] [] x z h a = z
-agree_at f (i ∷ is) (u ∷ us) zero z h a = meets_at f i u h a.0
-agree_at f (i ∷ is) (u ∷ us) (suc x) z h a = agree_at f is us x z h a.1
-agree_at f _ _ x z h a = absurd a
+-- a new value at a place, for the same number and for another
+pub have_set : (P : ℕ → ValueId → Type 0) (ns : List ℕ) (is : List (Option ValueId)) (x : ℕ) (v : ValueId) → AllHave P ns is → P (slice_index ns x) v → AllHave P ns (slice_set is x (Some v))
+have_set P [] [] x v h new = tt
+have_set P (n ∷ ns) (i ∷ is) zero v h new = (new, h.1)
+have_set P (n ∷ ns) (i ∷ is) (suc x) v h new = (h.0, have_set P ns is x v h.1 new)
+have_set _ _ _ x v h new = absurd h
 
 pub agree_set : (f : ValueId → ℕ) (is : List (Option ValueId)) (us : List ℕ) (x : ℕ) (v : ValueId) (u : ℕ) → f v ≡ u → Agree f is us → Agree f (slice_set is x (Some v)) (slice_set us x u)
 agree_set f [] [] x v u e a = tt
-agree_set f (i ∷ is) (u' ∷ us) zero v u e a = (e, a.1)
-agree_set f (i ∷ is) (u' ∷ us) (suc x) v u e a = (a.0, agree_set f is us x v u e a.1)
+agree_set f (i ∷ is) (n ∷ us) zero v u e a = (e, a.1)
+agree_set f (i ∷ is) (n ∷ us) (suc x) v u e a = (a.0, agree_set f is us x v u e a.1)
 agree_set f _ _ x v u e a = absurd a
 
 -- a value at a place stays there, and comes there
@@ -99,27 +78,18 @@ there_new _ _ v = tt
 
 -- ## What was in scope before
 
-below_kept : (n : ℕ) (a b : Option ValueId) → Below n b → Below n (kept a b)
-below_kept n None b r = tt
-below_kept n (Some v) b r = r
+have_kept : (P : ℕ → ValueId → Type 0) (n : ℕ) (a b : Option ValueId) → HasOption P n b → HasOption P n (kept a b)
+have_kept P n None b h = tt
+have_kept P n (Some v) b h = h
 
-pub range_scope : (n : ℕ) (ws : List ℕ) (before now : List (Option ValueId)) → InRange n ws before → InRange n ws now → InRange n ws (in_scope before now)
-range_scope n [] [] now r r' = tt
-range_scope n (w ∷ ws) (a ∷ before) [] r r' = absurd r'
-range_scope n (w ∷ ws) (a ∷ before) (b ∷ now) r r' = (below_kept n a b r'.0, range_scope n ws before now r.1 r'.1)
-range_scope n _ _ now r r' = absurd r
-
-meets_kept : (f : ValueId → ℕ) (a b : Option ValueId) (u : ℕ) → Meets f b u → Meets f (kept a b) u
-meets_kept f None b u h = tt
-meets_kept f (Some v) b u h = h
-
-pub agree_scope : (f : ValueId → ℕ) (n n' : ℕ) (ws : List ℕ) (before now : List (Option ValueId)) (us : List ℕ) → InRange n ws before → InRange n' ws now → Agree f now us → Agree f (in_scope before now) us
-agree_scope f n n' [] [] [] us r r' a = a
-agree_scope f n n' [] (x ∷ before) now us r r' a = absurd r
-agree_scope f n n' (w ∷ ws) [] now us r r' a = absurd r
-agree_scope f n n' (w ∷ ws) (x ∷ before) (b ∷ now) [] r r' a = absurd a
-agree_scope f n n' (w ∷ ws) (x ∷ before) (b ∷ now) (u ∷ us) r r' a = (meets_kept f x b u a.0, agree_scope f n n' ws before now us r.1 r'.1 a.1)
-agree_scope f n n' _ _ _ us r r' a = absurd r'
+-- the lists before and now are of the same length, since both have a place for each of the numbers ws
+pub have_scope : (P R Q : ℕ → ValueId → Type 0) (ws ns : List ℕ) (before now : List (Option ValueId)) → AllHave P ws before → AllHave R ws now → AllHave Q ns now → AllHave Q ns (in_scope before now)
+have_scope P R Q [] ns [] [] h h' a = a
+have_scope P R Q (w ∷ ws) (n ∷ ns) (x ∷ before) (b ∷ now) h h' a = (have_kept Q n x b a.0, have_scope P R Q ws ns before now h.1 h'.1 a.1)
+have_scope P R Q (w ∷ ws) [] (x ∷ before) (b ∷ now) h h' a = absurd a
+have_scope P R Q [] ns (x ∷ before) now h h' a = absurd h
+have_scope P R Q (w ∷ ws) ns [] now h h' a = absurd h
+have_scope P R Q _ ns _ _ h h' a = absurd h'
 
 has_kept : (a b : Option ValueId) → HasId a → HasId b → HasId (kept a b)
 has_kept None b h h' = absurd h
@@ -148,13 +118,10 @@ knows_later (x ∷ scope) is js go k = (go x k.0, knows_later scope is js go k.1
 
 -- ## At first
 
-pub range_none : (n : ℕ) (ws : List ℕ) → InRange n ws (replicate (length ws) None)
-range_none n [] = tt
-range_none n (w ∷ ws) = (tt, range_none n ws)
-
-pub agree_none : (f : ValueId → ℕ) (count : ℕ) → Agree f (replicate count None) (replicate count 0)
-agree_none f zero = tt
-agree_none f (suc count) = (tt, agree_none f count)
+pub have_none : (P : ℕ → ValueId → Type 0) (ns : List ℕ) (count : ℕ) → length ns ≡ count → AllHave P ns (replicate count None)
+have_none P [] zero e = tt
+have_none P (n ∷ ns) (suc count) e = (tt, have_none P ns count (omega (arith, e)))
+have_none P _ _ e = absurd (omega (arith, e))
 
 -- ## Lists one longer
 

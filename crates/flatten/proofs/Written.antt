@@ -11,7 +11,7 @@ use Rattle.flat_ir.specs.declared.program.ValueId.{ValueId}
 use Rattle.flat_ir.specs.declared.program.FieldValue.{FieldValue}
 use Rattle.flat_ir.specs.Run.{with_writes}
 use Rattle.flatten.specs.Flatten.{same_id, changed, all_changed}
-use Rattle.flatten.proofs.Views.{InRange, Meets, HasId}
+use Rattle.flatten.proofs.Views.{AllHave, Meets, HasId}
 use Rattle.lemmas.proofs.Tests.{and_first, and_second}
 
 -- these fields have the places from k on
@@ -87,19 +87,19 @@ module _ (port : ℕ) (reads : ValueId → ℕ) (first : Field → ℕ) where
       let more : field_index f - k ≡ suc (field_index f - suc k) = omega (arith, le) in
       subst (λ n. IsPlace f (get_or (a ∷ came) n None) (get_or (b ∷ now) n None) (slice_index values (field_index f))) more (places f (omega (arith, le)))
 
-  pub written_all : (fs : List Field) (k : ℕ) (n n' : ℕ) (came now : List (Option ValueId)) (values bytes : List ℕ) → counted k fs ≡ true
-      → InRange n (map (λ (f : Field). (row f).width) fs) came → InRange n' (map (λ (f : Field). (row f).width) fs) now → HasPlaces k came now values
+  pub written_all : (P Q : ℕ → ValueId → Type 0) (fs : List Field) (k : ℕ) (came now : List (Option ValueId)) (values bytes : List ℕ) → counted k fs ≡ true
+      → AllHave P (map (λ (f : Field). (row f).width) fs) came → AllHave Q (map (λ (f : Field). (row f).width) fs) now → HasPlaces k came now values
       → AreBytes bytes → ((f : Field) → k ≤ field_index f → field_value bytes port f ≡ first f)
       → with_writes (all_changed fs came now) reads bytes ≡ with_fields fs values bytes
-  written_all [] k n n' came now values bytes c r r' places are firsts = refl
-  written_all (f ∷ fs) k n n' [] now values bytes c r r' places are firsts = absurd r
-  written_all (f ∷ fs) k n n' (a ∷ came) [] values bytes c r r' places are firsts = absurd r'
-  written_all (f ∷ fs) k n n' (a ∷ came) (b ∷ now) values bytes c r r' places are firsts =
+  written_all P Q [] k came now values bytes c r r' places are firsts = refl
+  written_all P Q (f ∷ fs) k [] now values bytes c r r' places are firsts = absurd r
+  written_all P Q (f ∷ fs) k (a ∷ came) [] values bytes c r r' places are firsts = absurd r'
+  written_all P Q (f ∷ fs) k (a ∷ came) (b ∷ now) values bytes c r r' places are firsts =
       let e : field_index f ≡ k = eqb-true (field_index f) k (and_first _ _ c) in
       let u = slice_index values (field_index f) in
       let next = written f u bytes in
       writes_append (changed f a b) (all_changed fs came now) bytes
       ∙ ap (with_writes (all_changed fs came now) reads) (one_field f a b u bytes are (firsts f (omega (arith, e))) (head_place f k a b came now values e places))
-      ∙ written_all fs (suc k) n n' came now values next (and_second (field_index f == k) _ c) r.1 r'.1 (tail_places k a b came now values places)
+      ∙ written_all P Q fs (suc k) came now values next (and_second (field_index f == k) _ c) r.1 r'.1 (tail_places k a b came now values places)
       (written_bytes (row f).writable f u bytes are)
       (λ g le. written_others (row f).writable f g u bytes refl (λ same. omega (arith, e, le, ap field_index same)) ∙ firsts g (omega (arith, le)))

@@ -24,7 +24,7 @@ use Rattle.flatten.specs.declared.place.Place.{Place}
 use Rattle.flatten.specs.Occurs.{is_in_body}
 
 -- what is given so far; it only grows
-pub record Given : Type 0 where
+pub record Emitted : Type 0 where
   pub code : List Step
   pub blocks : List Block
 
@@ -39,27 +39,27 @@ pub record View : Type 0 where
 
 -- what is given once some piece is flattened, and what comes of the piece: the state behind it, one value, or values
 pub record At : Type 0 where
-  pub given : Given
+  pub given : Emitted
   pub view : View
 
 pub record Valued : Type 0 where
-  pub given : Given
+  pub given : Emitted
   pub id : ValueId
 
 pub record Listed : Type 0 where
-  pub given : Given
+  pub given : Emitted
   pub ids : List ValueId
 
 pub record Scoped : Type 0 where
-  pub given : Given
+  pub given : Emitted
   pub ids : List (Option ValueId)
 
 pub record Merged : Type 0 where
-  pub given : Given
+  pub given : Emitted
   pub id : Option ValueId
 
 pub record EndedAt : Type 0 where
-  pub given : Given
+  pub given : Emitted
   pub ended : Ending
 
 -- ## Giving
@@ -78,22 +78,22 @@ abbrev pub nought_port : ValueId
 nought_port = result_of 2 0
 
 -- one more instruction, and the first of its results
-abbrev pub emit : Place → Work → Given → Given
+abbrev pub emit : Place → Work → Emitted → Emitted
 emit p work g = record {
   code = g.code ++ record { block = p.block; looped = p.looped; work = work } ∷ [];
   blocks = g.blocks;
 }
 
-abbrev pub give : Place → Work → Given → Valued
+abbrev pub give : Place → Work → Emitted → Valued
 give p work g = record { given = emit p work g; id = result_of (length g.code) 0 }
 
 -- one more block below a place, live there where the condition has this polarity
-abbrev pub opened : Place → ValueId → Bool → Given → Given
+abbrev pub opened : Place → ValueId → Bool → Emitted → Emitted
 opened p cond polarity g =
     record { code = g.code; blocks = g.blocks ++ record { parent = p.block; cond = cond; polarity = polarity } ∷ [] }
 
 -- the place in the block that is opened next
-abbrev pub below : Place → Given → Place
+abbrev pub below : Place → Emitted → Place
 below p g = record { block = suc (length g.blocks); looped = p.looped }
 
 -- ## Expressions
@@ -112,7 +112,7 @@ operation op width args = flat.apply op width args
 
 -- the operands from left to right, and then the instruction itself
 abbrev mutual
-  pub flat_expr : List ℕ → Place → View → ExprTree → Given → Valued
+  pub flat_expr : List ℕ → Place → View → ExprTree → Emitted → Valued
   flat_expr widths p w (lit value width) g = give p (flat.const width value) g
   flat_expr widths p w (local x) g = record { given = g; id = value_at w.locals x }
   flat_expr widths p w (field f) g = record { given = g; id = value_at w.fields (field_index f) }
@@ -126,7 +126,7 @@ abbrev mutual
       let r = flat_exprs widths p w args g in
       give p (operation op width r.ids) r.given
 
-  pub flat_exprs : List ℕ → Place → View → Exprs → Given → Listed
+  pub flat_exprs : List ℕ → Place → View → Exprs → Emitted → Listed
   flat_exprs widths p w no_expr g = record { given = g; ids = [] }
   flat_exprs widths p w (expr e es) g =
       let first = flat_expr widths p w e g in
@@ -139,19 +139,19 @@ abbrev pub same_id : ValueId → ValueId → Bool
 same_id a b = a.instruction == b.instruction && a.result == b.result
 
 -- a select where the values differ
-abbrev pub merge_id : Place → ValueId → ℕ → ValueId → ValueId → Given → Valued
+abbrev pub merge_id : Place → ValueId → ℕ → ValueId → ValueId → Emitted → Valued
 merge_id p v width a b g =
     if same_id a b then record { given = g; id = a } else give p (flat.select width v a b) g
 
 -- a local that one side alone has was not in scope before
-abbrev pub merge_option : Place → ValueId → ℕ → Option ValueId → Option ValueId → Given → Merged
+abbrev pub merge_option : Place → ValueId → ℕ → Option ValueId → Option ValueId → Emitted → Merged
 merge_option p v width (Some a) (Some b) g =
     let r = merge_id p v width a b g in
     record { given = r.given; id = Some r.id }
 merge_option p v width _ _ g = record { given = g; id = None }
 
 -- variables of these widths, in order
-abbrev pub merge_ids : Place → ValueId → List ℕ → List (Option ValueId) → List (Option ValueId) → Given → Scoped
+abbrev pub merge_ids : Place → ValueId → List ℕ → List (Option ValueId) → List (Option ValueId) → Emitted → Scoped
 merge_ids p v (width ∷ ws) (a ∷ xs) (b ∷ ys) g =
     let r = merge_option p v width a b g in
     let rest = merge_ids p v ws xs ys r.given in
@@ -159,7 +159,7 @@ merge_ids p v (width ∷ ws) (a ∷ xs) (b ∷ ys) g =
 merge_ids p v _ _ _ g = record { given = g; ids = [] }
 
 -- all but whether the run has ended, which is taken from the second
-abbrev pub merge : List ℕ → Place → ValueId → View → View → Given → At
+abbrev pub merge : List ℕ → Place → ValueId → View → View → Emitted → At
 merge widths p v a b g =
     let locals = merge_ids p v widths a.locals b.locals g in
     let fields = merge_ids p v field_widths a.fields b.fields locals.given in
@@ -176,12 +176,12 @@ ended_id No = nought
 ended_id Yes = one
 ended_id (Maybe u) = u
 
-abbrev pub select_ended : Place → ValueId → Ending → Ending → Given → EndedAt
+abbrev pub select_ended : Place → ValueId → Ending → Ending → Emitted → EndedAt
 select_ended p v a b g =
     let r = give p (flat.select 1 v (ended_id a) (ended_id b)) g in
     record { given = r.given; ended = Maybe r.id }
 
-abbrev pub merge_ended : Place → ValueId → Ending → Ending → Given → EndedAt
+abbrev pub merge_ended : Place → ValueId → Ending → Ending → Emitted → EndedAt
 merge_ended p v No No g = record { given = g; ended = No }
 merge_ended p v Yes Yes g = record { given = g; ended = Yes }
 merge_ended p v Yes No g = record { given = g; ended = Maybe v }
@@ -205,16 +205,16 @@ abbrev pub finished : ValueId → ValueId → View → View
 finished out by w = record w { send = out; port = by; ended = Yes }
 
 abbrev pub Flattener : Type 0
-Flattener = Place → Given → View → At
+Flattener = Place → Emitted → View → At
 
 -- In a block that is live where v, which says that the run has ended, is 0. The first side is the state in front of it,
 -- where the run has ended.
-abbrev pub follow : List ℕ → Place → ValueId → Flattener → Given → View → At
+abbrev pub follow : List ℕ → Place → ValueId → Flattener → Emitted → View → At
 follow widths p v go g w =
     join widths p v (ends Yes w) (go (below p g) (opened p v false g) (ends No w))
 
 -- by whether the run has ended in front
-abbrev pub go_on : List ℕ → Ending → Place → Flattener → Given → View → At
+abbrev pub go_on : List ℕ → Ending → Place → Flattener → Emitted → View → At
 go_on widths No p go g w = go p g w
 go_on widths Yes p go g w = record { given = g; view = w }
 go_on widths (Maybe v) p go g w = follow widths p v go g w
@@ -268,7 +268,7 @@ abbrev pub looping : Place → Place
 looping p = record { block = p.block; looped = true }
 
 -- a second side that is empty opens no block
-abbrev pub second_side : Bool → Place → ValueId → Flattener → Given → View → At
+abbrev pub second_side : Bool → Place → ValueId → Flattener → Emitted → View → At
 second_side true p v go g w = record { given = g; view = w }
 second_side false p v go g w = go (below p g) (opened p v false g) w
 
@@ -317,7 +317,7 @@ abbrev mutual
 abbrev pub root : Place
 root = record { block = 0; looped = false }
 
-abbrev pub constants : Given
+abbrev pub constants : Emitted
 constants = record {
   code = (record { block = 0; looped = false; work = flat.const 1 0 })
       ∷ (record { block = 0; looped = false; work = flat.const 1 1 })
@@ -326,11 +326,11 @@ constants = record {
 }
 
 -- a field that occurs gets an instruction
-abbrev pub give_field : Bool → Field → Given → Merged
+abbrev pub give_field : Bool → Field → Emitted → Merged
 give_field false f g = record { given = g; id = None }
 give_field true f g = let r = give root (flat.field f) g in record { given = r.given; id = Some r.id }
 
-abbrev pub give_fields : BodyTree → List Field → Given → Scoped
+abbrev pub give_fields : BodyTree → List Field → Emitted → Scoped
 give_fields body [] g = record { given = g; ids = [] }
 give_fields body (f ∷ fs) g =
     let first = give_field (is_in_body f body) f g in

@@ -9,7 +9,8 @@ use Rattle.state_store.specs.declared.object.ObjectDecl.{ObjectDecl}
 use Rattle.flatten.specs.declared.place.Place.{Place}
 use Rattle.flatten.specs.declared.place.Ending.{Ending}
 use Rattle.flatten.specs.declared.place.Ending.TheVariants.{No}
-use Rattle.flatten.specs.Flatten.{View, Given, At, Valued, Listed, Scoped, Merged, EndedAt, nought, nought_port, all_changed, flat_body, below, opened, second_side, join}
+use Rattle.flatten.specs.Flatten.{View, Emitted, At, Valued, Listed, Scoped, Merged, EndedAt}
+use Rattle.flatten.specs.Flatten.{nought, nought_port, all_changed, flat_body, below, opened, second_side, join}
 
 abbrev pub in_front : List ValueId → Listed → Listed
 in_front ids r = record { given = r.given; ids = ids ++ r.ids }
@@ -18,22 +19,22 @@ abbrev pub scoped_front : List (Option ValueId) → Scoped → Scoped
 scoped_front ids r = record { given = r.given; ids = ids ++ r.ids }
 
 -- what is given and what comes of it
-abbrev pub valued : Given → ValueId → Valued
+abbrev pub valued : Emitted → ValueId → Valued
 valued g id = record { given = g; id = id }
 
-abbrev pub listed : Given → List ValueId → Listed
+abbrev pub listed : Emitted → List ValueId → Listed
 listed g ids = record { given = g; ids = ids }
 
-abbrev pub scoped : Given → List (Option ValueId) → Scoped
+abbrev pub scoped : Emitted → List (Option ValueId) → Scoped
 scoped g ids = record { given = g; ids = ids }
 
-abbrev pub placed : Given → View → At
+abbrev pub placed : Emitted → View → At
 placed g w = record { given = g; view = w }
 
-abbrev pub merged : Given → Option ValueId → Merged
+abbrev pub merged : Emitted → Option ValueId → Merged
 merged g id = record { given = g; id = id }
 
-abbrev pub ended_at : Given → Ending → EndedAt
+abbrev pub ended_at : Emitted → Ending → EndedAt
 ended_at g e = record { given = g; ended = e }
 
 -- no local is in scope, the packet is dropped, and the run has not ended

@@ -1,4 +1,4 @@
--- That a flat program does what a middlebox does.
+-- A flat program that does what a middlebox does.
 use Rattle.std.specs.Prelude.{◌≡◌}
 use Rattle.packet_fields.specs.declared.packet.Packet.{Packet}
 use Rattle.state_store.specs.Kept.{IsKept}

@@ -7,7 +7,7 @@ use thiserror::Error;
 /// Why a middlebox has no flat program.
 #[derive(Clone, Copy, Debug, PartialEq, Eq, Error)]
 pub enum FlatError {
-    /// It would have more than 4,096 instructions.
+    /// The flat program would have more than 4,096 instructions.
     #[error("more than 4096 instructions")]
     TooLarge,
     /// No memory was found.

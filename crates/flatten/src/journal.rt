@@ -46,7 +46,7 @@ pub(crate) struct Tracked {
 }
 
 impl Journal {
-    /// That of a state from which on nothing was assigned.
+    /// The journal of a state behind which nothing was assigned yet.
     fn at(alloc: Global, state: &State) -> Result<Journal, AllocError>
         ensures { IfOk result (λ made. made ≡ past_of [] state.now) }
     {

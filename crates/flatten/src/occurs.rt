@@ -15,7 +15,7 @@ pub(crate) struct Seen {
 }
 
 impl Seen {
-    /// None has been seen.
+    /// The fields when none has been seen.
     pub fn new() -> Seen
         ensures { (f : Field) → get_or result.marks (field_index f) false ≡ false }
     {

@@ -22,9 +22,9 @@ pub(crate) struct Output {
 impl Model for Output {
     ghost use Rattle.std.specs.Prelude.{length, map, ◌<◌, ◌^◌};
     ghost use Rattle.flat_ir.specs.Program.{step_of};
-    ghost use Rattle.flatten.specs.Flatten.{Given};
+    ghost use Rattle.flatten.specs.Flatten.{Emitted};
 
-    ghost Value = { Given };
+    ghost Value = { Emitted };
 
     ghost view = { λ out. record { code = map step_of out.code; blocks = out.blocks } };
 

@@ -14,6 +14,6 @@ pub struct Place {
 pub enum Ending {
     No,
     Yes,
-    /// It has where this value, of 1 bit, is 1.
+    /// The run has ended where this value, of 1 bit, is 1.
     Maybe(ValueId),
 }

@@ -71,7 +71,7 @@ fn assigned(alloc: Global, first: &[Entry], second: &[Entry]) -> Result<Vec<u32>
     Ok(locals)
 }
 
-// These locals with their values on the second side.
+// The entries of some locals, with their values on the second side.
 fn seconds_of(
     alloc: Global,
     second: &[Option<ValueId>],

@@ -1,5 +1,5 @@
 -- The value of digits, and numbers as they are printed.
-use Rattle.std.proofs.Common.{◌≡◌, ℕ, suc, ◌+◌, ◌-◌, ◌*◌, ◌/◌, ◌%◌, ◌^◌, ◌≤◌, ◌<◌, Bool, true, false, cond, leb, List, [], ◌∷◌, ◌++◌, length, get_or, drop, Some, None, option_and_then, drop-cons, sym, ap, ◌∙◌, arith, refl, append_assoc}
+use Rattle.std.proofs.Common.{◌≡◌, ℕ, suc, ◌+◌, ◌-◌, ◌*◌, ◌/◌, ◌%◌, ◌^◌, ◌≤◌, ◌<◌, true, List, [], ◌∷◌, ◌++◌, length, get_or, drop, Some, drop-cons, sym, ap, ◌∙◌, arith, refl, append_assoc}
 use Rattle.std.proofs.lemmas.List.{append-nil, drop-set}
 use Rattle.std.proofs.Math.ListN.{drop_of_length-le, set}
 use Rattle.std.specs.Char.{digit_value}
@@ -9,7 +9,7 @@ use Rattle.std.specs.Str.Parse.{digits_value, digits_value_after}
 use Rattle.std.proofs.lemmas.Fmt.{decimal-digits_value, digits_decimal, digits_value-decimal, decimal_nonempty, decimal_digit, decimal_step}
 use Rattle.std.proofs.lemmas.Bool.Decides.{nat_tests}
 use Rattle.gal_io.specs.Number.{is_number, number_up_to}
-use Rattle.lemmas.proofs.Numbers.{decimal_digits as own, no_zero_first}
+use Rattle.lemmas.proofs.Numbers.{bounded_twice, decimal_digits as own, no_zero_first}
 
 -- further digits make a number no less
 value_at_least : (value : ℕ) (digits : List ℕ) → value ≤ digits_value_after 10 value digits
@@ -40,23 +40,31 @@ decimal_is_numeral number fits = record {
   unpadded = no_zero_first number fits;
 }
 
-found_in : (is : Bool) (value most number : ℕ) → option_and_then (λ number. cond (leb number most) (Some number) None) (cond is (Some value) None) ≡ Some number → (is ≡ true) × (value ≡ number)
-found_in true value most number h = grind (arith, nat_tests)
-found_in false value most number h = cc
+pub decimal_digits : (number : ℕ) → number < 2 ^ 64 → all_ascii_digits (decimal number) ≡ true
+decimal_digits number fits = digits_decimal own number fits
+
+pub number_small : (most number : ℕ) (text : List ℕ) → number_up_to most text ≡ Some number → number ≤ most
+number_small most number text h = (bounded_twice (is_number text) (digits_value 10 text) most number h).2
 
 -- a number that is read is printed as it stood
 pub printed_again : (text : List ℕ) (most number : ℕ) → number_up_to most text ≡ Some number → number < 2 ^ 64 → text ≡ decimal number
 printed_again text most number h fits =
-    let found = found_in (is_number text) (digits_value 10 text) most number h in
+    let found = bounded_twice (is_number text) (digits_value 10 text) most number h in
     let numeral = is_numeral text found.0 in
     sym (ap decimal (sym found.1) ∙ decimal-digits_value own text numeral.digits numeral.some numeral.unpadded (omega (arith, found.1)))
 
+pub number_printed : (most number : ℕ) (text : List ℕ) → number_up_to most text ≡ Some number → most < 2 ^ 64 → text ≡ decimal number
+number_printed most number text h fits = let small = number_small most number text h in printed_again text most number h (omega arith)
+
 -- a number that is printed is read again
-pub read_again : (text : List ℕ) (most number : ℕ) → text ≡ decimal number → number ≤ most → most < 2 ^ 64 → number_up_to most text ≡ Some number
-read_again text most number h small fits =
+pub number_back : (most number : ℕ) → number ≤ most → most < 2 ^ 64 → number_up_to most (decimal number) ≡ Some number
+number_back most number small fits =
     let is : is_number (decimal number) ≡ true = numeral_is (decimal number) (decimal_is_numeral number (omega arith)) in
     let value : digits_value 10 (decimal number) ≡ number = digits_value-decimal own number (omega arith) in
-    rw (h, is, value) (grind (arith, nat_tests))
+    rw (is, value) (grind (arith, nat_tests))
+
+pub read_again : (text : List ℕ) (most number : ℕ) → text ≡ decimal number → number ≤ most → most < 2 ^ 64 → number_up_to most text ≡ Some number
+read_again text most number h small fits = ap (number_up_to most) h ∙ number_back most number small fits
 
 -- ## Digits that are written
 

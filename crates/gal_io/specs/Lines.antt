@@ -1,5 +1,5 @@
 -- The lines of a text.
-use Rattle.std.specs.Prelude.{ℕ, Bool, true, ◌-◌, ◌==◌, List, [], ◌∷◌, length, take, map, slice_index, if◌then◌else◌}
+use Rattle.std.specs.Prelude.{ℕ, Bool, true, ◌-◌, ◌==◌, List, [], ◌∷◌, ◌++◌, length, take, map, slice_index, if◌then◌else◌}
 use Rattle.std.specs.List.{onto_first}
 
 -- every line ends with LF
@@ -28,3 +28,11 @@ is_skipped (first ∷ rest) = first == 35
 abbrev pub told_of : List (List ℕ) → List (List ℕ)
 told_of [] = []
 told_of (line ∷ ls) = if is_skipped line then told_of ls else line ∷ told_of ls
+
+-- lines, each with its end
+abbrev pub lined : List (List ℕ) → List ℕ
+lined [] = []
+lined (l ∷ ls) = l ++ (line_end ++ lined ls)
+
+abbrev pub is_space : ℕ → Bool
+is_space byte = byte == 32

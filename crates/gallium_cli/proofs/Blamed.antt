@@ -10,8 +10,7 @@ use Rattle.resource_limits.specs.declared.limits.Limits.{Limits}
 use Rattle.gallium_cli.specs.declared.status.Status.{Status}
 use Rattle.gallium_cli.specs.declared.status.Status.TheVariants as statuses
 use Rattle.gallium_cli.specs.declared.refusal.Refusal.{Refusal}
-use Rattle.gallium_cli.specs.declared.refusal.Refusal.TheVariants.{Usage, TooLong, ReadFault, WriteFault, SwitchFault}
-use Rattle.gallium_cli.specs.declared.refusal.Refusal.TheVariants.{ClassTooLong, ClassReadFault}
+use Rattle.gallium_cli.specs.declared.refusal.Refusal.TheVariants.{Usage, TooLong, ReadFault, WriteFault, SwitchFault, ClassTooLong, ClassReadFault}
 use Rattle.gallium_cli.specs.Lines.{status_of}
 use Rattle.gallium_cli.specs.Roles.{Role, legal_split, true_report, Gate, File, Choice, SplitFile, ReportFile, Composed}
 use Rattle.gallium_cli.specs.Chains.{IsClassRefused, IsFirstClassRefused, IsUncomposed, IsWired, class_files}
@@ -74,18 +73,10 @@ IsTooLong _ = ⊥
 
 pub long_blames : (refusal : Refusal) (f f' : FilesState) → IsTooLong (status_of refusal)
     → IsBlaming refusal f'.overlong_name f f' (Rose f.overlong f'.overlong)
-long_blames (TooLong blamed) f f' is = record {
-  file = λ role name h. (h.1.2, h.1.1);
-  choice = λ q allowed shrink h. h;
-  class = λ name h. absurd h;
-  chain = λ chain ms h. h;
-}
-long_blames (ClassTooLong file) f f' is = record {
-  file = λ role name h. absurd h.0;
-  choice = λ q allowed shrink h. h;
-  class = λ name h. (h.1.2, h.1.1);
-  chain = λ chain ms h. h;
-}
+long_blames (TooLong blamed) f f' is =
+    record { file = λ role name h. (h.1.2, h.1.1); choice = λ q allowed shrink h. h; class = λ name h. absurd h; chain = λ chain ms h. h }
+long_blames (ClassTooLong file) f f' is =
+    record { file = λ role name h. absurd h.0; choice = λ q allowed shrink h. h; class = λ name h. (h.1.2, h.1.1); chain = λ chain ms h. h }
 long_blames _ f f' is = absurd is
 
 abbrev pub IsReadFault : Status → Type 0
@@ -94,50 +85,30 @@ IsReadFault _ = ⊥
 
 pub fault_blames : (refusal : Refusal) (f f' : FilesState) → IsReadFault (status_of refusal)
     → IsBlaming refusal f'.fault_name f f' (Rose f.faults f'.faults)
-fault_blames (ReadFault blamed) f f' is = record {
-  file = λ role name h. (h.1.1, h.1.0);
-  choice = λ q allowed shrink h. h;
-  class = λ name h. absurd h;
-  chain = λ chain ms h. h;
-}
-fault_blames (ClassReadFault file) f f' is = record {
-  file = λ role name h. absurd h.0;
-  choice = λ q allowed shrink h. h;
-  class = λ name h. (h.1.1, h.1.0);
-  chain = λ chain ms h. h;
-}
+fault_blames (ReadFault blamed) f f' is =
+    record { file = λ role name h. (h.1.1, h.1.0); choice = λ q allowed shrink h. h; class = λ name h. absurd h; chain = λ chain ms h. h }
+fault_blames (ClassReadFault file) f f' is =
+    record { file = λ role name h. absurd h.0; choice = λ q allowed shrink h. h; class = λ name h. (h.1.1, h.1.0); chain = λ chain ms h. h }
 fault_blames _ f f' is = absurd is
 
 -- ## What no gate is refused for
 
 -- the words, out or the switch
-abbrev pub IsOfNoGate : Refusal → Type 0
-IsOfNoGate Usage = Unit {0}
-IsOfNoGate WriteFault = Unit {0}
-IsOfNoGate SwitchFault = Unit {0}
+abbrev pub IsOfNoGate : Status → Type 0
+IsOfNoGate statuses.Usage = Unit {0}
+IsOfNoGate statuses.WriteFault = Unit {0}
+IsOfNoGate statuses.SwitchFault = Unit {0}
 IsOfNoGate _ = ⊥
 
-none_blames : (refusal : Refusal) (f f' : FilesState) → IsOfNoGate refusal → IsBlaming refusal None f f' ⊥
-none_blames Usage f f' is = record {
-  file = λ role name h. absurd h.0;
-  choice = λ q allowed shrink h. h;
-  class = λ name h. absurd h;
-  chain = λ chain ms h. h;
-}
-none_blames WriteFault f f' is = record {
-  file = λ role name h. absurd h.0;
-  choice = λ q allowed shrink h. h;
-  class = λ name h. absurd h;
-  chain = λ chain ms h. h;
-}
-none_blames SwitchFault f f' is = record {
-  file = λ role name h. absurd h.0;
-  choice = λ q allowed shrink h. h;
-  class = λ name h. absurd h;
-  chain = λ chain ms h. h;
-}
+none_blames : (refusal : Refusal) (f f' : FilesState) → IsOfNoGate (status_of refusal) → IsBlaming refusal None f f' ⊥
+none_blames Usage f f' is =
+    record { file = λ role name h. absurd h.0; choice = λ q allowed shrink h. h; class = λ name h. absurd h; chain = λ chain ms h. h }
+none_blames WriteFault f f' is =
+    record { file = λ role name h. absurd h.0; choice = λ q allowed shrink h. h; class = λ name h. absurd h; chain = λ chain ms h. h }
+none_blames SwitchFault f f' is =
+    record { file = λ role name h. absurd h.0; choice = λ q allowed shrink h. h; class = λ name h. absurd h; chain = λ chain ms h. h }
 none_blames _ f f' is = absurd is
 
-pub no_gate : (refusal : Refusal) (gates : List Gate) (f f' : FilesState) → IsOfNoGate refusal
+pub no_gate : (refusal : Refusal) (gates : List Gate) (f f' : FilesState) → IsOfNoGate (status_of refusal)
     → IsFirstRefused refusal gates f f' → ⊥
 no_gate refusal gates f f' is first = (blamed_in refusal None f f' ⊥ (none_blames refusal f f' is) gates first).0

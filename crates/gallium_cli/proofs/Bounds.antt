@@ -1,6 +1,5 @@
 -- What the sizes of a source bound in its flat program.
-use Rattle.std.proofs.Common.{◌≡◌, ◌≤◌, ◌<◌, ◌^◌, ◌==◌, ℕ, true, nat_le, List, [], ◌∷◌, length, map, slice_index}
-use Rattle.std.proofs.Common.{refl, sym, ap, subst, arith}
+use Rattle.std.proofs.Common.{◌≡◌, ◌≤◌, ◌<◌, ◌^◌, ◌==◌, ℕ, true, nat_le, List, [], ◌∷◌, length, map, slice_index, refl, sym, ap, subst, arith}
 use Rattle.std.specs.Prelude.{All}
 use Rattle.std.specs.List.{list_all}
 use Rattle.std.proofs.lemmas.Bool.{leb-true, eqb-true, true≢false, and_from}
@@ -14,8 +13,7 @@ use Rattle.element_lang.specs.Surface.{Declared, unplaced_decl, named_decl}
 use Rattle.element_lang.specs.Accepted.{IsSource}
 use Rattle.element_lang.specs.Sizes.{entries_of, entries_in}
 use Rattle.element_lang.specs.Rules as rules
-use Rattle.element_lang.specs.Rules.{are_widths, same_widths, is_width, is_good_object, are_good_objects, is_good_body}
-use Rattle.element_lang.specs.Rules.{declared_by}
+use Rattle.element_lang.specs.Rules.{are_widths, same_widths, is_width, is_good_object, are_good_objects, is_good_body, declared_by}
 use Rattle.flat_ir.specs.Program.{Program}
 use Rattle.flat_ir.specs.WellFormed.{IsWellFormed}
 use Rattle.flatten.specs.Flatten.{flat_of}
@@ -32,69 +30,47 @@ no_widths : (ws : List ℕ) → (length ws == 0) ≡ true → sum_of ws ≤ 128
 no_widths [] h = omega arith
 no_widths (w ∷ ws) h = let none = eqb-true (length (w ∷ ws)) 0 h in absurd (omega arith)
 
-sum_of_same : (xs ys : List ℕ) → same_widths xs ys ≡ true → sum_of xs ≡ sum_of ys
-sum_of_same [] [] h = refl
-sum_of_same [] (y ∷ ys) h = absurd (true≢false (sym h))
-sum_of_same (x ∷ xs) [] h = absurd (true≢false (sym h))
-sum_of_same (x ∷ xs) (y ∷ ys) h =
-    let one = eqb-true x y (and_first (x == y) (same_widths xs ys) h) in
-    let others = sum_of_same xs ys (and_second (x == y) (same_widths xs ys) h) in
-    omega arith
+same_one : (ws : List ℕ) (w : ℕ) → same_widths ws (w ∷ []) ≡ true → ws ≡ w ∷ []
+same_one [] w same = absurd (true≢false (sym same))
+same_one (x ∷ []) w same = ap (λ (n : ℕ). n ∷ []) (eqb-true x w (and_first (x == w) (same_widths [] []) same))
+same_one (x ∷ y ∷ ys) w same = absurd (true≢false (sym (and_second (x == w) (same_widths (y ∷ ys) []) same)))
 
-one_width : (ws : List ℕ) (w : ℕ) → same_widths ws (w ∷ []) ≡ true → is_width w ≡ true → sum_of ws ≤ 128
-one_width ws w same wide =
-    let sum = sum_of_same ws (w ∷ []) same in
-    let low = leb-true w 64 (and_second (nat_le 1 w) (nat_le w 64) wide) in
-    omega arith
+one_width : (ws : List ℕ) (w : ℕ) → same_widths ws (w ∷ []) ≡ true → w ≤ 64 → sum_of ws ≤ 128
+one_width ws w same low = subst (λ (k : List ℕ). sum_of k ≤ 128) (sym (same_one ws w same)) (omega arith)
 
 pub fitting_width : (ws : List ℕ) (w : ℕ) → same_widths ws (w ∷ []) ≡ true → is_width w ≡ true → list_all is_width ws ≡ true
-fitting_width [] w same wide = absurd (true≢false (sym same))
-fitting_width (x ∷ []) w same wide =
-    let one = eqb-true x w (and_first (x == w) (same_widths [] []) same) in
-    and_from (is_width x) true (subst (λ n. is_width n ≡ true) (sym one) wide) refl
-fitting_width (x ∷ y ∷ ys) w same wide = absurd (true≢false (sym (and_second (x == w) (same_widths (y ∷ ys) []) same)))
+fitting_width ws w same wide =
+    subst (λ (k : List ℕ). list_all is_width k ≡ true) (sym (same_one ws w same)) (and_from (is_width w) true wide refl)
 
-index_width : (ws : List ℕ) → same_widths ws (32 ∷ []) ≡ true → sum_of ws ≤ 128
-index_width ws same = let sum = sum_of_same ws (32 ∷ []) same in omega arith
+small : (o : ObjectDecl) → o.size ≤ 1048576 → sum_of o.keys ≤ 128 → are_widths o.values ≡ true → IsSmall o
+small o size keys wide =
+    record { size = size; keys = keys; values = small_widths o.values wide; widths = all_widths o.values wide }
 
 -- an object that keeps the rules, with room for so many rows, is small
 small_object : (kind : Kind) (o : ObjectDecl) → is_good_object kind o ≡ true → entries_of kind o ≤ 1048576 → IsSmall o
 small_object Table o h few =
     let widths = and_first _ _ (and_first _ _ (and_first _ _ h)) in
-    let rows = eqb-true o.size (length o.rows) (and_second _ _ (and_first _ _ (and_first _ _ h))) in
-    record {
-      size = omega arith;
-      keys = small_widths o.keys (and_first (are_widths o.keys) _ widths);
-      values = small_widths o.values (and_second _ (are_widths o.values) widths);
-      widths = all_widths o.values (and_second _ (are_widths o.values) widths);
-    }
+    let rows = eqb-true o.size (length o.rows) (and_second _ (o.size == length o.rows) (and_first _ _ (and_first _ _ h))) in
+    small o (omega arith) (small_widths o.keys (and_first (are_widths o.keys) _ widths)) (and_second _ (are_widths o.values) widths)
 small_object Map o h few =
     let widths = and_first _ _ (and_first _ _ (and_first _ _ h)) in
-    record {
-      size = few;
-      keys = small_widths o.keys (and_first (are_widths o.keys) _ widths);
-      values = small_widths o.values (and_second _ (are_widths o.values) widths);
-      widths = all_widths o.values (and_second _ (are_widths o.values) widths);
-    }
+    small o few (small_widths o.keys (and_first (are_widths o.keys) _ widths)) (and_second _ (are_widths o.values) widths)
 small_object Vector o h few =
     let widths = and_first _ _ (and_first _ _ (and_first _ _ h)) in
-    record {
-      size = few;
-      keys = index_width o.keys (and_first (same_widths o.keys (32 ∷ [])) _ widths);
-      values = small_widths o.values (and_second _ (are_widths o.values) widths);
-      widths = all_widths o.values (and_second _ (are_widths o.values) widths);
-    }
+    small o few (one_width o.keys 32 (and_first (same_widths o.keys (32 ∷ [])) _ widths) (omega arith)) (and_second _ (are_widths o.values) widths)
 small_object Int o h few =
     let first = slice_index o.values 0 in
     let sized = and_first _ _ (and_first _ _ h) in
     let one = eqb-true o.size 1 (and_second _ (o.size == 1) sized) in
     let wide = and_first _ _ sized in
     let widths = and_first _ _ wide in
+    let same = and_second _ (same_widths o.values (first ∷ [])) widths in
+    let fits = and_second _ (is_width first) wide in
     record {
       size = omega arith;
       keys = no_widths o.keys (and_first (length o.keys == 0) _ widths);
-      values = one_width o.values first (and_second _ (same_widths o.values (first ∷ [])) widths) (and_second _ (is_width first) wide);
-      widths = fitting_width o.values first (and_second _ (same_widths o.values (first ∷ [])) widths) (and_second _ (is_width first) wide);
+      values = one_width o.values first same (leb-true first 64 (and_second (nat_le 1 first) (nat_le first 64) fits));
+      widths = fitting_width o.values first same fits;
     }
 
 small_objects : (names : List (List ℕ)) (os : List ObjectDecl) → are_good_objects names os ≡ true

@@ -1,6 +1,5 @@
 -- What the chain of a file comes to.
-use Rattle.std.proofs.Common.{◌≡◌, ◌≢◌, ◌≤◌, ◌<◌, ◌+◌, ◌⊎◌, ℕ, List, [], ◌∷◌, length, IsTrue, Some, IfSome}
-use Rattle.std.proofs.Common.{inl, inr, refl, sym, ap, subst, ◌∙◌, arith}
+use Rattle.std.proofs.Common.{◌≡◌, ◌≢◌, ◌≤◌, ◌<◌, ◌+◌, ◌⊎◌, ℕ, List, [], ◌∷◌, length, IsTrue, Some, IfSome, inl, inr, refl, sym, ap, subst, ◌∙◌, arith}
 use Rattle.gal_io.specs.Files.{FilesState}
 use Rattle.gal_io.specs.Sink.{SinkState}
 use Rattle.packet_fields.specs.declared.packet.Packet.{Packet}
@@ -32,14 +31,12 @@ use Rattle.gallium_cli.specs.Call.{work_of}
 use Rattle.gallium_cli.specs.Lines.{status_of}
 use Rattle.gallium_cli.specs.Words.{Chain}
 use Rattle.gallium_cli.specs.Roles.{source, wiring, size_of, gates_of}
-use Rattle.gallium_cli.specs.Loads.{GoesOn, IsFileRefused, IsUnread, raised_by}
-use Rattle.gallium_cli.specs.Chains.{AreClasses, IsFirstClassRefused, IsOneSource, IsUncomposed, IsWired}
-use Rattle.gallium_cli.specs.Chains.{class_files, class_refusal, connected}
+use Rattle.gallium_cli.specs.Loads.{LeavesFiles, IsFileRefused, IsUnread, raised_by}
+use Rattle.gallium_cli.specs.Chains.{AreClasses, IsFirstClassRefused, IsOneSource, IsUncomposed, IsWired, class_files, class_refusal, connected}
 use Rattle.gallium_cli.specs.Answers.{IsAnswer}
 use Rattle.gallium_cli.specs.Causes.{CountsFaults, HasCause, IsFirstRefused, ReadsAll, reads_after}
-use Rattle.gallium_cli.proofs.Counted.{IsNoFileFault, goes_further, goes_still}
+use Rattle.gallium_cli.proofs.Written.{IsNoFileFault, goes_further, goes_still, all_some, gate_ended}
 use Rattle.gallium_cli.proofs.Files.{first_class_later, passed_wiring, told_before}
-use Rattle.gallium_cli.proofs.Written.{all_some, gate_ended}
 
 -- ## The text
 
@@ -60,7 +57,7 @@ chain_unread fault text some is exact found = (
 
 -- what is told of the file of a class leaves the files as they are
 pub class_goes : (refusal : Refusal) (name file : List ℕ) (f f' : FilesState) → IsFileRefused refusal source file f f'
-    → GoesOn (status_of refusal) f f' → GoesOn (status_of (class_refusal refusal name)) f f'
+    → LeavesFiles (status_of refusal) f f' → LeavesFiles (status_of (class_refusal refusal name)) f f'
 class_goes (refusals.Source fault) name file f f' refused goes = goes
 class_goes (refusals.TooLong blamed) name file f f' refused goes = goes
 class_goes (refusals.ReadFault blamed) name file f f' refused goes = goes
@@ -125,7 +122,7 @@ read_some w (name ∷ names) x y z one two = omega arith
 
 -- the file of a chain is refused
 pub wiring_ended : (refusal : Refusal) (w : List ℕ) (f g : FilesState) (p : PortState) (o : SinkState)
-    → IsFileRefused refusal wiring w f g → g.reads ≡ raised_by 1 f.reads → GoesOn (status_of refusal) f g
+    → IsFileRefused refusal wiring w f g → g.reads ≡ raised_by 1 f.reads → LeavesFiles (status_of refusal) f g
     → HasCause refusal (Some (Chain w)) (work_of f g p p o o) × CountsFaults (status_of refusal) (work_of f g p p o o)
 wiring_ended refusal w f g p o refused read goes =
     gate_ended refusal (Chain w) f g p o (inl refused)
@@ -134,12 +131,12 @@ wiring_ended refusal w f g p o refused read goes =
 -- a chain that was read
 pub record IsRead (w : List ℕ) (chain : ChainTold) (f g : FilesState) : Type 0 where
   pub wired : IsWired f.told w chain
-  pub goes : GoesOn statuses.Done f g
+  pub goes : LeavesFiles statuses.Done f g
   pub read : g.reads ≡ raised_by 1 f.reads
 
 pub chain_read : (w : List ℕ) (chain : ChainTold) (f g : FilesState)
     → IfSome (f.told w) (λ text. (length text ≤ size_of wiring) × IsChainText text chain)
-    → GoesOn statuses.Done f g → g.reads ≡ raised_by 1 f.reads → IsRead w chain f g
+    → LeavesFiles statuses.Done f g → g.reads ≡ raised_by 1 f.reads → IsRead w chain f g
 chain_read w chain f g spelled goes read = record { wired = spelled; goes = goes; read = read }
 
 class_gates : (refusal : Refusal) (w : List ℕ) (chain : ChainTold) (f g h : FilesState) → IsRead w chain f g
@@ -153,7 +150,7 @@ class_gates refusal w chain f g h is first = inr (
 pub class_ended : (refusal : Refusal) (w : List ℕ) (chain : ChainTold) (es : List Element) (f g h : FilesState)
     (p : PortState) (o : SinkState) → IsRead w chain f g → es ≡ chain.elements
     → IsFirstClassRefused refusal (class_files es) g h → h.reads ≤ reads_after (class_files es) g.reads
-    → GoesOn (status_of refusal) g h
+    → LeavesFiles (status_of refusal) g h
     → HasCause refusal (Some (Chain w)) (work_of f h p p o o) × CountsFaults (status_of refusal) (work_of f h p p o o)
 class_ended refusal w chain es f g h p o is same first few goes =
     let here = subst (λ (xs : List Element). IsFirstClassRefused refusal (class_files xs) g h) same first in
@@ -170,11 +167,11 @@ class_ended refusal w chain es f g h p o is same first few goes =
 pub record AreRead (w : List ℕ) (chain : ChainTold) (ms : List Tree) (f h : FilesState) : Type 0 where
   pub wired : IsWired f.told w chain
   pub classes : AreClasses f.told chain.elements ms
-  pub goes : GoesOn statuses.Done f h
+  pub goes : LeavesFiles statuses.Done f h
   pub read : h.reads ≡ reads_after (w ∷ class_files chain.elements) f.reads
 
 pub classes_read : (w : List ℕ) (chain : ChainTold) (es : List Element) (ms : List Tree) (f g h : FilesState)
-    → IsRead w chain f g → es ≡ chain.elements → AreClasses g.told es ms → GoesOn statuses.Done g h
+    → IsRead w chain f g → es ≡ chain.elements → AreClasses g.told es ms → LeavesFiles statuses.Done g h
     → h.reads ≡ reads_after (class_files es) g.reads → AreRead w chain ms f h
 classes_read w chain es ms f g h is same are goes read = record {
   wired = is.wired;

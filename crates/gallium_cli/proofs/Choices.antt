@@ -1,6 +1,5 @@
 -- What told files and limits say of the split.
-use Rattle.std.proofs.Common.{◌≡◌, ℕ, Bool, true, false, List, length, Option, Some, None}
-use Rattle.std.proofs.Common.{◌⊎◌, refl, sym, ap, subst, ◌∙◌, inl, inr}
+use Rattle.std.proofs.Common.{◌≡◌, ◌∙◌, ℕ, Bool, true, false, List, length, Option, sym, ap, subst}
 use Rattle.element_lang.specs.Tree.{Tree}
 use Rattle.flat_ir.specs.Program.{Program}
 use Rattle.flat_ir.specs.WellFormed.{IsWellFormed}
@@ -11,28 +10,22 @@ use Rattle.resource_limits.specs.Limits as texts
 use Rattle.resource_limits.specs.declared.limits.Limits.{Limits as Allowed}
 use Rattle.resource_limits.specs.declared.exceeding.Over.{Over}
 use Rattle.resource_limits.specs.Counts.{counts_of}
-use Rattle.resource_limits.specs.Kept.{first_over}
+use Rattle.resource_limits.specs.Kept.{first_excess}
 use Rattle.resource_limits.proofs.Laws.{kept_limits_are_not_exceeded}
 use Rattle.partition.specs.Choice.{IsChosen, IsRefused, IsUnrefused}
 use Rattle.partition.proofs.Laws.{greatest_split_is_one-one}
-use Rattle.gallium_cli.specs.declared.status.Status.TheVariants as statuses
+use Rattle.gallium_cli.specs.declared.refusal.Excess.{Excess}
 use Rattle.gallium_cli.specs.declared.refusal.Refusal.{Refusal}
 use Rattle.gallium_cli.specs.declared.refusal.Refusal.TheVariants.{Exceeded, NoMemory}
 use Rattle.gallium_cli.specs.Lines.{status_of}
-use Rattle.gallium_cli.specs.Roles.{program, limits, legal_split, AreLimits}
+use Rattle.gallium_cli.specs.Roles.{legal_split, AreLimits}
 use Rattle.gallium_cli.specs.Answers.{IsPlan}
 use Rattle.gallium_cli.specs.Splits.{excess_of}
 use Rattle.gallium_cli.specs.Causes.{IsOverLimit}
-use Rattle.gallium_cli.specs.Promises.{IsToldPlan, IsEarlyFault, IsUnlessEarlyFault}
-use Rattle.gallium_cli.proofs.Told.{meet}
+use Rattle.gallium_cli.specs.Promises.{IsToldPlan, IsEarlyFault}
+use Rattle.gallium_cli.proofs.Told.{meet, no_some, one_some}
 
 -- ## One split and one refusal
-
-no_some : (x : Option Over) (over : Over) → x ≡ None → x ≡ Some over → ⊥
-no_some x over none some = cc
-
-one_some : (x : Option Over) (over other : Over) → x ≡ Some over → x ≡ Some other → over ≡ other
-one_some x over other one two = cc
 
 -- where a split is chosen nothing is refused
 not_both : (f : Program) (allowed : Allowed) (shrink : Bool) (split : List Part) (over : Over)
@@ -40,7 +33,7 @@ not_both : (f : Program) (allowed : Allowed) (shrink : Bool) (split : List Part)
     → IsRefused f allowed shrink over → ⊥
 not_both f allowed false split over formed chosen refused =
     let same = greatest_split_is_one-one f (length f.code) true refused.split split formed refused.greatest chosen.greatest in
-    let first : List Part → Option Over = λ parts. first_over (counts_of f parts allowed.writeback) allowed in
+    let first : List Part → Option Over = λ parts. first_excess (counts_of f parts allowed.writeback) allowed in
     no_some (first split) over ((kept_limits_are_not_exceeded (counts_of f split allowed.writeback) allowed).1 chosen.keeps)
     (sym (ap first same) ∙ refused.exceeds)
 not_both f allowed true split over formed chosen refused = refused
@@ -50,17 +43,11 @@ one_over : (f : Program) (allowed : Allowed) (shrink : Bool) (over other : Over)
     → IsWellFormed f → IsRefused f allowed shrink over → IsRefused f allowed shrink other → over ≡ other
 one_over f allowed false over other formed refused also =
     let same = greatest_split_is_one-one f (length f.code) true also.split refused.split formed also.greatest refused.greatest in
-    let first : List Part → Option Over = λ parts. first_over (counts_of f parts allowed.writeback) allowed in
+    let first : List Part → Option Over = λ parts. first_excess (counts_of f parts allowed.writeback) allowed in
     one_some (first refused.split) over other refused.exceeds (sym (ap first same) ∙ also.exceeds)
 one_over f allowed true over other formed refused also = absurd refused
 
 -- ## One middlebox and one record of limits
-
-one_table : (x : Option Members) (table other : Members) → x ≡ Some table → x ≡ Some other → table ≡ other
-one_table x table other one two = cc
-
-one_number : (x : Option ℕ) (n other : ℕ) → x ≡ Some n → x ≡ Some other → n ≡ other
-one_number x n other one two = cc
 
 equal_limits : (a b : Allowed) → a.table_bits ≡ b.table_bits → a.stages ≡ b.stages → a.writeback ≡ b.writeback
     → a.transfer_bytes ≡ b.transfer_bytes → a ≡ b
@@ -72,13 +59,13 @@ equal_limits a b bits stages writeback bytes =
 
 one_record : (text : List ℕ) (allowed other : Allowed) → AreLimits text allowed → AreLimits text other → allowed ≡ other
 one_record text allowed other one two =
-    let same = one_table (texts.document text) one.0.0 two.0.0 one.0.1 two.0.1 in
+    let same = one_some (texts.document text) one.0.0 two.0.0 one.0.1 two.0.1 in
     let there = subst (λ (table : Members). texts.HasLimits table other) (sym same) two.0.2 in
     equal_limits allowed other
-    (one_number _ allowed.table_bits other.table_bits one.0.2.0 there.0)
-    (one_number _ allowed.stages other.stages one.0.2.1 there.1)
-    (one_number _ allowed.writeback other.writeback one.0.2.2 there.2)
-    (one_number _ allowed.transfer_bytes other.transfer_bytes one.0.2.3 there.3)
+    (one_some _ allowed.table_bits other.table_bits one.0.2.0 there.0)
+    (one_some _ allowed.stages other.stages one.0.2.1 there.1)
+    (one_some _ allowed.writeback other.writeback one.0.2.2 there.2)
+    (one_some _ allowed.transfer_bytes other.transfer_bytes one.0.2.3 there.3)
 
 -- ## The plan that is told, and the one that a call found
 
@@ -99,13 +86,6 @@ refused_there : (m m' : Tree) (allowed allowed' : Allowed) (shrink : Bool) (over
 refused_there m m' allowed allowed' shrink over same refused =
     subst (λ (n : Tree). IsRefused (flat_of n) allowed' shrink over) same.middlebox
     (subst (λ (a : Allowed). IsRefused (flat_of m) a shrink over) same.limits refused)
-
-refused_back : (m m' : Tree) (allowed allowed' : Allowed) (shrink : Bool) (over : Over)
-    → IsSamePlan m m' allowed allowed' → IsRefused (flat_of m') allowed' shrink over
-    → IsRefused (flat_of m) allowed shrink over
-refused_back m m' allowed allowed' shrink over same refused =
-    subst (λ (n : Tree). IsRefused (flat_of n) allowed shrink over) (sym same.middlebox)
-    (subst (λ (a : Allowed). IsRefused (flat_of m') a shrink over) (sym same.limits) refused)
 
 -- so what a split text is to spell is one thing
 pub same_role : (told : List ℕ → Option (List ℕ)) (s l : List ℕ) (m m' : Tree) (allowed allowed' : Allowed)
@@ -133,29 +113,18 @@ pub open_over : (refusal : Refusal) (told : List ℕ → Option (List ℕ)) (s l
     → IsOverLimit refusal s l shrink told → IsEarlyFault (status_of refusal)
 open_over (Exceeded excess) told s l shrink m allowed asked none (m', allowed', found, (over, refused, is)) =
     let same = same_plan told s l m m' allowed allowed' asked found in
-    none over (refused_back m m' allowed allowed' shrink over same refused)
+    let back : IsSamePlan m' m allowed' allowed = record { middlebox = sym same.middlebox; limits = sym same.limits } in
+    none over (refused_there m' m allowed' allowed shrink over back refused)
 open_over NoMemory told s l shrink m allowed asked none over = tt
 open_over _ told s l shrink m allowed asked none (m', allowed', found, never) = absurd never
 
--- a choice is refused with one status, or for want of memory
-pub over_status : (refusal : Refusal) (told : List ℕ → Option (List ℕ)) (s l : List ℕ) (shrink : Bool)
-    → IsOverLimit refusal s l shrink told → IsUnlessEarlyFault statuses.Exceeded (status_of refusal)
-over_status (Exceeded excess) told s l shrink over = inl refl
-over_status NoMemory told s l shrink over = inr tt
-over_status _ told s l shrink (m', allowed', found, never) = absurd never
-
--- where the told plan exceeds a limit first, that one is told, or there was no memory
-pub same_excess : (refusal : Refusal) (told : List ℕ → Option (List ℕ)) (s l : List ℕ) (shrink : Bool) (m : Tree)
-    (allowed : Allowed) (over : Over) → IsToldPlan told s l m allowed
-    → IsRefused (flat_of m) allowed shrink over → IsOverLimit refusal s l shrink told
-    → (Exceeded (excess_of m.objects over) ≡ refusal) ⊎ IsEarlyFault (status_of refusal)
-same_excess (Exceeded excess) told s l shrink m allowed over asked refused (m', allowed', found, (other, also, is)) =
+-- where the told plan exceeds a limit first, that one is told
+pub same_excess : (excess : Excess) (told : List ℕ → Option (List ℕ)) (s l : List ℕ) (shrink : Bool) (m : Tree)
+    (allowed : Allowed) (over : Over) → IsToldPlan told s l m allowed → IsRefused (flat_of m) allowed shrink over
+    → IsOverLimit (Exceeded excess) s l shrink told → Exceeded (excess_of m.objects over) ≡ Exceeded excess
+same_excess excess told s l shrink m allowed over asked refused (m', allowed', found, (other, also, is)) =
     let same = same_plan told s l m m' allowed allowed' asked found in
     let first = one_over (flat_of m') allowed' shrink over other found.program.bounded.formed
     (refused_there m m' allowed allowed' shrink over same refused) also in
-    inl (
     ap (λ (n : Tree). Exceeded (excess_of n.objects over)) same.middlebox
     ∙ ap (λ (o : Over). Exceeded (excess_of m'.objects o)) first ∙ sym (ap Exceeded is)
-    )
-same_excess NoMemory told s l shrink m allowed over asked refused found = inr tt
-same_excess _ told s l shrink m allowed over asked refused (m', allowed', found, never) = absurd never

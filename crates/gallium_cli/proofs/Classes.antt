@@ -1,7 +1,6 @@
 -- The middleboxes of elements, one after the other.
-use Rattle.std.proofs.Common.{◌≡◌, ◌<◌, ◌≤◌, ◌+◌, ◌^◌, ℕ, suc, List, [], ◌∷◌, ◌++◌, ◌⊎◌, inl, inr, map, length, take, get_or}
-use Rattle.std.proofs.Common.{Option, Some, IfSome, refl, sym, ap, subst, ◌∙◌, append_assoc, length-append, arith}
-use Rattle.std.proofs.Common.{Result, Ok, Err, IfOk, IfErr}
+use Rattle.std.proofs.Common.{◌≡◌, ◌<◌, ◌≤◌, ◌+◌, ◌^◌, ℕ, suc, List, [], ◌∷◌, ◌++◌, ◌⊎◌, inl, inr, map, length, take, get_or, Option, Some, IfSome, refl, sym}
+use Rattle.std.proofs.Common.{ap, subst, ◌∙◌, append_assoc, length-append, arith, Result, Ok, Err, IfOk, IfErr}
 use Rattle.std.specs.Prelude.{slice_get, not, OnOk}
 use Rattle.std.specs.List.{All, AllByRecursion as Each}
 use Rattle.std.specs.Str.{bytes_eq}
@@ -17,9 +16,9 @@ use Rattle.gallium_cli.specs.declared.status.Status.TheVariants as statuses
 use Rattle.gallium_cli.specs.declared.refusal.Refusal.{Refusal}
 use Rattle.gallium_cli.specs.declared.refusal.Refusal.TheVariants.{NoMemory}
 use Rattle.gallium_cli.specs.Roles.{source, size_of, IsFirst, IsGood, IsOnlySource}
-use Rattle.gallium_cli.specs.Loads.{GoesOn, raised_by}
-use Rattle.gallium_cli.specs.Chains.{firsts, file_of, class_files, IsPlaceOf, AreClasses, MayReadNext, ReadsNext}
-use Rattle.gallium_cli.specs.Chains.{IsClassRefused, IsFirstClassRefused, IsNextRefused}
+use Rattle.gallium_cli.specs.Loads.{LeavesFiles, raised_by}
+use Rattle.gallium_cli.specs.Chains.{firsts, file_of, class_files, IsPlaceOf, AreClasses, MayReadNext, ReadsNext, IsClassRefused, IsFirstClassRefused}
+use Rattle.gallium_cli.specs.Chains.{IsNextRefused}
 use Rattle.gallium_cli.specs.Causes.{reads_after}
 use Rattle.gallium_cli.proofs.Files.{class_later, told_before}
 use Rattle.gallium_cli.proofs.Firsts.{files_begin, files_known, files_new, placed_among, none_among, place_here, no_place_here}
@@ -173,7 +172,7 @@ no_memory _ es n f h is lt = cc
 
 -- where there is no middlebox of the next element, the first file is refused that isn't good
 pub next_class_refused : (refusal : Refusal) (es : List Element) (n : ℕ) (ms : List Tree) (f g h : FilesState)
-    → n < length es → AreClasses f.told (take n es) ms → GoesOn statuses.Done f g
+    → n < length es → AreClasses f.told (take n es) ms → LeavesFiles statuses.Done f g
     → IsNextRefused refusal (class_files (take n es)) (class_files (take (n + 1) es)) g h
     → IsFirstClassRefused refusal (class_files es) f h
 next_class_refused refusal es n ms f g h lt are goes (inl memory) = no_memory refusal es n f h memory lt
@@ -286,7 +285,7 @@ few_next es n x y z fits is (inr (name, next, read)) =
 -- ## One more that is known
 
 pub classes_next : (f g : FilesState) (es : List Element) (known now : List Middlebox) (m : Middlebox)
-    → now ≡ known ++ m ∷ [] → GoesOn statuses.Done f g
+    → now ≡ known ++ m ∷ [] → LeavesFiles statuses.Done f g
     → AreClasses g.told (take (length known + 1) es) (map tree known ++ tree m ∷ [])
     → AreClasses f.told (take (length now) es) (map tree now)
 classes_next f g es known now m is goes are =

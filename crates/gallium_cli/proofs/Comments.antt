@@ -1,7 +1,6 @@
 -- Which lines of a text are skipped where it is read as a split, and which aren't.
-use Rattle.std.proofs.Common.{◌≡◌, ℕ, zero, suc, ◌+◌, ◌-◌, ◌<◌, Bool, true, false, not, cond, eqb, leb, List, []}
-use Rattle.std.proofs.Common.{◌∷◌, ◌++◌, length, take}
-use Rattle.std.proofs.Common.{◌%◌, ◌/◌, ◌==◌, map, refl, sym, ap, ◌∙◌, arith, append_assoc}
+use Rattle.std.proofs.Common.{◌≡◌, ℕ, zero, suc, ◌+◌, ◌-◌, ◌<◌, Bool, true, false, not, cond, eqb, leb, List, [], ◌∷◌, ◌++◌, length, take, ◌%◌, ◌/◌, ◌==◌, map}
+use Rattle.std.proofs.Common.{refl, sym, ap, ◌∙◌, arith, append_assoc}
 use Rattle.std.specs.List.{list_all, onto_first}
 use Rattle.std.specs.Fmt.{decimal, digits, digits_onto, digit_glyph}
 use Rattle.std.proofs.lemmas.Bool.{and_parts, leb-true, not-true}
@@ -33,46 +32,29 @@ glyph_by false d = grind (arith, nat_tests)
 high_glyph : (d : ℕ) → is_high (digit_glyph false d) ≡ true
 high_glyph d = glyph_by _ d
 
-high_more : (d : ℕ) (acc : List ℕ) → list_all is_high acc ≡ true → list_all is_high (digit_glyph false d ∷ acc) ≡ true
-high_more d acc h = rw (high_glyph d) h
+-- one byte at least, and each is a digit or above digits
+abbrev AreDigits : List ℕ → Type 0
+AreDigits ds = (list_all is_high ds ≡ true) × (0 < length ds)
 
-high_by : (t : Bool) (xs ys : List ℕ) → list_all is_high xs ≡ true → list_all is_high ys ≡ true
-    → list_all is_high (cond t xs ys) ≡ true
-high_by true xs ys one other = one
-high_by false xs ys one other = other
+one_more : (d : ℕ) (acc : List ℕ) → list_all is_high acc ≡ true → AreDigits (digit_glyph false d ∷ acc)
+one_more d acc h = (rw (high_glyph d) h, omega arith)
 
-high_onto : (k n : ℕ) (acc : List ℕ) → list_all is_high acc ≡ true
-    → list_all is_high (digits_onto k 10 false n acc) ≡ true
-high_onto zero n acc h = h
-high_onto (suc k) n acc h =
+digits_by : (t : Bool) (xs ys : List ℕ) → AreDigits xs → AreDigits ys → AreDigits (cond t xs ys)
+digits_by true xs ys one other = one
+digits_by false xs ys one other = other
+
+digits_before : (k n : ℕ) (acc : List ℕ) → list_all is_high acc ≡ true → AreDigits (digits_onto (suc k) 10 false n acc)
+digits_before zero n acc h =
     let more = digit_glyph false (n % 10) ∷ acc in
-    high_by (n / 10 == 0) more (digits_onto k 10 false (n / 10) more) (high_more (n % 10) acc h)
-    (high_onto k (n / 10) more (high_more (n % 10) acc h))
-
-some_by : (t : Bool) (xs ys : List ℕ) → 0 < length xs → 0 < length ys → 0 < length (cond t xs ys)
-some_by true xs ys one other = one
-some_by false xs ys one other = other
-
-some_onto : (k n : ℕ) (acc : List ℕ) → 0 < length acc → 0 < length (digits_onto k 10 false n acc)
-some_onto zero n acc h = h
-some_onto (suc k) n acc h =
+    digits_by (n / 10 == 0) more more (one_more (n % 10) acc h) (one_more (n % 10) acc h)
+digits_before (suc k) n acc h =
     let more = digit_glyph false (n % 10) ∷ acc in
-    some_by (n / 10 == 0) more (digits_onto k 10 false (n / 10) more)
-    (omega arith) (some_onto k (n / 10) more (omega arith))
+    let one = one_more (n % 10) acc h in
+    digits_by (n / 10 == 0) more (digits_onto (suc k) 10 false (n / 10) more) one (digits_before k (n / 10) more one.0)
 
-some_digits : (k n : ℕ) → 0 < length (digits_onto (suc k) 10 false n [])
-some_digits k n =
-    let one = digit_glyph false (n % 10) ∷ [] in
-    some_by (n / 10 == 0) one (digits_onto k 10 false (n / 10) one)
-    (omega arith) (some_onto k (n / 10) one (omega arith))
-
-high_decimal : (n : ℕ) → list_all is_high (decimal n) ≡ true
+are_digits : (n : ℕ) → AreDigits (decimal n)
 unfolding digits
-high_decimal n = high_onto 64 n [] refl
-
-some_decimal : (n : ℕ) → 0 < length (decimal n)
-unfolding digits
-some_decimal n = some_digits 63 n
+are_digits n = digits_before 63 n [] refl
 
 high_unended : (xs : List ℕ) → list_all is_high xs ≡ true → IsUnended xs
 high_unended [] h = refl
@@ -83,25 +65,40 @@ high_unended (x ∷ xs) h =
     rw on (high_unended xs parts.1)
 
 pub decimal_unended : (n : ℕ) → IsUnended (decimal n)
-decimal_unended n = high_unended (decimal n) (high_decimal n)
+decimal_unended n = high_unended (decimal n) (are_digits n).0
 
 -- ## Lines
 
--- bytes of one line, and its end
-pub record EndsLine (text : List ℕ) : Type 0 where
-  pub line : List ℕ
-  pub unended : IsUnended line
-  pub is : text ≡ line ++ (10 ∷ [])
+-- a text that ends no line
+pub record Piece : Type 0 where
+  pub text : List ℕ
+  pub unended : IsUnended text
 
-pub just_ended : EndsLine (10 ∷ [])
-just_ended = record { line = []; unended = refl; is = refl }
+abbrev pub piece : (text : List ℕ) → IsUnended text → Piece
+piece text h = record { text = text; unended = h }
 
-pub in_front : (front text : List ℕ) → IsUnended front → EndsLine text → EndsLine (front ++ text)
-in_front front text h e = record {
-  line = front ++ e.line;
-  unended = unended front e.line h e.unended;
-  is = ap (λ t. front ++ t) e.is ∙ sym (append_assoc front e.line (10 ∷ []));
-}
+abbrev pub number : ℕ → Piece
+number n = piece (decimal n) (decimal_unended n)
+
+abbrev pub space : Piece
+space = piece (32 ∷ []) refl
+
+-- pieces, one after the other, and what comes behind them
+abbrev pub joined : List Piece → List ℕ → List ℕ
+joined [] last = last
+joined (p ∷ ps) last = p.text ++ joined ps last
+
+pub joined_unended : (ps : List Piece) (last : Piece) → IsUnended (joined ps last.text)
+joined_unended [] last = last.unended
+joined_unended (p ∷ ps) last = unended p.text (joined ps last.text) p.unended (joined_unended ps last)
+
+-- the bytes of one line, and its end
+joined_line : (ps : List Piece) → joined ps (10 ∷ []) ≡ joined ps [] ++ (10 ∷ [])
+joined_line [] = refl
+joined_line (p ∷ ps) = ap (λ t. p.text ++ t) (joined_line ps) ∙ sym (append_assoc p.text (joined ps []) (10 ∷ []))
+
+line_unended : (ps : List Piece) → IsUnended (joined ps [])
+line_unended ps = joined_unended ps (piece [] refl)
 
 fed_ended : (line rest : List ℕ) → IsUnended line → fed_lines (line ++ (10 ∷ rest)) ≡ line ∷ fed_lines rest
 fed_ended [] rest h = refl
@@ -131,11 +128,11 @@ cut_comment false n line = refl
 skip_one : (line : List ℕ) (ls : List (List ℕ)) → is_skipped line ≡ true → told_of (line ∷ ls) ≡ told_of ls
 skip_one line ls h = rw h refl
 
-pub comment : (text : List ℕ) → EndsLine text → IsSkipped (35 ∷ text)
-comment text e = λ rest.
-    let whole : 35 ∷ text ≡ (35 ∷ e.line) ++ (10 ∷ []) = ap (λ (t : List ℕ). 35 ∷ t) e.is in
-    ap (λ (t : List ℕ). told_of (lines (t ++ rest))) whole ∙ ap told_of (lines_ended (35 ∷ e.line) rest e.unended)
-    ∙ skip_one (without_return (35 ∷ e.line)) (lines rest) (cut_comment _ (length (35 ∷ e.line) - 1) e.line)
+pub comment : (ps : List Piece) → IsSkipped (35 ∷ joined ps (10 ∷ []))
+comment ps = λ rest.
+    let line : List ℕ = 35 ∷ joined ps [] in
+    ap (λ (t : List ℕ). told_of (lines ((35 ∷ t) ++ rest))) (joined_line ps) ∙ ap told_of (lines_ended line rest (line_unended ps))
+    ∙ skip_one (without_return line) (lines rest) (cut_comment _ (length line - 1) (joined ps []))
 
 -- ## Lines that are told
 
@@ -167,30 +164,29 @@ whole_told a b line rest other h told =
     ∙ ap (λ (ls : List (List ℕ)). first ∷ ls) told ∙ sym cut
 
 -- one line that begins with no `#` and has more than one byte
-pub told_line : (a b : ℕ) (text : List ℕ) → eqb a 35 ≡ false → goes_on a ≡ true → goes_on b ≡ true → EndsLine text
-    → IsTold (a ∷ b ∷ text)
-told_line a b text other on next e = λ rest told.
-    let whole : a ∷ b ∷ text ≡ (a ∷ b ∷ e.line) ++ (10 ∷ []) = ap (λ (t : List ℕ). a ∷ b ∷ t) e.is in
-    let all : IsUnended (a ∷ b ∷ e.line) = rw (on, next) e.unended in
-    ap (λ (t : List ℕ). told_of (lines (t ++ rest))) whole ∙ whole_told a b e.line rest other all told
+pub told_line : (a b : ℕ) (ps : List Piece) → eqb a 35 ≡ false → goes_on a ≡ true → goes_on b ≡ true
+    → IsTold (a ∷ b ∷ joined ps (10 ∷ []))
+told_line a b ps other on next = λ rest told.
+    let whole : a ∷ b ∷ joined ps (10 ∷ []) ≡ (a ∷ b ∷ joined ps []) ++ (10 ∷ []) =
+    ap (λ (t : List ℕ). a ∷ b ∷ t) (joined_line ps) in
+    let all : IsUnended (a ∷ b ∷ joined ps []) = rw (on, next) (line_unended ps) in
+    ap (λ (t : List ℕ). told_of (lines (t ++ rest))) whole ∙ whole_told a b (joined ps []) rest other all told
     ∙ ap (λ (t : List ℕ). lines (t ++ rest)) (sym whole)
 
 high_one : (a : ℕ) → is_high a ≡ true → (eqb a 35 ≡ false) × (goes_on a ≡ true)
 high_one a h = let above = leb-true 48 a h in (grind (arith, nat_tests), grind (arith, nat_tests))
 
-number_first : (ds : List ℕ) (text : List ℕ) → list_all is_high ds ≡ true → 0 < length ds → EndsLine text
-    → IsTold (ds ++ (32 ∷ text))
-number_first [] text h some e = absurd (omega arith)
-number_first (a ∷ []) text h some e =
-    let one = high_one a (and_parts (is_high a) true h).0 in
-    told_line a 32 text one.0 one.1 refl e
-number_first (a ∷ b ∷ ds) text h some e =
-    let parts = and_parts (is_high a) (list_all is_high (b ∷ ds)) h in
+number_first : (ds : List ℕ) (ps : List Piece) → AreDigits ds → IsTold (ds ++ (32 ∷ joined ps (10 ∷ [])))
+number_first [] ps are = let some = are.1 in absurd (omega arith)
+number_first (a ∷ []) ps are =
+    let one = high_one a (and_parts (is_high a) true are.0).0 in
+    told_line a 32 ps one.0 one.1 refl
+number_first (a ∷ b ∷ ds) ps are =
+    let parts = and_parts (is_high a) (list_all is_high (b ∷ ds)) are.0 in
     let more = and_parts (is_high b) (list_all is_high ds) parts.1 in
     let one = high_one a parts.0 in
-    told_line a b (ds ++ (32 ∷ text)) one.0 one.1 (high_one b more.0).1
-    (in_front ds (32 ∷ text) (high_unended ds more.1) (in_front (32 ∷ []) text refl e))
+    told_line a b (piece ds (high_unended ds more.1) ∷ space ∷ ps) one.0 one.1 (high_one b more.0).1
 
 -- a line that begins with a number and a space
-pub numbered : (n : ℕ) (text : List ℕ) → EndsLine text → IsTold (decimal n ++ (32 ∷ text))
-numbered n text e = number_first (decimal n) text (high_decimal n) (some_decimal n) e
+pub numbered : (n : ℕ) (ps : List Piece) → IsTold (decimal n ++ (32 ∷ joined ps (10 ∷ [])))
+numbered n ps = number_first (decimal n) ps (are_digits n)

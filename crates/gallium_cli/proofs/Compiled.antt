@@ -1,6 +1,5 @@
 -- The text that `compile` writes is accepted by `check`.
-use Rattle.std.proofs.Common.{◌≡◌, ◌≤◌, ◌⊎◌, ℕ, Bool, List, length, Option, Some, None, IfSome, IsSomeAnd}
-use Rattle.std.proofs.Common.{refl, sym, subst, inl, inr, arith}
+use Rattle.std.proofs.Common.{◌≡◌, ◌≤◌, ◌⊎◌, ℕ, Bool, List, length, Option, Some, None, IfSome, IsSomeAnd, refl, sym, subst, inl, inr, arith}
 use Rattle.std.specs.Prelude.{IsSome}
 use Rattle.std.proofs.lemmas.Bool.{cases_lt, true≢false}
 use Rattle.element_lang.specs.Accepted.{IsSource}
@@ -11,17 +10,16 @@ use Rattle.resource_limits.specs.declared.limits.Limits.{Limits as Allowed}
 use Rattle.gallium_cli.specs.declared.status.Status.{Status}
 use Rattle.gallium_cli.specs.declared.status.Status.TheVariants as statuses
 use Rattle.gallium_cli.specs.Call.{Call}
-use Rattle.gallium_cli.specs.Words.{Request, Check}
+use Rattle.gallium_cli.specs.Words.{Check}
 use Rattle.gallium_cli.specs.Roles.{Role, program, limits, legal_split, size_of, IsSpelled, IsGood, AreLimits, gates_of}
 use Rattle.gallium_cli.specs.Answers.{IsChoice, IsCompiled, IsPlan, compiled_text}
 use Rattle.gallium_cli.specs.Causes.{EndsFor}
-use Rattle.gallium_cli.specs.Promises.{AllOpen, IsCompileText, IsFirstShut, IsRefusedAs, IsToldPlan, IsUnlessFault}
+use Rattle.gallium_cli.specs.Promises.{AllOpen, IsCompileText, IsFirstShut, IsRefusedAs, IsToldPlan, IsUnlessFault, WithStatus}
 use Rattle.gallium_cli.proofs.Told.{some_then}
-use Rattle.gallium_cli.proofs.Exact.{complete_ends, early_is_fault, exact_ends}
-use Rattle.gallium_cli.proofs.Listed.{compiled_is}
-use Rattle.gallium_cli.proofs.Named.{source_names}
+use Rattle.gallium_cli.proofs.Exact.{early_is_fault, open_ends, shut_ends}
+use Rattle.gallium_cli.proofs.Listed.{compiled_is, source_names}
 use Rattle.gallium_cli.proofs.Ranges.{told_in_range}
-use Rattle.gallium_cli.proofs.Replayed.{few_within}
+use Rattle.partition.proofs.Chosen.{few_stages_within_limits}
 
 -- ## Told contents
 
@@ -56,7 +54,7 @@ choice_spelled told s l m allowed shrink split writeback plan choice =
     let count = choice.legal.count in (
       split,
       compiled_is f split writeback (source_names source.0 m source.1.1) count
-          (few_within f split allowed count ranges choice.keeps),
+          (few_stages_within_limits f allowed split count ranges choice.keeps),
       record { legal = choice.legal; keeps = choice.keeps },
     )
 
@@ -92,7 +90,7 @@ good_or_long role (Some text) h = elim (cases_lt (size_of role) (length text)) [
 ]
 
 check_by : (told : List ℕ → Option (List ℕ)) (s l p : List ℕ) → IsSplitFound told s l (told p)
-    → AllOpen told (gates_of (Check s l p)) ⊎ IsFirstShut told (gates_of (Check s l p)) statuses.TooLong
+    → AllOpen told (gates_of (Check s l p)) ⊎ IsFirstShut told (gates_of (Check s l p)) (WithStatus statuses.TooLong)
 check_by told s l p found =
     let m = found.m in
     let allowed = found.allowed in
@@ -105,21 +103,14 @@ check_by told s l p found =
       | inr long ↦ inr (inr (one, inr (two, inl (m, allowed, found.plan, long))))
     ]
 
-check_ends : (s l p : List ℕ) (status : Status) (call : Call) → EndsFor (Some (Check s l p)) status call
+pub compiled_ends : (s l p : List ℕ) (status : Status) (call : Call) → EndsFor (Some (Check s l p)) status call
     → IsCompileText call.work.files.told s l p → (status ≡ statuses.TooLong) ⊎ IsUnlessFault statuses.Done status
-check_ends s l p status call end text =
+compiled_ends s l p status call end text =
     let told = call.work.files.told in
     elim (check_by told s l p (split_found told s l text.shrink (told p) text.source text.limits text.text)) [
-      | inl free ↦ inr (complete_ends (Some (Check s l p)) status call end free)
-      | inr shut ↦ elim (exact_ends (Some (Check s l p)) status call end statuses.TooLong shut) [
+      | inl free ↦ inr (open_ends (Check s l p) status call end free)
+      | inr shut ↦ elim (shut_ends (WithStatus statuses.TooLong) (Check s l p) status call end shut) [
         | inl is ↦ inl is
         | inr early ↦ inr (inr (early_is_fault status early))
       ]
     ]
-
-pub compiled_ends : (request : Option Request) (status : Status) (call : Call) → EndsFor request status call
-    → (s l p : List ℕ) → request ≡ Some (Check s l p) → IsCompileText call.work.files.told s l p
-    → (status ≡ statuses.TooLong) ⊎ IsUnlessFault statuses.Done status
-compiled_ends request status call end s l p is text =
-    check_ends s l p status call
-    (subst (λ (asked : Option Request). EndsFor asked status call) is end) text

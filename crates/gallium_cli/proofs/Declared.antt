@@ -1,8 +1,6 @@
 -- The objects of a source are ones that a report can tell.
-use Rattle.std.proofs.Common.{◌≡◌, ℕ, ◌<◌, ◌^◌, ◌==◌, Bool, true, false, not, ◌&&◌, ◌||◌, nat_lt, nat_le, List}
-use Rattle.std.proofs.Common.{[], ◌∷◌, length}
-use Rattle.std.proofs.Common.{Option, Some, None, refl, sym, ap, ◌∙◌, arith, true≢false, ◌⊎◌, inl}
-use Rattle.std.proofs.Common.{inr}
+use Rattle.std.proofs.Common.{◌≡◌, ℕ, ◌<◌, ◌^◌, ◌==◌, Bool, true, false, not, ◌&&◌, ◌||◌, nat_lt, nat_le, List, [], ◌∷◌, length, Option, Some, None, refl, sym}
+use Rattle.std.proofs.Common.{ap, ◌∙◌, arith, true≢false, ◌⊎◌, inl, inr}
 use Rattle.std.specs.Prelude.{All, IsTrue, take_while, slice_index}
 use Rattle.std.specs.List.{list_all, list_any}
 use Rattle.std.specs.Str.{bytes_eq}
@@ -14,14 +12,10 @@ use Rattle.state_store.specs.declared.object.Kind.{Kind}
 use Rattle.state_store.specs.declared.object.Kind.TheVariants.{Vector, Int}
 use Rattle.state_store.specs.declared.object.ObjectDecl.{ObjectDecl}
 use Rattle.element_lang.specs.Mark.{symbol_in_front}
-use Rattle.element_lang.specs.Token.{Token, name, IsName, sized_lexeme, word_token}
-use Rattle.element_lang.specs.Token.{is_letter, is_digit}
-use Rattle.element_lang.specs.Token.{is_word_byte}
-use Rattle.element_lang.specs.Token.{is_number_byte}
+use Rattle.element_lang.specs.Token.{Token, name, IsName, sized_lexeme, word_token, is_letter, is_digit, is_word_byte, is_number_byte}
 use Rattle.element_lang.specs.Accepted.{HasNames}
 use Rattle.element_lang.specs.Rules as rules
-use Rattle.element_lang.specs.Rules.{same_widths, is_width, is_good_object, are_good_objects, is_good_body}
-use Rattle.element_lang.specs.Rules.{declared_by}
+use Rattle.element_lang.specs.Rules.{same_widths, is_width, is_good_object, are_good_objects, is_good_body, declared_by}
 use Rattle.element_lang.specs.Tree.{Tree}
 use Rattle.report_text.specs.Form.{is_plain, are_widths, is_declared, are_apart, are_declared}
 use Rattle.element_chain.proofs.ReadNames.{letter_first}

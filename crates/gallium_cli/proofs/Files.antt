@@ -1,6 +1,5 @@
 -- What the reading of one file shows, and what is passed and refused one after the other.
-use Rattle.std.proofs.Common.{◌≡◌, ◌≤◌, ℕ, false, List, [], ◌∷◌, ◌++◌, length, Option, Some, None, IfSome}
-use Rattle.std.proofs.Common.{subst, ap, sym, ◌∙◌, inl, inr, Result, IfErr}
+use Rattle.std.proofs.Common.{◌≡◌, ◌≤◌, ℕ, false, List, [], ◌∷◌, ◌++◌, length, Option, Some, None, IfSome, subst, ap, sym, ◌∙◌, inl, inr, Result, IfErr}
 use Rattle.std.proofs.Math.Path.{fun_ext}
 use Rattle.std.proofs.lemmas.Option.{IfSome_then}
 use Rattle.std.proofs.lemmas.Result.{IfErr-weaker}
@@ -17,20 +16,16 @@ use Rattle.gallium_cli.specs.declared.status.Status.TheVariants as statuses
 use Rattle.gallium_cli.specs.declared.refusal.Refusal.{Refusal}
 use Rattle.gallium_cli.specs.declared.refusal.Refusal.TheVariants.{TooLong, ReadFault, NoMemory}
 use Rattle.switch_ir.specs.Port.{PortState}
-use Rattle.gallium_cli.specs.Words.{Splitting, ServerAlone, Within, Spelled}
-use Rattle.gallium_cli.specs.Words.{Request, Run, Compile, Replay, Lossy, Check, Audit as Audited, Chain as Chained, Gen, PcapIn, PcapOut}
-use Rattle.gallium_cli.specs.Roles.{Role, source, program, limits, legal_split, true_report, wiring, trace, schedule}
+use Rattle.gallium_cli.specs.Words.{Splitting, ServerAlone, Within, Spelled, Request, Run, Compile, Replay, Lossy, Check, Audit as Audited, Chain as Chained}
+use Rattle.gallium_cli.specs.Words.{Gen, PcapIn, PcapOut}
+use Rattle.gallium_cli.specs.Roles.{Role, source, program, limits, legal_split, true_report, wiring, trace, schedule, capture, link_schedule, IsGood, IsSpelled}
+use Rattle.gallium_cli.specs.Roles.{Gate, File, Choice, SplitFile, ReportFile, Composed, gates_of, split_gates, event_gates, link_gates, size_of}
 use Rattle.gallium_cli.specs.Links.{IsLinkTraffic}
-use Rattle.gallium_cli.specs.Roles.{capture, link_schedule}
-use Rattle.gallium_cli.specs.Roles.{IsGood, IsSpelled, Gate, File, Choice, SplitFile, ReportFile, Composed}
-use Rattle.gallium_cli.specs.Roles.{gates_of}
-use Rattle.gallium_cli.specs.Roles.{split_gates, event_gates, link_gates, size_of}
 use Rattle.gallium_cli.specs.Answers.{IsAnswer, IsAuditInput, IsProgram, IsSplitBy, IsTraffic}
-use Rattle.gallium_cli.specs.Loads.{GoesOn, IsUnread, IsFileRefused, AreBytesOf}
-use Rattle.gallium_cli.specs.Chains.{IsClassRefused, IsFirstClassRefused}
-use Rattle.gallium_cli.specs.Chains.{IsWired, class_files}
+use Rattle.gallium_cli.specs.Loads.{LeavesFiles, IsUnread, IsFileRefused, AreBytesOf}
+use Rattle.gallium_cli.specs.Chains.{IsClassRefused, IsFirstClassRefused, IsWired, class_files}
 use Rattle.gallium_cli.specs.Causes.{IsRefusedAt, IsPassed, AllPassed, IsFirstRefused}
-use Rattle.gallium_cli.proofs.Walks.{at_gates}
+use Rattle.gallium_cli.proofs.Told.{at_gates}
 
 -- ## One file
 
@@ -154,12 +149,12 @@ answer_passed text (PcapOut t big nano) told p p' (packets, is_told, printed) =
 -- ## After other reads
 
 -- what is told of the contents is as before
-pub told_before : (P : (List ℕ → Option (List ℕ)) → Type 0) (f g : FilesState) → GoesOn statuses.Done f g → P g.told
+pub told_before : (P : (List ℕ → Option (List ℕ)) → Type 0) (f g : FilesState) → LeavesFiles statuses.Done f g → P g.told
     → P f.told
 told_before P f g goes h = subst P (fun_ext goes.told) h
 
 -- files after reads of which none failed differ in the number of reads alone
-same_but_reads : (f g : FilesState) → GoesOn statuses.Done f g → g ≡ record f { reads = g.reads }
+same_but_reads : (f g : FilesState) → LeavesFiles statuses.Done f g → g ≡ record f { reads = g.reads }
 same_but_reads f g goes =
     ap (λ (told : List ℕ → Option (List ℕ)). record g { told = told }) (fun_ext goes.told)
     ∙ ap (λ (n : ℕ). record g { told = f.told; faults = n }) goes.faults
@@ -198,24 +193,24 @@ gate_whatever refusal (Composed w) f h n (chain, wired, inr why) = (chain, wired
 
 -- so what is refused after such reads is refused as if they hadn't been
 pub refused_later : (refusal : Refusal) (role : Role) (name : List ℕ) (f g h : FilesState)
-    → GoesOn statuses.Done f g → IsFileRefused refusal role name g h → IsFileRefused refusal role name f h
+    → LeavesFiles statuses.Done f g → IsFileRefused refusal role name g h → IsFileRefused refusal role name f h
 refused_later refusal role name f g h goes refused =
     file_whatever refusal role name f h g.reads
     (subst (λ (x : FilesState). IsFileRefused refusal role name x h) (same_but_reads f g goes) refused)
 
-pub class_later : (refusal : Refusal) (name : List ℕ) (f g h : FilesState) → GoesOn statuses.Done f g
+pub class_later : (refusal : Refusal) (name : List ℕ) (f g h : FilesState) → LeavesFiles statuses.Done f g
     → IsClassRefused refusal name g h → IsClassRefused refusal name f h
 class_later refusal name f g h goes refused =
     class_whatever refusal name f h g.reads
     (subst (λ (x : FilesState). IsClassRefused refusal name x h) (same_but_reads f g goes) refused)
 
-pub first_class_later : (refusal : Refusal) (names : List (List ℕ)) (f g h : FilesState) → GoesOn statuses.Done f g
+pub first_class_later : (refusal : Refusal) (names : List (List ℕ)) (f g h : FilesState) → LeavesFiles statuses.Done f g
     → IsFirstClassRefused refusal names g h → IsFirstClassRefused refusal names f h
 first_class_later refusal names f g h goes first =
     classes_whatever refusal names f h g.reads
     (subst (λ (x : FilesState). IsFirstClassRefused refusal names x h) (same_but_reads f g goes) first)
 
-pub first_before : (refusal : Refusal) (gates : List Gate) (f g h : FilesState) → GoesOn statuses.Done f g
+pub first_before : (refusal : Refusal) (gates : List Gate) (f g h : FilesState) → LeavesFiles statuses.Done f g
     → IsFirstRefused refusal gates g h → IsFirstRefused refusal gates f h
 first_before refusal gates f g h goes first =
     at_gates (λ gate. IsPassed gate f.told) (λ gate. IsRefusedAt refusal gate (record f { reads = g.reads }) h)
@@ -241,7 +236,7 @@ refused_behind refusal (gate ∷ gates) more f f' passed refused =
 
 -- the report that a file holds isn't taken, behind the source and the trace of two files that are passed
 pub report_refused : (refusal : Refusal) (s t r : List ℕ) (f g h : FilesState) (m : Tree) (packets : List Packet)
-    → IsAuditInput f.told s t m packets → GoesOn statuses.Done f g
+    → IsAuditInput f.told s t m packets → LeavesFiles statuses.Done f g
     → IsFileRefused refusal (true_report m packets) r g h → IsFirstRefused refusal (gates_of (Audited s t r)) f h
 report_refused refusal s t r f g h m packets found goes refused =
     let there = refused_later refusal (true_report m packets) r f g h goes refused in

@@ -1,15 +1,13 @@
 -- Why a text is refused for what it holds: then it spells nothing, and it has one cause and one status.
-use Rattle.std.proofs.Common.{◌≡◌, ◌<◌, ◌≤◌, ◌⊎◌, ℕ, List, length}
-use Rattle.std.proofs.Common.{refl, sym, ap, ◌∙◌, inl, inr, arith}
+use Rattle.std.proofs.Common.{◌≡◌, ◌<◌, ◌≤◌, ◌⊎◌, ℕ, List, length, refl, sym, ap, ◌∙◌, inl, inr, arith}
 use Rattle.gallium_cli.specs.declared.status.Status.{Status}
 use Rattle.gallium_cli.specs.declared.status.Status.TheVariants as statuses
 use Rattle.gallium_cli.specs.declared.refusal.Refusal.{Refusal}
-use Rattle.gallium_cli.specs.declared.refusal.Refusal.TheVariants.{Source, LongProgram, Limits, Exceeded, Split, Trace, Schedule}
-use Rattle.gallium_cli.specs.declared.refusal.Refusal.TheVariants.{Pcap, Report, Audit, Chain}
+use Rattle.gallium_cli.specs.declared.refusal.Refusal.TheVariants.{Source, LongProgram, Limits, Exceeded, Split, Trace, Schedule, Pcap, Report, Audit, Chain}
 use Rattle.gallium_cli.specs.Lines.{status_of}
-use Rattle.gallium_cli.specs.Roles.{Role, source, program, limits, legal_split, true_report, wiring, trace, schedule}
-use Rattle.gallium_cli.specs.Roles.{capture, link_schedule, size_of, IsSpelled}
-use Rattle.gallium_cli.specs.Loads.{IsCauseOf, IsHeld}
+use Rattle.gallium_cli.specs.Roles.{Role, source, program, limits, legal_split, true_report, wiring, trace, schedule, capture, link_schedule, size_of}
+use Rattle.gallium_cli.specs.Roles.{IsSpelled}
+use Rattle.gallium_cli.specs.Loads.{IsCauseOf, IsSoleCause}
 use Rattle.gallium_cli.specs.Promises.{IsRefusedAs, IsStatusOf}
 use Rattle.gallium_cli.proofs.Unkept.{cause_split, one_unkept, untaken}
 use Rattle.gallium_cli.proofs.Untrue.{cause_report}
@@ -35,7 +33,7 @@ unspelled (Chain fault) wiring text why spelled = why.1 spelled
 unspelled _ role text why spelled = why
 
 -- and what is found is the one cause
-pub one_cause : (found : Refusal) (role : Role) (cause : Refusal) (text : List ℕ) → IsHeld found role text
+pub one_cause : (found : Refusal) (role : Role) (cause : Refusal) (text : List ℕ) → IsSoleCause found role text
     → IsCauseOf cause role text → cause ≡ found
 one_cause (Source found) source (Source fault) text held why = ap Source (held.1 fault why.0 why.2)
 one_cause (Source found) program (Source fault) text held why = ap Source (held.1 fault why.0 why.2)

@@ -1,10 +1,8 @@
 pub mod Bounds
 pub mod Told
-pub mod Walks
 pub mod Declared
 pub mod Files
 pub mod OverLinks
-pub mod Counted
 pub mod Written
 pub mod Firsts
 pub mod Classes
@@ -18,11 +16,9 @@ pub mod Held
 pub mod Blamed
 pub mod Replayed
 pub mod Exact
-pub mod CauseTold
 pub mod Serial
 pub mod Comments
 pub mod Listed
-pub mod Named
 pub mod Ranges
 pub mod Compiled
 pub mod Promised

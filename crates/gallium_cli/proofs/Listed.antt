@@ -1,13 +1,12 @@
 -- The text that tells a split is a text of that split.
-use Rattle.std.proofs.Common.{◌≡◌, ℕ, zero, suc, Bool, true, false, List, [], ◌∷◌, ◌++◌, length, Option, Some, None}
-use Rattle.std.proofs.Common.{refl, sym, ap, ◌∙◌, append_assoc}
+use Rattle.std.proofs.Common.{◌≡◌, ℕ, zero, suc, Bool, true, false, List, [], ◌∷◌, ◌++◌, length, Option, Some, None, refl, sym, ap, ◌∙◌, append_assoc, map}
+use Rattle.std.proofs.Common.{nat_lt, subst, arith}
 use Rattle.std.specs.Prelude.{codes}
 use Rattle.std.specs.Fmt.{decimal}
 use Rattle.std.proofs.lemmas.List.{append-nil}
 use Rattle.gal_io.specs.Lines.{lines, line_end, told_of}
 use Rattle.gal_bits.specs.declared.op.Op.{Op}
-use Rattle.gal_bits.specs.declared.op.Op.TheVariants.{Add}
-use Rattle.gal_bits.specs.declared.op.Op.TheVariants.{Select}
+use Rattle.gal_bits.specs.declared.op.Op.TheVariants.{Add, Select}
 use Rattle.gal_bits.specs.Operators.{operator_row}
 use Rattle.packet_fields.specs.declared.field.Field.{Field}
 use Rattle.packet_fields.specs.declared.field.Field.TheVariants.{MetaPort}
@@ -18,10 +17,8 @@ use Rattle.flat_ir.specs.declared.program.Block.{Block}
 use Rattle.flat_ir.specs.declared.program.FieldValue.{FieldValue}
 use Rattle.flat_ir.specs.Program.{Program, Step, Work}
 use Rattle.flat_ir.specs.Program.Work.{const, field, apply, shift, select, byte, look, put, del}
-use Rattle.flat_ir.specs.Listing.{block_line, block_lines, keyed_text, listing, loop_mark, name_of}
-use Rattle.flat_ir.specs.Listing.{operator_text, polarity_text}
-use Rattle.flat_ir.specs.Listing.{send_line, step_line, step_lines, value_text, values_text, work_text, write_line}
-use Rattle.flat_ir.specs.Listing.{write_lines}
+use Rattle.flat_ir.specs.Listing.{block_line, block_lines, keyed_text, listing, loop_mark, name_of, operator_text, polarity_text, send_line, step_line}
+use Rattle.flat_ir.specs.Listing.{step_lines, value_text, values_text, work_text, write_line, write_lines}
 use Rattle.split_model.specs.declared.split.Slow.{Slow}
 use Rattle.split_model.specs.declared.split.Slow.TheVariants.{Carried, Server, Post}
 use Rattle.split_model.specs.declared.split.Part.{Part}
@@ -32,10 +29,65 @@ use Rattle.split_validate.specs.CountsText.{counts_text}
 use Rattle.resource_limits.specs.Counts.{counts_of, greatest}
 use Rattle.resource_limits.specs.declared.counting.Counts.{Counts}
 use Rattle.gallium_cli.specs.Answers.{compiled_text, heading_text}
-use Rattle.gallium_cli.proofs.Comments.{IsUnended, unended, decimal_unended, just_ended, in_front, IsSkipped}
-use Rattle.gallium_cli.proofs.Comments.{both_skipped, comment}
-use Rattle.gallium_cli.proofs.Comments.{IsTold, both_told, told_line, numbered}
-use Rattle.gallium_cli.proofs.Named.{HaveUnendedNames}
+use Rattle.gallium_cli.proofs.Comments.{Piece, piece, number, space, joined_unended, IsUnended, decimal_unended, IsSkipped, both_skipped, comment, IsTold}
+use Rattle.gallium_cli.proofs.Comments.{both_told, told_line, numbered, goes_on}
+use Rattle.std.specs.List.{AllByRecursion as Each, list_all}
+use Rattle.std.proofs.lemmas.Bool.{and_parts, ltb-true}
+use Rattle.std.proofs.lemmas.Bool.Decides.{nat_tests}
+use Rattle.state_store.specs.declared.object.Kind.{Kind}
+use Rattle.state_store.specs.declared.object.Kind.TheVariants.{Table}
+use Rattle.element_lang.specs.Accepted.{IsSource}
+use Rattle.element_lang.specs.Surface.{Declared, Surface, unplaced_decl, named_as, named_decl}
+use Rattle.element_lang.specs.Token.{IsName}
+use Rattle.element_lang.specs.Tree.{Tree}
+use Rattle.element_text.specs.Names.{declared_name}
+use Rattle.element_text.proofs.Naming.{spelled_names}
+use Rattle.element_text.proofs.TokenNames.{tokens_named}
+use Rattle.report_text.specs.Form.{is_plain}
+use Rattle.gallium_cli.proofs.Declared.{name_plain}
+
+-- bytes above a blank end no line
+plain_unended : (bytes : List ℕ) → is_plain bytes ≡ true → IsUnended bytes
+plain_unended [] h = refl
+plain_unended (b ∷ bs) h =
+    let parts = and_parts (nat_lt 32 b) (list_all (nat_lt 32) bs) h in
+    let above = ltb-true 32 b parts.0 in
+    let on : goes_on b ≡ true = grind (arith, nat_tests) in
+    rw on (plain_unended bs parts.1)
+
+-- ## Objects
+
+name_kept : (kind : Kind) (o : ObjectDecl) → declared_name (named_as kind o) ≡ o.name
+name_kept Table o = refl
+name_kept _ o = refl
+
+-- no name of these objects holds one
+abbrev pub HaveUnendedNames : List ObjectDecl → Type 0
+HaveUnendedNames = Each (λ (o : ObjectDecl). IsUnended o.name)
+
+abbrev placed : ObjectDecl → Declared
+placed o = record { at = 0; decl = named_decl o }
+
+one_name : (d : Declared) (o : ObjectDecl) → unplaced_decl d ≡ placed o → IsName (declared_name d.decl)
+    → IsUnended o.name
+one_name d o same h =
+    plain_unended o.name
+    (name_plain o.name (subst (λ (word : List ℕ). IsName word) (ap (λ (e : Declared). declared_name e.decl) same ∙ name_kept o.kind o) h))
+
+objects_unended : (ds : List Declared) (os : List ObjectDecl) → map unplaced_decl ds ≡ map placed os
+    → Each (λ (d : Declared). IsName (declared_name d.decl)) ds → HaveUnendedNames os
+objects_unended ds [] same h = tt
+objects_unended [] (o ∷ os) same h = cc
+objects_unended (d ∷ ds) (o ∷ os) same h =
+    let first : unplaced_decl d ≡ placed o = cc in
+    let rest : map unplaced_decl ds ≡ map placed os = cc in
+    (one_name d o first h.0, objects_unended ds os rest h.1)
+
+pub source_names : (text : List ℕ) (m : Tree) → IsSource text m → HaveUnendedNames m.objects
+source_names text m is =
+    let s = is.spelling in
+    let names = spelled_names s.surface s.spells (tokens_named text s.placed s.tokens) in
+    objects_unended s.surface.objects m.objects (ap (λ (x : Surface). x.objects) s.named) names.objects
 
 -- ## Words
 
@@ -48,21 +100,23 @@ field_unended MetaPort = refl
 field_unended _ = refl
 
 value_unended : (v : ValueId) → IsUnended (value_text v)
-value_unended v =
-    unended (decimal v.instruction) (codes "." ++ decimal v.result) (decimal_unended v.instruction)
-    (unended (codes ".") (decimal v.result) refl (decimal_unended v.result))
+value_unended v = joined_unended (number v.instruction ∷ piece (codes ".") refl ∷ []) (number v.result)
+
+abbrev value : ValueId → Piece
+value v = piece (value_text v) (value_unended v)
 
 values_unended : (vs : List ValueId) → IsUnended (values_text vs)
 values_unended [] = refl
-values_unended (v ∷ vs) =
-    unended (codes " ") (value_text v ++ values_text vs) refl
-    (unended (value_text v) (values_text vs) (value_unended v) (values_unended vs))
+values_unended (v ∷ vs) = joined_unended (space ∷ value v ∷ []) (piece (values_text vs) (values_unended vs))
+
+abbrev values : List ValueId → Piece
+values vs = piece (values_text vs) (values_unended vs)
+
+abbrev operator_name : Op → Piece
+operator_name op = piece (operator_row op).name (operator_unended op)
 
 applied_unended : (op : Op) (width : ℕ) (args : List ValueId) → IsUnended (operator_text op width args)
-applied_unended op width args =
-    unended (operator_row op).name (codes " " ++ (decimal width ++ values_text args)) (operator_unended op)
-    (unended (codes " ") (decimal width ++ values_text args) refl
-    (unended (decimal width) (values_text args) (decimal_unended width) (values_unended args)))
+applied_unended op width args = joined_unended (operator_name op ∷ space ∷ number width ∷ []) (values args)
 
 name_unended : (objects : List ObjectDecl) (o : ℕ) → HaveUnendedNames objects → IsUnended (name_of objects o)
 name_unended [] o h = refl
@@ -72,26 +126,23 @@ name_unended (d ∷ ds) (suc o) h = name_unended ds o h.1
 keyed_unended : (word : List ℕ) (objects : List ObjectDecl) (o : ℕ) (keys : List ValueId) → IsUnended word
     → HaveUnendedNames objects → IsUnended (keyed_text word objects o keys)
 keyed_unended word objects o keys is names =
-    unended word (codes " " ++ (name_of objects o ++ values_text keys)) is
-    (unended (codes " ") (name_of objects o ++ values_text keys) refl
-    (unended (name_of objects o) (values_text keys) (name_unended objects o names) (values_unended keys)))
+    joined_unended (piece word is ∷ space ∷ piece (name_of objects o) (name_unended objects o names) ∷ []) (values keys)
 
 work_unended : (objects : List ObjectDecl) (w : Work) → HaveUnendedNames objects → IsUnended (work_text objects w)
-work_unended objects (const width number) names =
-    unended (codes "const ") (decimal width ++ (codes " " ++ decimal number)) refl
-    (unended (decimal width) (codes " " ++ decimal number) (decimal_unended width)
-    (unended (codes " ") (decimal number) refl (decimal_unended number)))
-work_unended objects (field name) names = unended (codes "field ") (row name).name refl (field_unended name)
+work_unended objects (const width n) names =
+    joined_unended (piece (codes "const ") refl ∷ number width ∷ space ∷ []) (number n)
+work_unended objects (field name) names =
+    joined_unended (piece (codes "field ") refl ∷ []) (piece (row name).name (field_unended name))
 work_unended objects (apply op width args) names = applied_unended op width args
 work_unended objects (shift op width arg by) names =
-    unended (operator_text op width (arg ∷ [])) (codes " " ++ decimal by) (applied_unended op width (arg ∷ []))
-    (unended (codes " ") (decimal by) refl (decimal_unended by))
+    joined_unended (piece (operator_text op width (arg ∷ [])) (applied_unended op width (arg ∷ [])) ∷ space ∷ []) (number by)
 work_unended objects (select width cond first second) names = applied_unended Select width (cond ∷ first ∷ second ∷ [])
-work_unended objects (byte index) names = unended (codes "byte ") (value_text index) refl (value_unended index)
+work_unended objects (byte index) names = joined_unended (piece (codes "byte ") refl ∷ []) (value index)
 work_unended objects (look object keys) names = keyed_unended (codes "look") objects object keys refl names
-work_unended objects (put object keys values) names =
-    unended (keyed_text (codes "put") objects object keys) (values_text values)
-    (keyed_unended (codes "put") objects object keys refl names) (values_unended values)
+work_unended objects (put object keys vs) names =
+    joined_unended
+    (piece (keyed_text (codes "put") objects object keys) (keyed_unended (codes "put") objects object keys refl names) ∷ [])
+    (values vs)
 work_unended objects (del object keys) names = keyed_unended (codes "del") objects object keys refl names
 
 mark_unended : (looped : Bool) → IsUnended (loop_mark looped)
@@ -104,19 +155,11 @@ polarity_unended false = refl
 
 counts_unended : (c : Counts) → IsUnended (counts_text c)
 counts_unended c =
-    let bytes = decimal c.transfer_bytes in
-    let rows = decimal (greatest c.writes) ++ (codes " transfer_bytes " ++ bytes) in
-    let bits = decimal c.table_bits ++ (codes " writeback " ++ rows) in
-    let stages = decimal c.stages ++ (codes " table_bits " ++ bits) in
-    unended (codes "accesses ") (decimal (greatest c.accesses) ++ (codes " stages " ++ stages)) refl
-    (unended (decimal (greatest c.accesses)) (codes " stages " ++ stages) (decimal_unended (greatest c.accesses))
-    (unended (codes " stages ") stages refl
-    (unended (decimal c.stages) (codes " table_bits " ++ bits) (decimal_unended c.stages)
-    (unended (codes " table_bits ") bits refl
-    (unended (decimal c.table_bits) (codes " writeback " ++ rows) (decimal_unended c.table_bits)
-    (unended (codes " writeback ") rows refl
-    (unended (decimal (greatest c.writes)) (codes " transfer_bytes " ++ bytes) (decimal_unended (greatest c.writes))
-    (unended (codes " transfer_bytes ") bytes refl (decimal_unended c.transfer_bytes)))))))))
+    joined_unended
+    (piece (codes "accesses ") refl ∷ number (greatest c.accesses) ∷ piece (codes " stages ") refl ∷ number c.stages
+    ∷ piece (codes " table_bits ") refl ∷ number c.table_bits ∷ piece (codes " writeback ") refl
+    ∷ number (greatest c.writes) ∷ piece (codes " transfer_bytes ") refl ∷ [])
+    (number c.transfer_bytes)
 
 -- ## Comments
 
@@ -128,28 +171,15 @@ heading_skipped n words h = λ rest.
     ap (λ (t : List ℕ). codes "# instructions " ++ t) (sym (append_assoc (decimal n) line_end second))
     ∙ sym (append_assoc (codes "# instructions ") (decimal n ++ line_end) second) in
     ap (λ (t : List ℕ). told_of (lines (t ++ rest))) parts
-    ∙ both_skipped first second
-    (comment (codes " instructions " ++ (decimal n ++ line_end))
-    (in_front (codes " instructions ") (decimal n ++ line_end) refl
-    (in_front (decimal n) line_end (decimal_unended n) just_ended)))
-    (comment (codes " " ++ (words ++ line_end))
-    (in_front (codes " ") (words ++ line_end) refl (in_front words line_end h just_ended)))
-    rest
+    ∙ both_skipped first second (comment (piece (codes " instructions ") refl ∷ number n ∷ []))
+    (comment (space ∷ piece words h ∷ [])) rest
 
 step_skipped : (objects : List ObjectDecl) (i : ℕ) (s : Step) → HaveUnendedNames objects
     → IsSkipped (step_line objects i s)
 step_skipped objects i s names =
-    let mark = loop_mark s.looped ++ line_end in
-    let work = work_text objects s.work ++ mark in
-    let block = decimal s.block ++ (codes " " ++ work) in
-    comment (codes " " ++ (decimal i ++ (codes " b" ++ block)))
-    (in_front (codes " ") (decimal i ++ (codes " b" ++ block)) refl
-    (in_front (decimal i) (codes " b" ++ block) (decimal_unended i)
-    (in_front (codes " b") block refl
-    (in_front (decimal s.block) (codes " " ++ work) (decimal_unended s.block)
-    (in_front (codes " ") work refl
-    (in_front (work_text objects s.work) mark (work_unended objects s.work names)
-    (in_front (loop_mark s.looped) line_end (mark_unended s.looped) just_ended)))))))
+    comment (space ∷ number i ∷ piece (codes " b") refl ∷ number s.block ∷ space
+    ∷ piece (work_text objects s.work) (work_unended objects s.work names)
+    ∷ piece (loop_mark s.looped) (mark_unended s.looped) ∷ [])
 
 steps_skipped : (objects : List ObjectDecl) (i : ℕ) (ss : List Step) → HaveUnendedNames objects
     → IsSkipped (step_lines objects i ss)
@@ -160,18 +190,9 @@ steps_skipped objects i (s ∷ ss) names =
 
 block_skipped : (k : ℕ) (b : Block) → IsSkipped (block_line k b)
 block_skipped k b =
-    let polarity = polarity_text b.polarity ++ line_end in
-    let cond = value_text b.cond ++ (codes " is " ++ polarity) in
-    let parent = decimal b.parent ++ (codes " when " ++ cond) in
-    comment (codes " block " ++ (decimal k ++ (codes " in " ++ parent)))
-    (in_front (codes " block ") (decimal k ++ (codes " in " ++ parent)) refl
-    (in_front (decimal k) (codes " in " ++ parent) (decimal_unended k)
-    (in_front (codes " in ") parent refl
-    (in_front (decimal b.parent) (codes " when " ++ cond) (decimal_unended b.parent)
-    (in_front (codes " when ") cond refl
-    (in_front (value_text b.cond) (codes " is " ++ polarity) (value_unended b.cond)
-    (in_front (codes " is ") polarity refl
-    (in_front (polarity_text b.polarity) line_end (polarity_unended b.polarity) just_ended))))))))
+    comment (piece (codes " block ") refl ∷ number k ∷ piece (codes " in ") refl ∷ number b.parent
+    ∷ piece (codes " when ") refl ∷ value b.cond ∷ piece (codes " is ") refl
+    ∷ piece (polarity_text b.polarity) (polarity_unended b.polarity) ∷ [])
 
 blocks_skipped : (k : ℕ) (bs : List Block) → IsSkipped (block_lines k bs)
 blocks_skipped k [] = λ rest. refl
@@ -180,19 +201,11 @@ blocks_skipped k (b ∷ bs) =
 
 send_skipped : (send port : ValueId) → IsSkipped (send_line send port)
 send_skipped send port =
-    let to = value_text port ++ line_end in
-    comment (codes " send " ++ (value_text send ++ (codes " port " ++ to)))
-    (in_front (codes " send ") (value_text send ++ (codes " port " ++ to)) refl
-    (in_front (value_text send) (codes " port " ++ to) (value_unended send)
-    (in_front (codes " port ") to refl (in_front (value_text port) line_end (value_unended port) just_ended))))
+    comment (piece (codes " send ") refl ∷ value send ∷ piece (codes " port ") refl ∷ value port ∷ [])
 
 write_skipped : (w : FieldValue) → IsSkipped (write_line w)
 write_skipped w =
-    let value = value_text w.value ++ line_end in
-    comment (codes " write " ++ ((row w.field).name ++ (codes " " ++ value)))
-    (in_front (codes " write ") ((row w.field).name ++ (codes " " ++ value)) refl
-    (in_front (row w.field).name (codes " " ++ value) (field_unended w.field)
-    (in_front (codes " ") value refl (in_front (value_text w.value) line_end (value_unended w.value) just_ended))))
+    comment (piece (codes " write ") refl ∷ piece (row w.field).name (field_unended w.field) ∷ space ∷ value w.value ∷ [])
 
 writes_skipped : (ws : List FieldValue) → IsSkipped (write_lines ws)
 writes_skipped [] = λ rest. refl
@@ -216,14 +229,11 @@ pre_unended (Some stage) = decimal_unended stage
 slow_unended : (slow : Slow) → IsUnended (slow_text slow)
 slow_unended Carried = refl
 slow_unended Server = refl
-slow_unended (Post stage) = unended (codes "post ") (decimal stage) refl (decimal_unended stage)
+slow_unended (Post stage) = joined_unended (piece (codes "post ") refl ∷ []) (number stage)
 
 part_told : (i : ℕ) (part : Part) → IsTold (part_line i part)
 part_told i part =
-    let slow = slow_text part.slow ++ line_end in
-    numbered i (pre_text part.pre ++ (codes " " ++ slow))
-    (in_front (pre_text part.pre) (codes " " ++ slow) (pre_unended part.pre)
-    (in_front (codes " ") slow refl (in_front (slow_text part.slow) line_end (slow_unended part.slow) just_ended)))
+    numbered i (piece (pre_text part.pre) (pre_unended part.pre) ∷ space ∷ piece (slow_text part.slow) (slow_unended part.slow) ∷ [])
 
 parts_told : (i : ℕ) (parts : List Part) → IsTold (part_lines i parts)
 parts_told i [] = λ rest told. told
@@ -231,13 +241,10 @@ parts_told i (part ∷ parts) =
     both_told (part_line i part) (part_lines (suc i) parts) (part_told i part) (parts_told (suc i) parts)
 
 first_told : (n : ℕ) → IsTold (first_line n)
-first_told n =
-    told_line 115 112 (codes "lit 1 " ++ (decimal n ++ line_end)) refl refl refl
-    (in_front (codes "lit 1 ") (decimal n ++ line_end) refl
-    (in_front (decimal n) line_end (decimal_unended n) just_ended))
+first_told n = told_line 115 112 (piece (codes "lit 1 ") refl ∷ number n ∷ []) refl refl refl
 
 last_told : IsTold (codes "end" ++ line_end)
-last_told = told_line 101 110 (codes "d" ++ line_end) refl refl refl (in_front (codes "d") line_end refl just_ended)
+last_told = told_line 101 110 (piece (codes "d") refl ∷ []) refl refl refl
 
 split_told : (split : List Part) → told_of (lines (split_text split)) ≡ lines (split_text split)
 split_told split =

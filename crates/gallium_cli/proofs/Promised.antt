@@ -1,6 +1,5 @@
 -- What follows from how a call ends.
-use Rattle.std.proofs.Common.{◌≡◌, ◌⊎◌, ℕ, Bool, true, false, List, [], ◌∷◌, Option, Some, None, sym, subst, ap, ◌∙◌, inl, inr}
-use Rattle.std.proofs.Common.{arith, refl}
+use Rattle.std.proofs.Common.{◌≡◌, ◌≢◌, ◌⊎◌, ◌∙◌, ℕ, Bool, true, false, List, [], ◌∷◌, Option, Some, None, sym, subst, ap, inl, inr, arith, refl}
 use Rattle.std.specs.Prelude.{is_some, IsSomeAnd}
 use Rattle.gal_io.specs.Count.{Rose}
 use Rattle.gal_io.specs.Files.{FilesState}
@@ -11,33 +10,27 @@ use Rattle.switch_ir.specs.Port.{PortState}
 use Rattle.gallium_cli.specs.declared.status.Status.{Status}
 use Rattle.gallium_cli.specs.declared.status.Status.TheVariants as statuses
 use Rattle.gallium_cli.specs.declared.refusal.Refusal.{Refusal}
-use Rattle.gallium_cli.specs.declared.refusal.Refusal.TheVariants.{Usage, Exceeded, WriteFault, SwitchFault}
-use Rattle.gallium_cli.specs.declared.refusal.Refusal.TheVariants.{NoMemory, Report, Audit}
+use Rattle.gallium_cli.specs.declared.refusal.Refusal.TheVariants.{Usage, Exceeded, WriteFault, SwitchFault, NoMemory, Report, Audit}
 use Rattle.gallium_cli.specs.Call.{Call, Work}
 use Rattle.gallium_cli.specs.Lines.{status_of}
-use Rattle.gallium_cli.specs.Words.{Request, Compile, Replay, Lossy, Check, Audit as Audited, Chain as Chained}
-use Rattle.gallium_cli.specs.Words.{ServerAlone, Within, Spelled, is_replay, request_of}
-use Rattle.gallium_cli.specs.Roles.{Role, source, trace, legal_split, true_report, Gate, File, Choice, SplitFile}
-use Rattle.gallium_cli.specs.Roles.{ReportFile, Composed, IsFirst, IsSpelled, gates_of}
+use Rattle.gallium_cli.specs.Words.{Request, Compile, Replay, Lossy, Check, Audit as Audited, Chain as Chained, ServerAlone, Within, Spelled, is_replay}
+use Rattle.gallium_cli.specs.Words.{request_of}
+use Rattle.gallium_cli.specs.Roles.{Role, source, trace, legal_split, true_report, Gate, File, Choice, SplitFile, ReportFile, Composed, IsFirst, IsSpelled}
+use Rattle.gallium_cli.specs.Roles.{gates_of}
 use Rattle.gallium_cli.specs.Chains.{class_files}
 use Rattle.gallium_cli.specs.Loads.{IsFileRefused}
-use Rattle.gallium_cli.specs.Causes.{IsFirstRefused, IsSwitchKept, IsSwitchFaulty, IsNotWritten, IsIdle, IsDone}
-use Rattle.gallium_cli.specs.Causes.{HasCause, IsPassed, IsRefusedAt}
-use Rattle.gallium_cli.specs.Causes.{CountsFaults, after_line, EndsFor, Ends}
-use Rattle.gallium_cli.specs.Promises.{IsWriteFault, BlamesInput, IsReadOnce, IsUsage, BlamesOne, IsBlamed}
-use Rattle.gallium_cli.specs.Promises.{IsFailedOnSwitch}
-use Rattle.gallium_cli.specs.Promises.{CountsOne}
-use Rattle.gallium_cli.specs.Promises.{MayExceed, IsReplay, IsReplayReport, Promises}
+use Rattle.gallium_cli.specs.Causes.{IsFirstRefused, IsSwitchKept, IsSwitchFaulty, IsNotWritten, IsIdle, IsDone, HasCause, IsPassed, IsRefusedAt, CountsFaults}
+use Rattle.gallium_cli.specs.Causes.{after_line, EndsFor, Ends}
+use Rattle.gallium_cli.specs.Promises.{IsWriteFault, BlamesInput, IsReadOnce, IsUsage, BlamesOne, IsBlamed, IsFailedOnSwitch, CountsOne, MayExceed, IsReplay}
+use Rattle.gallium_cli.specs.Promises.{IsReplayReport, Promises, WithStatus, WithCause}
 use Rattle.gallium_cli.proofs.Written.{all_some}
-use Rattle.gallium_cli.proofs.Blamed.{BlamesIn, IsReadFault, IsTooLong, blamed_in, fault_blames, long_blames, no_gate}
+use Rattle.gallium_cli.proofs.Blamed.{BlamesIn, IsBlaming, IsOfNoGate, IsReadFault, IsTooLong, blamed_in, fault_blames, long_blames, no_gate}
 use Rattle.gallium_cli.proofs.Held.{unspelled}
-use Rattle.gallium_cli.proofs.Told.{meet, some_then}
-use Rattle.gallium_cli.proofs.Walks.{at_gates, first_at}
+use Rattle.gallium_cli.proofs.Told.{meet, some_then, at_gates, first_at}
 use Rattle.gallium_cli.proofs.Untrue.{same_input}
 use Rattle.gallium_cli.proofs.Replayed.{replay_told}
 use Rattle.gallium_cli.proofs.Serial.{serial_done}
-use Rattle.gallium_cli.proofs.Exact.{exact_ends, complete_ends}
-use Rattle.gallium_cli.proofs.CauseTold.{cause_told}
+use Rattle.gallium_cli.proofs.Exact.{shut_ends, open_ends}
 use Rattle.gallium_cli.proofs.Compiled.{compiled_ends}
 
 -- ## A refusal isn't done
@@ -46,12 +39,9 @@ abbrev IsNotDone : Status → Type 0
 IsNotDone statuses.Done = ⊥
 IsNotDone _ = Unit {0}
 
-refused_not_done : (refusal : Refusal) → IsNotDone (status_of refusal)
-refused_not_done Usage = tt
-refused_not_done _ = tt
-
 told_not_done : (refusal : Refusal) (end : SinkEnd) → IsNotDone (after_line refusal end)
-told_not_done refusal ends.Done = refused_not_done refusal
+told_not_done Usage ends.Done = tt
+told_not_done _ ends.Done = tt
 told_not_done refusal ends.Failed = tt
 told_not_done refusal ends.NoMemory = tt
 
@@ -61,64 +51,49 @@ done_ends request status call (inl done) is = (done.1, done.3)
 done_ends request status call (inr (refusal, cause, counts, (end, told, written))) is =
     absurd (subst IsNotDone (sym told ∙ is) (told_not_done refusal end))
 
--- ## What a gate is to blame for
+-- ## Words, a file or a limit
 
--- no fault of writing, of memory or of the switch has this status, and no answer
-record IsOfGates (P : Status → Type 0) : Type 0 where
-  done : P statuses.Done → ⊥
-  write : P statuses.WriteFault → ⊥
-  switch : P statuses.SwitchFault → ⊥
-  memory : P statuses.NoMemory → ⊥
+-- the status for which they are to blame is that of the refusal whose line was written
+told_of : (refusal : Refusal) (end : SinkEnd) (status : Status) → status ≡ after_line refusal end → BlamesInput status
+    → status_of refusal ≡ status
+told_of refusal ends.Done status is input = sym is
+told_of refusal ends.Failed status is input = absurd (subst BlamesInput is input)
+told_of refusal ends.NoMemory status is input = absurd (subst BlamesInput is input)
 
--- such a status is that of the refusal whose line was written
-told_of : (P : Status → Type 0) (refusal : Refusal) (end : SinkEnd) (status : Status) → IsOfGates P
-    → status ≡ after_line refusal end → P status → P (status_of refusal)
-told_of P refusal ends.Done status of is h = subst P is h
-told_of P refusal ends.Failed status of is h = absurd (of.write (subst P is h))
-told_of P refusal ends.NoMemory status of is h = absurd (of.memory (subst P is h))
+-- neither out nor the switch failed then
+input_alone : (refusal : Refusal) (request : Request) (work : Work) → BlamesInput (status_of refusal)
+    → (IsSwitchFaulty refusal request work × (work.out_after ≡ work.out)) ⊎ IsNotWritten refusal request work → ⊥
+input_alone WriteFault request work input why = input
+input_alone SwitchFault request work input why = input
+input_alone NoMemory request work input why = input
+input_alone _ request work input (inl faulty) = faulty.0
+input_alone _ request work input (inr unput) = unput
 
-unwritten_not_so : (P : Status → Type 0) (refusal : Refusal) (request : Request) (work : Work) → IsOfGates P
-    → IsNotWritten refusal request work → P (status_of refusal) → ⊥
-unwritten_not_so P WriteFault request work of unput h = of.write h
-unwritten_not_so P NoMemory request work of unput h = of.memory h
-unwritten_not_so P _ request work of unput h = absurd unput
+-- a call that is refused for its words, or isn't let through a gate
+abbrev IsShutFor : Option Request → Refusal → Work → Type 0
+IsShutFor None refusal work = refusal ≡ Usage
+IsShutFor (Some request) refusal work = IsFirstRefused refusal (gates_of request) work.files work.files_after
 
-switch_not_so : (P : Status → Type 0) (refusal : Refusal) (request : Request) (work : Work) → IsOfGates P
-    → IsSwitchFaulty refusal request work → P (status_of refusal) → ⊥
-switch_not_so P SwitchFault request work of faulty h = of.switch h
-switch_not_so P _ request work of faulty h = absurd faulty
-
--- a request that ends so wasn't let through a gate, and left the rest as it was
-record IsShutOut (P : Status → Type 0) (request : Request) (work : Work) : Type 0 where
+-- such a call left the rest as it was
+record IsShutOut (request : Option Request) (status : Status) (work : Work) : Type 0 where
   refusal : Refusal
-  first : IsFirstRefused refusal (gates_of request) work.files work.files_after
+  is : status_of refusal ≡ status
+  why : IsShutFor request refusal work
   idle : IsIdle work
-  is : P (status_of refusal)
 
-shut_out : (P : Status → Type 0) (request : Request) (status : Status) (call : Call) → IsOfGates P
-    → EndsFor (Some request) status call → P status → IsShutOut P request call.work
-shut_out P request status call of (inl done) h = absurd (of.done (subst P done.0 h))
-shut_out P request status call of (inr (refusal, (inl first, few, aside), counts, (end, is, written))) h =
-    record { refusal = refusal; first = first.0; idle = first.1; is = told_of P refusal end status of is h }
-shut_out P request status call of (inr (refusal, (inr (inl faulty), few, aside), counts, (end, is, written))) h =
-    absurd (
-    switch_not_so P refusal request call.work of faulty.0
-    (told_of P refusal end status of is h)
-    )
-shut_out P request status call of (inr (refusal, (inr (inr unput), few, aside), counts, (end, is, written))) h =
-    absurd (unwritten_not_so P refusal request call.work of unput (told_of P refusal end status of is h))
+shut_out : (request : Option Request) (status : Status) (call : Call) → EndsFor request status call → BlamesInput status
+    → IsShutOut request status call.work
+shut_out request status call (inl done) input = absurd (subst BlamesInput done.0 input)
+shut_out None status call (inr (refusal, cause, counts, (end, is, written))) input =
+    record { refusal = refusal; is = told_of refusal end status is input; why = cause.0; idle = cause.2 }
+shut_out (Some request) status call (inr (refusal, (inl first, few, aside), counts, (end, is, written))) input =
+    record { refusal = refusal; is = told_of refusal end status is input; why = first.0; idle = first.1 }
+shut_out (Some request) status call (inr (refusal, (inr other, few, aside), counts, (end, is, written))) input =
+    absurd (input_alone refusal request call.work (subst BlamesInput (sym (told_of refusal end status is input)) input) other)
 
--- where words, a file or a limit are to blame, all else is as it was
-blamed_gates : IsOfGates BlamesInput
-blamed_gates = record { done = λ h. h; write = λ h. h; switch = λ h. h; memory = λ h. h }
-
-idle_ends : (request : Option Request) (status : Status) (call : Call)
-    → EndsFor request status call → BlamesInput status → IsIdle call.work
-idle_ends None status call (inl done) input = absurd done.1
-idle_ends None status call (inr (refusal, cause, counts, told)) input = cause.2
-idle_ends (Some request) status call end input = (shut_out BlamesInput request status call blamed_gates end input).idle
-
--- ## Words with no form
+-- words with no form end in Usage, and others never do
+words_out : (status : Status) (call : Call) → EndsFor None status call → BlamesInput status → status ≡ statuses.Usage
+words_out status call end input = let out = shut_out None status call end input in sym out.is ∙ ap status_of out.why
 
 told_usage : (refusal : Refusal) (end : SinkEnd) (status : Status)
     → refusal ≡ Usage → status ≡ after_line refusal end → (status ≡ statuses.Usage) ⊎ IsWriteFault status
@@ -126,33 +101,15 @@ told_usage refusal ends.Done status usage is = inl (is ∙ ap status_of usage)
 told_usage refusal ends.Failed status usage is = inr (subst IsWriteFault (sym is) tt)
 told_usage refusal ends.NoMemory status usage is = inr (subst IsWriteFault (sym is) tt)
 
-abbrev IsUsageStatus : Status → Type 0
-IsUsageStatus statuses.Usage = Unit {0}
-IsUsageStatus _ = ⊥
-
-usage_gates : IsOfGates IsUsageStatus
-usage_gates = record { done = λ h. h; write = λ h. h; switch = λ h. h; memory = λ h. h }
-
-no_usage : (refusal : Refusal) (gates : List Gate) (f f' : FilesState)
-    → IsUsageStatus (status_of refusal) → IsFirstRefused refusal gates f f' → ⊥
-no_usage Usage gates f f' is first = no_gate Usage gates f f' tt first
-no_usage _ gates f f' is first = is
-
-usage_ends : (request : Option Request) (status : Status) (call : Call) → EndsFor request status call
-    → IsUsage request status
+usage_ends : (request : Option Request) (status : Status) (call : Call) → EndsFor request status call → IsUsage request status
 usage_ends None status call (inl done) = absurd done.1
 usage_ends None status call (inr (refusal, cause, counts, (end, is, written))) = told_usage refusal end status cause.0 is
 usage_ends (Some request) status call end = λ usage.
-    let out = shut_out IsUsageStatus request status call usage_gates end (subst IsUsageStatus (sym usage) tt) in
-    no_usage out.refusal (gates_of request) call.work.files call.work.files_after out.is out.first
+    let out = shut_out (Some request) status call end (subst BlamesInput (sym usage) tt) in
+    no_gate out.refusal (gates_of request) call.work.files call.work.files_after
+    (subst IsOfNoGate (sym (out.is ∙ usage)) tt) out.why
 
 -- ## Which count rose
-
-long_gates : IsOfGates IsTooLong
-long_gates = record { done = λ h. h; write = λ h. h; switch = λ h. h; memory = λ h. h }
-
-fault_gates : IsOfGates IsReadFault
-fault_gates = record { done = λ h. h; write = λ h. h; switch = λ h. h; memory = λ h. h }
 
 blames_one : (told : List ℕ → Option (List ℕ)) (request : Request) (blamed : Option (List ℕ))
     → BlamesIn told (gates_of request) blamed → BlamesOne told request blamed
@@ -165,32 +122,20 @@ blames_one told (Chained w) blamed (inr (inl (chain, wired, one))) =
 blames_one told (Chained w) blamed (inr (inr never)) = absurd never
 blames_one told _ blamed h = h
 
-too_long_ends : (request : Option Request) (status : Status) (call : Call)
-    → EndsFor request status call → IsTooLong status
-    → IsBlamed call.work.files.told request call.work.files.overlong call.work.files_after.overlong call.work.files_after.overlong_name
-too_long_ends None status call (inl done) long = absurd done.1
-too_long_ends None status call (inr (refusal, cause, counts, (end, is, written))) long =
-    subst (λ r. IsTooLong (status_of r)) cause.0 (told_of IsTooLong refusal end status long_gates is long)
-too_long_ends (Some request) status call end long =
-    let out = shut_out IsTooLong request status call long_gates end long in
+-- where a status comes of a file alone, and each refusal with it blames that file
+blamed_ends : (status : Status) (count : FilesState → ℕ) (blamed : FilesState → Option (List ℕ)) → BlamesInput status
+    → status ≢ statuses.Usage
+    → ((refusal : Refusal) (f f' : FilesState) → status_of refusal ≡ status
+    → IsBlaming refusal (blamed f') f f' (Rose (count f) (count f')))
+    → (request : Option Request) (call : Call) → EndsFor request status call
+    → IsBlamed call.work.files.told request (count call.work.files) (count call.work.files_after) (blamed call.work.files_after)
+blamed_ends status count blamed input other blames None call end = absurd (other (words_out status call end input))
+blamed_ends status count blamed input other blames (Some request) call end =
+    let out = shut_out (Some request) status call end input in
     let f = call.work.files in
     let f' = call.work.files_after in
-    let rose = blamed_in out.refusal f'.overlong_name f f' (Rose f.overlong f'.overlong) (long_blames out.refusal f f' out.is)
-    (gates_of request) out.first in
-    (rose.0, blames_one f.told request _ rose.1)
-
-read_fault_ends : (request : Option Request) (status : Status) (call : Call)
-    → EndsFor request status call → IsReadFault status
-    → IsBlamed call.work.files.told request call.work.files.faults call.work.files_after.faults call.work.files_after.fault_name
-read_fault_ends None status call (inl done) fault = absurd done.1
-read_fault_ends None status call (inr (refusal, cause, counts, (end, is, written))) fault =
-    subst (λ r. IsReadFault (status_of r)) cause.0 (told_of IsReadFault refusal end status fault_gates is fault)
-read_fault_ends (Some request) status call end fault =
-    let out = shut_out IsReadFault request status call fault_gates end fault in
-    let f = call.work.files in
-    let f' = call.work.files_after in
-    let rose = blamed_in out.refusal f'.fault_name f f' (Rose f.faults f'.faults) (fault_blames out.refusal f f' out.is)
-    (gates_of request) out.first in
+    let rose =
+    blamed_in out.refusal (blamed f') f f' (Rose (count f) (count f')) (blames out.refusal f f' out.is) (gates_of request) out.why in
     (rose.0, blames_one f.told request _ rose.1)
 
 -- ## A limit that is exceeded
@@ -198,9 +143,6 @@ read_fault_ends (Some request) status call end fault =
 abbrev IsExceededStatus : Status → Type 0
 IsExceededStatus statuses.Exceeded = Unit {0}
 IsExceededStatus _ = ⊥
-
-exceeded_gates : IsOfGates IsExceededStatus
-exceeded_gates = record { done = λ h. h; write = λ h. h; switch = λ h. h; memory = λ h. h }
 
 -- the gates at which a limit may be exceeded
 abbrev MayExceedAt : Gate → Type 0
@@ -232,60 +174,53 @@ may_exceed (Lossy s t c l) told first = tt
 may_exceed (Check s l p) told first = tt
 may_exceed _ told first = grind arith
 
-exceeded_ends : (request : Option Request) (status : Status) (call : Call)
-    → EndsFor request status call → IsExceededStatus status → MayExceed request
-exceeded_ends None status call (inl done) exceeded = absurd done.1
-exceeded_ends None status call (inr (refusal, cause, counts, (end, is, written))) exceeded =
-    subst (λ r. IsExceededStatus (status_of r)) cause.0
-    (told_of IsExceededStatus refusal end status exceeded_gates is exceeded)
-exceeded_ends (Some request) status call end exceeded =
-    let out = shut_out IsExceededStatus request status call exceeded_gates end exceeded in
-    may_exceed request call.work.files.told
-    (at_gates (λ gate. IsPassed gate call.work.files.told)
-    (λ gate. IsRefusedAt out.refusal gate call.work.files call.work.files_after) MayExceedAt
-    (λ gate here. exceeded_at out.refusal gate call.work.files call.work.files_after out.is here) (gates_of request) out.first)
+exceeded_ends : (request : Option Request) (call : Call) → EndsFor request statuses.Exceeded call → MayExceed request
+exceeded_ends None call end = let never : statuses.Exceeded ≡ statuses.Usage = words_out statuses.Exceeded call end tt in cc
+exceeded_ends (Some request) call end =
+    let out = shut_out (Some request) statuses.Exceeded call end tt in
+    let f = call.work.files in
+    let f' = call.work.files_after in
+    may_exceed request f.told
+    (at_gates (λ gate. IsPassed gate f.told) (λ gate. IsRefusedAt out.refusal gate f f') MayExceedAt
+    (λ gate here. exceeded_at out.refusal gate f f' (subst IsExceededStatus (sym out.is) tt) here) (gates_of request) out.why)
 
 -- ## What is counted
 
-abbrev IsOutFault : Status → Type 0
-IsOutFault statuses.WriteFault = Unit {0}
-IsOutFault _ = ⊥
+-- a call counts just the fault that its status names; or one at most, and its line wasn't written
+abbrev HasCounted : Status → Call → Type 0
+HasCounted status call =
+    (CountsFaults status call.work × (call.err_after.faults ≡ call.err.faults))
+    ⊎ (CountsOne call.work × (((status ≡ statuses.WriteFault) × Rose call.err.faults call.err_after.faults)
+    ⊎ ((status ≡ statuses.NoMemory) × (call.err_after.faults ≡ call.err.faults))))
 
-counted_ends : (request : Option Request) (status : Status) (call : Call)
-    → EndsFor request status call → (IsWriteFault status → ⊥)
+has_counted : (request : Option Request) (status : Status) (call : Call) → EndsFor request status call → HasCounted status call
+has_counted request status call (inl (is, done, counts, silent)) =
+    inl (subst (λ s. CountsFaults s call.work) (sym is) counts, ap (λ (e : SinkState). e.faults) silent)
+has_counted request status call (inr (refusal, cause, counts, (ends.Done, is, written))) =
+    inl (subst (λ s. CountsFaults s call.work) (sym is) counts, written.faults)
+has_counted request status call (inr (refusal, cause, counts, (ends.Failed, is, written))) =
+    inr ((status_of refusal, counts), inl (is, written.faults))
+has_counted request status call (inr (refusal, cause, counts, (ends.NoMemory, is, written))) =
+    inr ((status_of refusal, counts), inr (is, written.faults))
+
+counted_ends : (status : Status) (call : Call) → HasCounted status call → (IsWriteFault status → ⊥)
     → CountsFaults status call.work × (call.err_after.faults ≡ call.err.faults)
-counted_ends request status call (inl (is, done, counts, silent)) other =
-    (subst (λ s. CountsFaults s call.work) (sym is) counts, ap (λ (e : SinkState). e.faults) silent)
-counted_ends request status call (inr (refusal, cause, counts, (ends.Done, is, written))) other =
-    (subst (λ s. CountsFaults s call.work) (sym is) counts, written.faults)
-counted_ends request status call (inr (refusal, cause, counts, (ends.Failed, is, written))) other =
-    absurd (other (subst IsWriteFault (sym is) tt))
-counted_ends request status call (inr (refusal, cause, counts, (ends.NoMemory, is, written))) other =
-    absurd (other (subst IsWriteFault (sym is) tt))
+counted_ends status call (inl own) other = own
+counted_ends status call (inr (one, inl failed)) other = absurd (other (subst IsWriteFault (sym failed.0) tt))
+counted_ends status call (inr (one, inr none)) other = absurd (other (subst IsWriteFault (sym none.0) tt))
 
-write_fault_ends : (request : Option Request) (status : Status) (call : Call)
-    → EndsFor request status call → status ≡ statuses.WriteFault
+write_fault_ends : (call : Call) → HasCounted statuses.WriteFault call
     → (CountsFaults statuses.WriteFault call.work × (call.err_after.faults ≡ call.err.faults))
     ⊎ (CountsOne call.work × Rose call.err.faults call.err_after.faults)
-write_fault_ends request status call (inl done) fault = absurd (subst IsOutFault (sym fault ∙ done.0) tt)
-write_fault_ends request status call (inr (refusal, cause, counts, (ends.Done, is, written))) fault =
-    inl (subst (λ s. CountsFaults s call.work) (sym is ∙ fault) counts, written.faults)
-write_fault_ends request status call (inr (refusal, cause, counts, (ends.Failed, is, written))) fault =
-    inr ((status_of refusal, counts), written.faults)
-write_fault_ends request status call (inr (refusal, cause, counts, (ends.NoMemory, is, written))) fault =
-    absurd (subst IsOutFault (sym fault ∙ is) tt)
+write_fault_ends call (inl own) = inl own
+write_fault_ends call (inr (one, inl failed)) = inr (one, failed.1)
+write_fault_ends call (inr (one, inr none)) = let never : statuses.WriteFault ≡ statuses.NoMemory = none.0 in cc
 
-no_memory_ends : (request : Option Request) (status : Status) (call : Call)
-    → EndsFor request status call → status ≡ statuses.NoMemory
+no_memory_ends : (call : Call) → HasCounted statuses.NoMemory call
     → CountsOne call.work × (call.err_after.faults ≡ call.err.faults)
-no_memory_ends request status call (inl (is, done, counts, silent)) memory =
-    ((statuses.Done, counts), ap (λ (e : SinkState). e.faults) silent)
-no_memory_ends request status call (inr (refusal, cause, counts, (ends.Done, is, written))) memory =
-    ((status_of refusal, counts), written.faults)
-no_memory_ends request status call (inr (refusal, cause, counts, (ends.Failed, is, written))) memory =
-    absurd (subst IsOutFault (sym is ∙ memory) tt)
-no_memory_ends request status call (inr (refusal, cause, counts, (ends.NoMemory, is, written))) memory =
-    ((status_of refusal, counts), written.faults)
+no_memory_ends call (inl own) = ((statuses.NoMemory, own.0), own.1)
+no_memory_ends call (inr (one, inl failed)) = let never : statuses.NoMemory ≡ statuses.WriteFault = failed.0 in cc
+no_memory_ends call (inr (one, inr none)) = (one, none.1)
 
 abbrev IsSwitchStatus : Status → Type 0
 IsSwitchStatus statuses.SwitchFault = Unit {0}
@@ -312,31 +247,30 @@ switch_fault_ends request status call (inr (refusal, cause, counts, (ends.NoMemo
 
 -- ## Who calls the switch, and how often files are read
 
+abbrev calls_switch : Option Request → Bool
+calls_switch None = false
+calls_switch (Some request) = is_replay request
+
+switch_kept : (request : Option Request) (status : Status) (call : Call) → EndsFor request status call
+    → IsSwitchKept (calls_switch request) call.work.port call.work.port_after
+switch_kept None status call (inl done) = absurd done.1
+switch_kept None status call (inr (refusal, cause, counts, told)) = cause.2.port
+switch_kept (Some request) status call (inl (is, (text, answer, taken, read, kept), counts, silent)) = kept
+switch_kept (Some request) status call (inr (refusal, (why, few, kept), counts, told)) = kept
+
 kept_aside : (replays : Bool) (p p' : PortState) → (replays ≡ true → ⊥) → IsSwitchKept replays p p' → p' ≡ p
 kept_aside true p p' none kept = absurd (none refl)
 kept_aside false p p' none kept = kept
 
 aside_ends : (request : Option Request) (status : Status) (call : Call) → EndsFor request status call
     → (IsReplay request → ⊥) → call.work.port_after ≡ call.work.port
-aside_ends None status call (inl done) none = absurd done.1
-aside_ends None status call (inr (refusal, cause, counts, told)) none = cause.2.port
-aside_ends (Some request) status call (inl (is, (text, answer, taken, read, aside), counts, silent)) none =
-    kept_aside (is_replay request) call.work.port call.work.port_after none aside
-aside_ends (Some request) status call (inr (refusal, (why, few, aside), counts, told)) none =
-    kept_aside (is_replay request) call.work.port call.work.port_after none aside
+aside_ends None status call end none = switch_kept None status call end
+aside_ends (Some request) status call end none =
+    kept_aside (is_replay request) call.work.port call.work.port_after none (switch_kept (Some request) status call end)
 
 kept_tells : (replays : Bool) (p p' : PortState) → IsSwitchKept replays p p' → is_some p'.told ≡ is_some p.told
 kept_tells true p p' kept = kept
 kept_tells false p p' kept = ap (λ (x : PortState). is_some x.told) kept
-
-tells_ends : (request : Option Request) (status : Status) (call : Call) → EndsFor request status call
-    → is_some call.work.port_after.told ≡ is_some call.work.port.told
-tells_ends None status call (inl done) = absurd done.1
-tells_ends None status call (inr (refusal, cause, counts, told)) = ap (λ (x : PortState). is_some x.told) cause.2.port
-tells_ends (Some request) status call (inl (is, (text, answer, taken, read, kept), counts, silent)) =
-    kept_tells (is_replay request) call.work.port call.work.port_after kept
-tells_ends (Some request) status call (inr (refusal, (why, few, kept), counts, told)) =
-    kept_tells (is_replay request) call.work.port call.work.port_after kept
 
 same_files_ends : (request : Option Request) (status : Status) (call : Call) → EndsFor request status call
     → (name : List ℕ) → call.work.files_after.told name ≡ call.work.files.told name
@@ -360,9 +294,6 @@ BlamesReport statuses.Report = Unit {0}
 BlamesReport statuses.Audit = Unit {0}
 BlamesReport _ = ⊥
 
-report_gates : IsOfGates BlamesReport
-report_gates = record { done = λ h. h; write = λ h. h; switch = λ h. h; memory = λ h. h }
-
 -- a report that is told and tells a serial run isn't refused for what it holds, and no other file of an audit is
 blamed_file : (refusal : Refusal) (role : Role) (name : List ℕ) (f f' : FilesState) → BlamesReport (status_of refusal)
     → IsSomeAnd (f.told name) (IsSpelled role) → IsFileRefused refusal role name f f' → ⊥
@@ -384,43 +315,50 @@ replay_unrefused refusal s t r f f' is replay (inr (passed, inr (also, inl (m, p
     blamed_file refusal (true_report m packets) r f f' is (replay_told f.told s t r m packets found replay same) refused
 replay_unrefused refusal s t r f f' is replay (inr (passed, inr (also, inr (last, never)))) = never
 
-replayed_ends : (request : Option Request) (status : Status) (call : Call) → EndsFor request status call
-    → (s t r : List ℕ) → request ≡ Some (Audited s t r) → IsReplayReport call.work.files.told s t r
-    → BlamesReport status → ⊥
-replayed_ends request status call end s t r is replay blamed =
-    let out = shut_out BlamesReport (Audited s t r) status call report_gates
-    (subst (λ (asked : Option Request). EndsFor asked status call) is end) blamed in
-    replay_unrefused out.refusal s t r call.work.files call.work.files_after out.is replay out.first
+replayed_ends : (s t r : List ℕ) (status : Status) (call : Call) → EndsFor (Some (Audited s t r)) status call → BlamesInput status
+    → BlamesReport status → IsReplayReport call.work.files.told s t r → ⊥
+replayed_ends s t r status call end input blamed replay =
+    let out = shut_out (Some (Audited s t r)) status call end input in
+    replay_unrefused out.refusal s t r call.work.files call.work.files_after (subst BlamesReport (sym out.is) blamed) replay out.why
 
 -- all that is promised follows from how a call ends
 pub promised : (status : Status) (call : Call) → Ends status call → Promises status call
 promised status call end =
     let request = request_of call.words in
+    let asked : (some : Request) → request ≡ Some some → EndsFor (Some some) status call =
+    λ some is. subst (λ (x : Option Request). EndsFor x status call) is end in
+    let ended : (other : Status) → status ≡ other → EndsFor request other call =
+    λ other is. subst (λ (s : Status). EndsFor request s call) is end in
+    let counts = has_counted request status call end in
     record {
       serial = λ is replay tells. serial_done request call.work replay tells (done_ends request status call end is).0;
       ends = end;
       done = λ is. (done_ends request status call end is).0;
       silent = λ is. (done_ends request status call end is).1;
-      untouched = λ input. (idle_ends request status call end input).out;
-      uncalled = λ input. (idle_ends request status call end input).port;
+      untouched = λ input. (shut_out request status call end input).idle.out;
+      uncalled = λ input. (shut_out request status call end input).idle.port;
       aside = aside_ends request status call end;
-      tells = tells_ends request status call end;
+      tells = kept_tells (calls_switch request) call.work.port call.work.port_after (switch_kept request status call end);
       same_files = same_files_ends request status call end;
       once = once_ends request status call end;
       usage = usage_ends request status call end;
-      exact = exact_ends request status call end;
-      cause = cause_told request status call end;
-      complete = complete_ends request status call end;
-      exceeded = λ is. exceeded_ends request status call end (subst IsExceededStatus (sym is) tt);
-      compiled = λ s l p asked text. compiled_ends request status call end s l p asked text;
-      replayed = λ s t r asked replay. (
-        λ is. replayed_ends request status call end s t r asked replay (subst BlamesReport (sym is) tt),
-        λ is. replayed_ends request status call end s t r asked replay (subst BlamesReport (sym is) tt),
+      exact = λ some expected is shut. shut_ends (WithStatus expected) some status call (asked some is) shut;
+      cause = λ some refusal is shut. shut_ends (WithCause refusal) some status call (asked some is) shut;
+      complete = λ some is free. open_ends some status call (asked some is) free;
+      exceeded = λ is. exceeded_ends request call (ended statuses.Exceeded is);
+      compiled = λ s l p is text. compiled_ends s l p status call (asked (Check s l p) is) text;
+      replayed = λ s t r is replay. (
+        λ report. replayed_ends s t r status call (asked (Audited s t r) is)
+            (subst BlamesInput (sym report) tt) (subst BlamesReport (sym report) tt) replay,
+        λ untrue. replayed_ends s t r status call (asked (Audited s t r) is)
+            (subst BlamesInput (sym untrue) tt) (subst BlamesReport (sym untrue) tt) replay,
       );
-      too_long = λ is. too_long_ends request status call end (subst IsTooLong (sym is) tt);
-      read_fault = λ is. read_fault_ends request status call end (subst IsReadFault (sym is) tt);
-      counted = counted_ends request status call end;
-      no_memory = no_memory_ends request status call end;
-      write_fault = write_fault_ends request status call end;
+      too_long = λ is. blamed_ends statuses.TooLong (λ f. f.overlong) (λ f. f.overlong_name) tt (λ e. cc)
+          (λ refusal f f' is. long_blames refusal f f' (subst IsTooLong (sym is) tt)) request call (ended statuses.TooLong is);
+      read_fault = λ is. blamed_ends statuses.ReadFault (λ f. f.faults) (λ f. f.fault_name) tt (λ e. cc)
+          (λ refusal f f' is. fault_blames refusal f f' (subst IsReadFault (sym is) tt)) request call (ended statuses.ReadFault is);
+      counted = counted_ends status call counts;
+      no_memory = λ is. no_memory_ends call (subst (λ (s : Status). HasCounted s call) is counts);
+      write_fault = λ is. write_fault_ends call (subst (λ (s : Status). HasCounted s call) is counts);
       switch_fault = λ is. switch_fault_ends request status call end (subst IsSwitchStatus (sym is) tt);
     }

@@ -1,10 +1,7 @@
 -- The report of a replay is a report, and it is true.
-use Rattle.std.proofs.Common.{◌≡◌, ◌≤◌, ◌<◌, ◌^◌, ◌+◌, ℕ, zero, suc, Bool, true, false, ◌&&◌, ◌||◌, List, [], ◌∷◌}
-use Rattle.std.proofs.Common.{length, Option, Some, None}
-use Rattle.std.proofs.Common.{IsSomeAnd, refl, sym, ap, subst, ◌∙◌, inl, inr, arith}
-use Rattle.std.specs.Prelude.{IsTrue, is_some, slice_index_or}
+use Rattle.std.proofs.Common.{◌≡◌, ◌≤◌, ◌<◌, ◌^◌, ◌+◌, ℕ, Bool, true, false, List, length, Option, IsSomeAnd, refl, sym, subst, inl, inr, arith}
+use Rattle.std.specs.Prelude.{IsTrue}
 use Rattle.std.specs.List.{AllByRecursion as Each}
-use Rattle.std.proofs.lemmas.Bool.{cases_Bool, cases_lt, true≢false}
 use Rattle.std.proofs.lemmas.List.{length-append}
 use Rattle.packet_fields.specs.declared.packet.Packet.{Packet}
 use Rattle.state_store.specs.Kept.{IsKept}
@@ -12,17 +9,10 @@ use Rattle.state_store.specs.Store.{start_store}
 use Rattle.element_lang.specs.Accepted.{IsSource}
 use Rattle.element_lang.specs.Tree.{Tree}
 use Rattle.flat_ir.specs.Arrivals.{IsArrival}
-use Rattle.flat_ir.specs.Program.{Program, step_at}
+use Rattle.flat_ir.specs.Program.{Program}
 use Rattle.flatten.specs.Flatten.{flat_of}
 use Rattle.split_model.specs.declared.split.Part.{Part}
 use Rattle.split_model.specs.Bounds.{HasFewStages, IsBounded}
-use Rattle.split_model.specs.Counts.{stage_or_zero, writes}
-use Rattle.split_model.specs.Greatest.{IsGreatestSplit, post_marks, pre_marks}
-use Rattle.split_model.specs.Shown.{is_shown, looks_at}
-use Rattle.split_model.specs.Split.{any_below, is_pre, part_at, post_stage, pre_stage, stage_after}
-use Rattle.resource_limits.specs.declared.limits.Limits.{Limits}
-use Rattle.resource_limits.specs.Kept.{KeepsLimits}
-use Rattle.resource_limits.specs.Limits.{AreInRange}
 use Rattle.run_model.specs.declared.event.Event.{Event}
 use Rattle.run_model.specs.Serialises.{Serialises}
 use Rattle.run_model.specs.Sizes.{most_events, most_packets}
@@ -33,7 +23,7 @@ use Rattle.replay_state.specs.Run.{job_run}
 use Rattle.replay_state.specs.State.{State}
 use Rattle.replay_state.specs.Step.{state_of}
 use Rattle.split_answers.specs.Whole.{IsSplit}
-use Rattle.replay_contracts.specs.Given.{IsReady, setup_for, whole_runs}
+use Rattle.replay_contracts.specs.Inputs.{IsReady, setup_for, whole_runs}
 use Rattle.replay_course.specs.Going.{IsPrepared}
 use Rattle.report_text.specs.Form.{InForm, are_declared}
 use Rattle.report_text.specs.Lines.{IsReport}
@@ -53,119 +43,26 @@ use Rattle.gallium_cli.specs.Promises.{IsReplayReport}
 use Rattle.gallium_cli.specs.Roles.{IsSpelled, true_report}
 use Rattle.gallium_cli.proofs.Bounds.{bounded_program}
 use Rattle.gallium_cli.proofs.Reported.{split_is_source}
-use Rattle.gallium_cli.proofs.Runnable.{few_writes, no_writes, served_part}
+use Rattle.gallium_cli.proofs.Runnable.{few_served, split_served, split_within}
 use Rattle.gallium_cli.proofs.Told.{meet, some_then}
 use Rattle.gallium_cli.proofs.Untrue.{IsSameInput}
-use Rattle.lemmas.proofs.Lists.{replicate_false}
-use Rattle.partition.proofs.Chosen.{post_low, pre_low}
+use Rattle.partition.proofs.Chosen.{few_stages_within_limits}
 
 -- ## Splits
-
--- a mark of a list of parts, and what the part says
-marked : (split : List Part) (i : ℕ) → is_pre split i ≡ true → slice_index_or (pre_marks split) i false ≡ true
-marked [] i pre = absurd (true≢false (sym pre))
-marked (part ∷ split) zero pre = pre
-marked (part ∷ split) (suc i) pre = marked split i pre
-
--- none passes a test, of which one part is never met
-none_passes : (n : ℕ) (one other : ℕ → Bool) → ((i : ℕ) → one i ≡ false) → any_below n (λ i. one i && other i) ≡ false
-none_passes zero one other none = refl
-none_passes (suc n) one other none =
-    ap (λ b. b || (one n && other n)) (none_passes n one other none) ∙ ap (λ b. b && other n) (none n)
-
--- where preprocessing computes nothing, it looks up nothing
-unseen : (f : Program) (split : List Part) → IsGreatestSplit f 0 false split → (o : ℕ) → is_shown f split o ≡ false
-unseen f split least o =
-    none_passes (length f.code) (is_pre split) (λ i. looks_at o (step_at f i).work) (λ i. none i)
-  where
-    none : (i : ℕ) → is_pre split i ≡ false
-    none i = elim (cases_Bool (is_pre split i)) [
-      | inl pre ↦ let low = least.pre.closed.below i (marked split i pre) in absurd (omega arith)
-      | inr other ↦ other
-    ]
 
 -- a split that a replay may go by has few writes for its write-back tables
 split_is : (m : Tree) (split : List Part) (writeback : ℕ) → IsBounded (flat_of m) → IsKept m.objects (start_store m.objects)
     → MayReplay (flat_of m) split writeback → IsSplit (flat_of m) split writeback
-split_is m split writeback bounded kept (inl (allowed, accepted, ranges, rows)) = record {
-  bounded = bounded;
-  legal = accepted.legal;
-  kept = kept;
-  few = λ o.
-      subst (λ n. writes (flat_of m) split o ≤ n) (sym rows)
-      (few_writes (flat_of m) split allowed bounded.formed accepted.keeps o);
-}
-split_is m split writeback bounded kept (inr (choice, rows)) = record {
-  bounded = bounded;
-  legal = choice.legal;
-  kept = kept;
-  few = λ o.
-      subst (λ n. writes (flat_of m) split o ≤ n) (sym rows)
-      (no_writes (flat_of m) split (unseen (flat_of m) split choice.least) o);
-}
+split_is m split writeback bounded kept (inl (allowed, accepted, ranges, rows)) =
+    split_within (flat_of m) split allowed writeback bounded accepted.legal kept accepted.keeps rows
+split_is m split writeback bounded kept (inr (choice, rows)) =
+    split_served (flat_of m) split writeback bounded choice.legal kept choice.least rows
 
--- ## Stages
-
--- behind the last part nothing is computed in either pass
-past_parts : (split : List Part) (i : ℕ) → length split ≤ i → part_at split i ≡ served_part
-past_parts [] i past = refl
-past_parts (part ∷ split) zero past = absurd (omega arith)
-past_parts (part ∷ split) (suc i) past = past_parts split i (omega arith)
-
-pub few_within : (f : Program) (split : List Part) (allowed : Limits) → length split ≡ length f.code → AreInRange allowed
-    → KeepsLimits f split allowed → HasFewStages split
-few_within f split allowed count ranges keeps = record {
-  pre = λ i stage is. elim (cases_lt i (length f.code)) [
-    | inl within ↦ (
-        let low = pre_low split (length f.code) i within in
-        let own = ap stage_or_zero is in
-        let all = keeps.stages in
-        let most = ranges.1 in
-        omega (arith, low, own, all, most)
-        )
-    | inr past ↦ (
-        let none : pre_stage split i ≡ None = ap (λ (p : Part). p.pre) (past_parts split i (omega arith)) in
-        let some : pre_stage split i ≡ Some stage = is in
-        cc
-        )
-  ];
-  post = λ i stage is. elim (cases_lt i (length f.code)) [
-    | inl within ↦ (
-        let low = post_low split (length f.code) i within in
-        let own = ap stage_or_zero is in
-        let all = keeps.stages in
-        let most = ranges.1 in
-        omega (arith, low, own, all, most)
-        )
-    | inr past ↦ (
-        let none : post_stage split i ≡ None =
-        ap (λ (p : Part). stage_after p.slow) (past_parts split i (omega arith)) in
-        let some : post_stage split i ≡ Some stage = is in
-        cc
-        )
-  ];
-}
-
--- with everything left to the server there are none
-post_marked : (split : List Part) (i : ℕ) → slice_index_or (post_marks split) i false ≡ is_some (post_stage split i)
-post_marked [] i = refl
-post_marked (part ∷ split) zero = refl
-post_marked (part ∷ split) (suc i) = post_marked split i
-
-few_served : (f : Program) (split : List Part) → IsGreatestSplit f 0 false split → HasFewStages split
-few_served f split least = record {
-  pre = λ i stage is. let low = least.pre.closed.below i (marked split i (ap is_some is)) in absurd (omega arith);
-  post = λ i stage is.
-      let none : slice_index_or (post_marks split) i false ≡ false =
-      ap (λ (marks : List Bool). slice_index_or marks i false) least.post ∙ replicate_false (length f.code) i in
-      absurd (true≢false (sym (ap is_some is) ∙ sym (post_marked split i) ∙ none));
-}
-
--- so a split that a replay may go by has few
+-- and few stages
 few_stages : (f : Program) (split : List Part) (writeback : ℕ) → length split ≡ length f.code → MayReplay f split writeback
     → HasFewStages split
 few_stages f split writeback count (inl (allowed, accepted, ranges, rows)) =
-    few_within f split allowed count ranges accepted.keeps
+    few_stages_within_limits f allowed split count ranges accepted.keeps
 few_stages f split writeback count (inr (choice, rows)) = few_served f split choice.least
 
 -- ## Events

@@ -1,6 +1,5 @@
 -- What the report of a replay says of the source.
-use Rattle.std.proofs.Common.{◌≡◌, ◌∙◌, ℕ, List, ◌∷◌, ◌++◌, Bool, false, true, cond, sym, ap, subst, refl}
-use Rattle.std.proofs.Common.{Option, Some}
+use Rattle.std.proofs.Common.{◌≡◌, ◌∙◌, ℕ, List, ◌∷◌, ◌++◌, Bool, false, true, cond, sym, ap, subst, refl, Option, Some}
 use Rattle.std.specs.Prelude.{IsTrue, IsSome, IsSomeAnd, length, slice_get}
 use Rattle.std.specs.List.{AllByRecursion as Each}
 use Rattle.packet_fields.specs.declared.packet.Packet.{Packet}
@@ -25,7 +24,7 @@ use Rattle.replay_state.specs.Program.{packet_at, manner_of}
 use Rattle.replay_state.specs.Run.{job_run}
 use Rattle.replay_state.specs.Step.{applies}
 use Rattle.replay_contracts.specs.declared.job.Replayed.{Replayed}
-use Rattle.replay_contracts.specs.Given.{Given, meaning_for, setup_for, whole, whole_runs}
+use Rattle.replay_contracts.specs.Inputs.{Inputs, meaning_for, setup_for, whole, whole_runs}
 use Rattle.replay_contracts.specs.Promise.{Promises, state_for}
 use Rattle.replay_contracts.specs.Replayer.{IsReported, IsRunOf}
 use Rattle.run_audit.specs.Source.{source_of}
@@ -103,13 +102,13 @@ serial_run m split writeback packets plan replayed port alike told =
 
 pub source_replayed : (m : Tree) (f : Program) (split : List Part) (writeback : ℕ) (packets : List Packet) (plan : Plan)
     (replayed : Replayed) (p p' : PortState) → IsTrue (is_good m) → Each IsArrival packets → f ≡ flat_of m
-    → (let x : Given =
+    → (let x : Inputs =
     record { program = f; split = split; writeback = writeback; packets = packets; manner = manner_of plan.fine } in
     IsReported x plan.events plan.drain replayed p'
     → (IsSome p.told → IsRunOf x plan.events plan.drain replayed p')
     → IsReplayed m (given m split writeback packets plan.fine) plan replayed p p')
 source_replayed m f split writeback packets plan replayed p p' good all is answered told =
-    let at : Program → Given =
+    let at : Program → Inputs =
     λ g. record { program = g; split = split; writeback = writeback; packets = packets; manner = manner_of plan.fine } in
     let alike = split_is_source m split writeback replayed.run.total packets plan.fine good all in
     record {

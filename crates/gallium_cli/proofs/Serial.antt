@@ -11,8 +11,7 @@ use Rattle.gallium_cli.specs.Call.{Work}
 use Rattle.gallium_cli.specs.Causes.{IsDone}
 use Rattle.gallium_cli.specs.Promises.{IsReplay}
 use Rattle.gallium_cli.specs.Serial.{IsSerial}
-use Rattle.gallium_cli.specs.Words.{Request, Replay, Lossy, Gen}
-use Rattle.gallium_cli.specs.Words.{Splitting, ServerAlone, Within, Spelled}
+use Rattle.gallium_cli.specs.Words.{Request, Replay, Lossy, Gen, Splitting, ServerAlone, Within, Spelled}
 
 program_source : (told : List ℕ → Option (List ℕ)) (s : List ℕ) (m : Tree) → IsProgram told s m
     → IfSome (told s) (λ text. IsSource text m)

@@ -1,6 +1,5 @@
 -- Why the split that a file spells isn't taken: for one cause, and not where it is.
-use Rattle.std.proofs.Common.{◌≡◌, ◌≢◌, ◌≤◌, ℕ, suc, List, length, Option, Some, None}
-use Rattle.std.proofs.Common.{refl, sym, ap, subst, ◌∙◌, inl, inr, arith}
+use Rattle.std.proofs.Common.{◌≡◌, ◌≤◌, ◌<◌, ◌∙◌, ℕ, suc, List, length, Option, refl, sym, ap, subst, inl, inr, arith}
 use Rattle.std.proofs.lemmas.Bool.{cases_lt, true≢false}
 use Rattle.flat_ir.specs.Program.{Program}
 use Rattle.resource_limits.proofs.Laws.{kept_limits_are_not_exceeded}
@@ -12,7 +11,7 @@ use Rattle.split_validate.specs.declared.reading.SplitTextError.TheVariants as e
 use Rattle.resource_limits.specs.declared.limits.Limits.{Limits as Allowed}
 use Rattle.resource_limits.specs.declared.exceeding.Over.{Over}
 use Rattle.resource_limits.specs.Counts.{counts_of}
-use Rattle.resource_limits.specs.Kept.{first_over}
+use Rattle.resource_limits.specs.Kept.{first_excess}
 use Rattle.gallium_cli.specs.declared.refusal.Refusal.{Refusal}
 use Rattle.gallium_cli.specs.declared.refusal.Refusal.TheVariants.{Split, Exceeded}
 use Rattle.gallium_cli.specs.declared.refusal.SplitFault.TheVariants.{Line, Rule}
@@ -20,29 +19,28 @@ use Rattle.gallium_cli.specs.Lines.{status_of}
 use Rattle.gallium_cli.specs.Roles.{legal_split, IsSpelled}
 use Rattle.gallium_cli.specs.Splits.{IsUnkept, excess_of}
 use Rattle.gallium_cli.specs.Promises.{IsStatusOf}
+use Rattle.gallium_cli.proofs.Told.{no_some, one_some}
 
 -- ## Rules
 
 -- the lowest broken rule, and where it is broken first
+neither_below : (a b : ℕ) → (a < b → ⊥) → (b < a → ⊥) → a ≡ b
+neither_below a b one two = elim (cases_lt a b) [
+  | inl low ↦ absurd (one low)
+  | inr high ↦ elim (cases_lt b a) [ inl low ↦ absurd (two low) | inr same ↦ omega arith ]
+]
+
 one_rule : (f : Program) (split : List Part) (rule i other j : ℕ) → IsFirstBroken f split rule i
     → IsFirstBroken f split other j → rule ≡ other
-one_rule f split rule i other j one two = elim (cases_lt rule other) [
-  | inl low ↦ absurd (true≢false (sym one.broken ∙ two.lowest rule i low one.within))
-  | inr high ↦ elim (cases_lt other rule) [
-    | inl low ↦ absurd (true≢false (sym two.broken ∙ one.lowest other j low two.within))
-    | inr same ↦ omega arith
-  ]
-]
+one_rule f split rule i other j one two =
+    neither_below rule other (λ low. true≢false (sym one.broken ∙ two.lowest rule i low one.within))
+    (λ low. true≢false (sym two.broken ∙ one.lowest other j low two.within))
 
 one_place : (f : Program) (split : List Part) (rule i j : ℕ) → IsFirstBroken f split rule i
     → IsFirstBroken f split rule j → i ≡ j
-one_place f split rule i j one two = elim (cases_lt i j) [
-  | inl low ↦ absurd (true≢false (sym one.broken ∙ two.first i low))
-  | inr high ↦ elim (cases_lt j i) [
-    | inl low ↦ absurd (true≢false (sym two.broken ∙ one.first j low))
-    | inr same ↦ omega arith
-  ]
-]
+one_place f split rule i j one two =
+    neither_below i j (λ low. true≢false (sym one.broken ∙ two.first i low))
+    (λ low. true≢false (sym two.broken ∙ one.first j low))
 
 one_broken : (f : Program) (split : List Part) (rule i other j : ℕ) → IsFirstBroken f split rule i
     → IsFirstBroken f split other j → Split (Rule rule i) ≡ Split (Rule other j)
@@ -76,12 +74,6 @@ broken_unspelled f text rule i split other few spelled broken there legal =
 
 -- ## One cause
 
-pub one_over : (x : Option Over) (over other : Over) → x ≡ Some over → x ≡ Some other → over ≡ other
-one_over x over other one two = cc
-
-no_over : (x : Option Over) (over : Over) → x ≡ Some over → x ≡ None → ⊥
-no_over x over some none = cc
-
 lines_are : (a b : ℕ) (before before' : ℕ) → errors.Line a ≡ errors.Line (suc before)
     → errors.Line b ≡ errors.Line (suc before') → before ≡ before' → Split (Line a) ≡ Split (Line b)
 lines_are a b before before' one two same =
@@ -111,8 +103,8 @@ one_unkept (Exceeded excess) (Split (Rule other j)) f allowed text few (split, o
     absurd (broken_unspelled f text other j split' split few spelled' broken' spelled exceeding.legal)
 one_unkept (Exceeded excess) (Exceeded excess') f allowed text few (split, over, spelled, exceeding, is) (split', over', spelled', exceeding', is') =
     let same = same_split f text split split' few spelled spelled' in
-    let first : List Part → Option Over = λ (s : List Part). first_over (counts_of f s allowed.writeback) allowed in
-    let overs = one_over (first split) over over' exceeding.first (sym (ap first same) ∙ exceeding'.first) in
+    let first : List Part → Option Over = λ (s : List Part). first_excess (counts_of f s allowed.writeback) allowed in
+    let overs = one_some (first split) over over' exceeding.first (sym (ap first same) ∙ exceeding'.first) in
     ap Exceeded (is ∙ ap (excess_of f.objects) overs ∙ sym is')
 one_unkept (Split (Line a)) _ f allowed text few one two = absurd two
 one_unkept (Split (Rule rule i)) _ f allowed text few one two = absurd two
@@ -130,9 +122,10 @@ untaken (Split (Rule rule i)) f allowed text few (split', spelled', broken) (spl
     broken_unspelled f text rule i split' split few spelled' broken spelled accepted.legal
 untaken (Exceeded excess) f allowed text few (split', over, spelled', exceeding, is) (split, spelled, accepted) =
     let same = same_split f text split' split few spelled' spelled in
-    let first : List Part → Option Over = λ (s : List Part). first_over (counts_of f s allowed.writeback) allowed in
-    no_over (first split') over exceeding.first
+    let first : List Part → Option Over = λ (s : List Part). first_excess (counts_of f s allowed.writeback) allowed in
+    no_some (first split') over
     (sym (ap first same) ∙ (kept_limits_are_not_exceeded (counts_of f split allowed.writeback) allowed).1 accepted.keeps)
+    exceeding.first
 untaken _ f allowed text few why spelled = absurd why
 
 -- its status, by its cause

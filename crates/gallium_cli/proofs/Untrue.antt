@@ -1,6 +1,5 @@
 -- Why the report that a file holds isn't taken: for one cause, and not where it is.
-use Rattle.std.proofs.Common.{◌≡◌, ◌≢◌, ◌⊎◌, ℕ, suc, List, Option, IsSomeAnd}
-use Rattle.std.proofs.Common.{refl, sym, ap, subst, ◌∙◌, inl, inr, arith}
+use Rattle.std.proofs.Common.{◌≡◌, ◌≢◌, ◌⊎◌, ℕ, suc, List, Option, IsSomeAnd, refl, sym, ap, subst, ◌∙◌, inl, inr, arith}
 use Rattle.std.specs.Prelude.{Ok}
 use Rattle.packet_fields.specs.declared.packet.Packet.{Packet}
 use Rattle.element_lang.specs.Tree.{Tree}
@@ -21,7 +20,7 @@ use Rattle.gallium_cli.specs.declared.refusal.Untruth.{Untruth}
 use Rattle.gallium_cli.specs.declared.refusal.Refusal.{Refusal}
 use Rattle.gallium_cli.specs.declared.refusal.Refusal.TheVariants.{Report, Audit}
 use Rattle.gallium_cli.specs.Lines.{status_of}
-use Rattle.gallium_cli.specs.Roles.{source, trace, true_report}
+use Rattle.gallium_cli.specs.Roles.{true_report}
 use Rattle.gallium_cli.specs.Answers.{IsInput, IsAuditInput}
 use Rattle.gallium_cli.specs.Loads.{IsUnread}
 use Rattle.gallium_cli.specs.Reports.{IsUntrue, untruth_of}

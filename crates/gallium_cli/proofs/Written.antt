@@ -1,8 +1,8 @@
--- What a text that was written leads to, and what a call that came to none.
-use Rattle.std.proofs.Common.{◌≡◌, ◌⊎◌, ◌≤◌, ◌+◌, ◌++◌, ℕ, Bool, true, false, List, length, Option, Some, Result, Ok, Err}
-use Rattle.std.proofs.Common.{IfErr, inl, inr, refl, sym, ap, subst, ◌∙◌, append_assoc, arith}
+-- What a text that was written leads to, what a call that came to none, and which faults each counts.
+use Rattle.std.proofs.Common.{◌≡◌, ◌⊎◌, ◌≤◌, ◌+◌, ◌++◌, ℕ, Bool, true, false, List, length, Option, Some, Result, Ok, Err, IfErr, inl, inr, refl, sym, ap}
+use Rattle.std.proofs.Common.{subst, ◌∙◌, append_assoc, arith}
 use Rattle.std.specs.Prelude.{OnOk, codes}
-use Rattle.gal_io.specs.Count.{Rose}
+use Rattle.gal_io.specs.Count.{Rose, IsCountedIf, count_after}
 use Rattle.gal_io.specs.Files.{FilesState}
 use Rattle.gal_io.specs.Sink.{SinkState}
 use Rattle.gal_io.specs.Lines.{line_end}
@@ -29,7 +29,7 @@ use Rattle.replay_state.specs.Program.{manner_of}
 use Rattle.replay_contracts.specs.declared.job.ReplayError.{ReplayError}
 use Rattle.replay_contracts.specs.declared.job.ReplayError.TheVariants.{PortFault}
 use Rattle.replay_contracts.specs.declared.job.Replayed.{Replayed}
-use Rattle.replay_contracts.specs.Given.{Given}
+use Rattle.replay_contracts.specs.Inputs.{Inputs}
 use Rattle.replay_contracts.specs.Replayer.{HasBroken}
 use Rattle.gallium_cli.specs.declared.status.Status.TheVariants as statuses
 use Rattle.gallium_cli.specs.declared.refusal.Refusal.{Refusal}
@@ -38,22 +38,83 @@ use Rattle.gallium_cli.specs.Call.{work_of}
 use Rattle.traffic_generator.specs.Packets.{packets_of as made_packets}
 use Rattle.traffic_generator.specs.Summary.{summary_of}
 use Rattle.traffic_generator.specs.Translator.{translator_limits, translator_text}
-use Rattle.gallium_cli.specs.Words.{Splitting, ServerAlone, Within, Spelled, is_replay}
-use Rattle.gallium_cli.specs.Words.{Request, Replay, Lossy, Chain}
-use Rattle.gallium_cli.specs.Roles.{Gate, gates_of, split_gates, event_gates, link_gates, split_reads}
-use Rattle.gallium_cli.specs.Answers.{IsAnswer, IsProgram, IsPlan, IsTraffic, IsChoice, IsNoChoice, IsGivenSplit}
-use Rattle.gallium_cli.specs.Answers.{IsSplitBy, IsReport, IsReplayed, given, heading_text, compiled_text, checked_text}
-use Rattle.gallium_cli.specs.Roles.{IsOnlySource}
-use Rattle.gallium_cli.specs.Answers.{IsMadeSplit, IsSummary, made_plan}
+use Rattle.gallium_cli.specs.Words.{Splitting, ServerAlone, Within, Spelled, is_replay, Request, Replay, Lossy, Chain}
+use Rattle.gallium_cli.specs.Roles.{Gate, gates_of, split_gates, event_gates, link_gates, split_reads, IsOnlySource}
+use Rattle.gallium_cli.specs.Answers.{IsAnswer, IsProgram, IsPlan, IsChoice, IsNoChoice, IsGivenSplit, IsSplitBy, IsReplayed, given, heading_text}
+use Rattle.gallium_cli.specs.Answers.{compiled_text, checked_text, IsMadeSplit, IsSummary, made_plan}
 use Rattle.gallium_cli.specs.Broken.{IsBroken, IsBrokenOn, IsMadeBroken}
-use Rattle.gallium_cli.specs.Loads.{GoesOn, raised_by}
+use Rattle.gallium_cli.specs.Loads.{LeavesFiles, raised_by, is_read_fault, is_too_long}
 use Rattle.gallium_cli.specs.Puts.{IsPut, IsNotPut}
-use Rattle.gallium_cli.specs.Causes.{IsFirstRefused, IsAllRead, IsSwitchKept, HasCause}
-use Rattle.gallium_cli.specs.Causes.{CountsFaults, HasEnded, ReadsAll, ReadsSome}
+use Rattle.gallium_cli.specs.Causes.{IsFirstRefused, IsAllRead, IsSwitchKept, HasCause, CountsFaults, HasEnded, ReadsAll, ReadsSome, is_write_fault}
+use Rattle.gallium_cli.specs.Causes.{is_switch_fault}
 use Rattle.gallium_cli.specs.Lines.{status_of}
-use Rattle.gallium_cli.proofs.Counted.{gate_counts, goes_further, goes_still}
-use Rattle.gallium_cli.proofs.Files.{first_before, refused_behind, refused_of_more, replay_passed, split_passed, told_before}
+use Rattle.gallium_cli.proofs.Files.{first_before, refused_behind, refused_of_more, split_passed}
 use Rattle.lemmas.proofs.Numbers.{same_within}
+use Rattle.std.specs.Bool.{OnFalse}
+use Rattle.gallium_cli.specs.declared.status.Status.{Status}
+use Rattle.gallium_cli.proofs.Blamed.{no_gate}
+
+-- ## Files
+
+on_false : (b : Bool) (P Q : Type 0) → (P → Q) → OnFalse b P → OnFalse b Q
+on_false true P Q follows h = tt
+on_false false P Q follows h = follows h
+
+-- reads behind others of which none failed
+pub goes_further : (status : Status) (f g h : FilesState) → LeavesFiles statuses.Done f g → LeavesFiles status g h
+    → LeavesFiles status f h
+goes_further status f g h one two = record {
+  told = λ name. two.told name ∙ one.told name;
+  faults = two.faults ∙ ap (count_after (is_read_fault status)) one.faults;
+  fault_name =
+      on_false (is_read_fault status) (h.fault_name ≡ g.fault_name) (h.fault_name ≡ f.fault_name)
+      (λ same. same ∙ one.fault_name) two.fault_name;
+  overlong = two.overlong ∙ ap (count_after (is_too_long status)) one.overlong;
+  overlong_name =
+      on_false (is_too_long status) (h.overlong_name ≡ g.overlong_name) (h.overlong_name ≡ f.overlong_name)
+      (λ same. same ∙ one.overlong_name) two.overlong_name;
+}
+
+-- the status blames no read
+abbrev pub IsNoFileFault : Status → Type 0
+IsNoFileFault status = (is_read_fault status ≡ false) × (is_too_long status ≡ false)
+
+-- so reads of which none failed may end with it
+pub goes_still : (status : Status) (f g : FilesState) → IsNoFileFault status → LeavesFiles statuses.Done f g
+    → LeavesFiles status f g
+goes_still status f g none goes = record {
+  told = goes.told;
+  faults = subst (λ b. IsCountedIf b f.faults g.faults) (sym none.0) goes.faults;
+  fault_name = subst (λ b. OnFalse b (g.fault_name ≡ f.fault_name)) (sym none.0) goes.fault_name;
+  overlong = subst (λ b. IsCountedIf b f.overlong g.overlong) (sym none.1) goes.overlong;
+  overlong_name = subst (λ b. OnFalse b (g.overlong_name ≡ f.overlong_name)) (sym none.1) goes.overlong_name;
+}
+
+-- ## Gates
+
+gates_no_write : (refusal : Refusal) (gates : List Gate) (f f' : FilesState) → IsFirstRefused refusal gates f f'
+    → is_write_fault (status_of refusal) ≡ false
+gates_no_write WriteFault gates f f' first = absurd (no_gate WriteFault gates f f' tt first)
+gates_no_write _ gates f f' first = refl
+
+gates_no_switch : (refusal : Refusal) (gates : List Gate) (f f' : FilesState) → IsFirstRefused refusal gates f f'
+    → is_switch_fault (status_of refusal) ≡ false
+gates_no_switch SwitchFault gates f f' first = absurd (no_gate SwitchFault gates f f' tt first)
+gates_no_switch _ gates f f' first = refl
+
+-- a request that isn't let through a gate
+pub gate_counts : (refusal : Refusal) (gates : List Gate) (g f f' : FilesState) (p : PortState) (o : SinkState)
+    → IsFirstRefused refusal gates g f' → LeavesFiles (status_of refusal) f f'
+    → CountsFaults (status_of refusal) (work_of f f' p p o o)
+gate_counts refusal gates g f f' p o first goes = record {
+  files = goes;
+  out = subst (λ b. IsCountedIf b o.faults o.faults) (sym (gates_no_write refusal gates g f' first)) refl;
+  switch = subst (λ b. IsCountedIf b p.faults p.faults) (sym (gates_no_switch refusal gates g f' first)) refl;
+}
+
+-- no file was read
+pub unread : (f : FilesState) → LeavesFiles statuses.Done f f
+unread f = record { told = λ name. refl; faults = refl; fault_name = refl; overlong = refl; overlong_name = refl }
 
 -- a file that was read once was read at most once
 pub all_some : (request : Request) (f f' : FilesState) → ReadsAll request f f' → ReadsSome request f f'
@@ -75,7 +136,7 @@ gate_cause refusal request f f' p o first few =
     (inl (first, record { out = refl; port = refl }), few, switch_kept (is_replay request) p)
 
 pub gate_ended : (refusal : Refusal) (request : Request) (f f' : FilesState) (p : PortState) (o : SinkState)
-    → IsFirstRefused refusal (gates_of request) f f' → ReadsSome request f f' → GoesOn (status_of refusal) f f'
+    → IsFirstRefused refusal (gates_of request) f f' → ReadsSome request f f' → LeavesFiles (status_of refusal) f f'
     → HasCause refusal (Some request) (work_of f f' p p o o) × CountsFaults (status_of refusal) (work_of f f' p p o o)
 gate_ended refusal request f f' p o first few goes =
     (gate_cause refusal request f f' p o first few, gate_counts refusal (gates_of request) f f f' p o first goes)
@@ -85,7 +146,7 @@ pub replay_ended : (refusal : Refusal) (request : Request) (f f' : FilesState) (
     → ((refusal ≡ NoMemory) × (p'.faults ≡ p.faults)) ⊎ ((refusal ≡ SwitchFault) × Rose p.faults p'.faults)
     → is_replay request ≡ true → IsAllRead request (work_of f f' p p' o o)
     → (refusal ≡ SwitchFault → IsBroken request f.told p p') → IsSwitchKept (is_replay request) p p'
-    → GoesOn statuses.Done f f'
+    → LeavesFiles statuses.Done f f'
     → HasCause refusal (Some request) (work_of f f' p p' o o) × CountsFaults (status_of refusal) (work_of f f' p p' o o)
 replay_ended refusal request f f' p p' o (inl (is, same)) replays all broken kept goes =
     subst (λ (x : Refusal). HasCause x (Some request) (work_of f f' p p' o o)
@@ -107,11 +168,11 @@ replay_ended refusal request f f' p p' o (inr (is, rose)) replays all broken kep
 -- what a switch that failed is left with, by the flat program of a middlebox
 pub broken_on : (m : Tree) (f : Program) (split : List Part) (writeback : ℕ) (packets : List Packet) (fine : Bool)
     (e : ReplayError) (p p' : PortState) → f ≡ flat_of m → e ≡ PortFault
-    → (let x : Given =
+    → (let x : Inputs =
     record { program = f; split = split; writeback = writeback; packets = packets; manner = manner_of fine } in
     HasBroken x e p p' → IsBrokenOn (given m split writeback packets fine) p p')
 broken_on m f split writeback packets fine e p p' is fault broken =
-    let at : Program → Given =
+    let at : Program → Inputs =
     λ g. record { program = g; split = split; writeback = writeback; packets = packets; manner = manner_of fine } in
     subst (λ (g : Program). HasBroken (at g) PortFault p p') is
     (subst (λ (end : ReplayError). HasBroken (at f) end p p') fault broken)
@@ -120,7 +181,7 @@ broken_on m f split writeback packets fine e p p' is fault broken =
 
 pub put_ended : {A : Type 0} (result : Result A Refusal) (request : Request) (text : List ℕ) (f f' : FilesState)
     (p p' : PortState) (o o' : SinkState) → IsAnswer text request f.told p p' → ReadsAll request f f'
-    → GoesOn statuses.Done f f' → IsSwitchKept (is_replay request) p p' → p'.faults ≡ p.faults
+    → LeavesFiles statuses.Done f f' → IsSwitchKept (is_replay request) p p' → p'.faults ≡ p.faults
     → OnOk result (IsPut text o o') → IfErr result (λ refusal. IsNotPut refusal text o o')
     → HasEnded result (Some request) (work_of f f' p p' o o')
 put_ended (Ok x) request text f f' p p' o o' answer read goes kept same put unput =
@@ -225,22 +286,11 @@ pub all_reads : (request : Request) (s : List ℕ) (by : Splitting) (more : List
 all_reads request s by more f g h goes one two =
     goes.all f h (reads_in_all (split_reads s by) 2 f.reads g.reads h.reads one two)
 
--- a replay whose split, packets and plan are there has passed all gates
-pub replay_read : (s t c : List ℕ) (by : Splitting) (m : Tree) (split : List Part) (writeback : ℕ) (packets : List Packet)
-    (plan : Plan) (f g h : FilesState) (p p' : PortState) (o : SinkState) → IsSplitBy by f.told s m split writeback
-    → GoesOn statuses.Done f g → IsTraffic g.told t c packets plan → g.reads ≡ raised_by (split_reads s by) f.reads
-    → h.reads ≡ raised_by 2 g.reads → IsAllRead (Replay s t c by) (work_of f h p p' o o)
-replay_read s t c by m split writeback packets plan f g h p p' o found goes traffic one two = record {
-  passed = replay_passed by s t c f.told m split writeback packets plan found
-      (told_before (λ told. IsTraffic told t c packets plan) f g goes traffic);
-  reads = all_reads (Replay s t c by) s by (event_gates t c) f g h (replay_goes s t c by) one two;
-}
-
 -- it isn't let through the split
 pub split_ended : (refusal : Refusal) (request : Request) (s : List ℕ) (by : Splitting) (more : List Gate)
     (f g : FilesState) (p : PortState) (o : SinkState) → GoesBy request s by more
     → IsFirstRefused refusal (split_gates s by) f g → g.reads ≤ raised_by (split_reads s by) f.reads
-    → GoesOn (status_of refusal) f g
+    → LeavesFiles (status_of refusal) f g
     → HasCause refusal (Some request) (work_of f g p p o o) × CountsFaults (status_of refusal) (work_of f g p p o o)
 split_ended refusal request s by more f g p o goes first few counts =
     gate_ended refusal request f g p o
@@ -251,8 +301,8 @@ split_ended refusal request s by more f g p o goes first few counts =
 -- or through the gates behind it
 pub more_ended : (refusal : Refusal) (request : Request) (s : List ℕ) (by : Splitting) (more : List Gate) (m : Tree)
     (split : List Part) (writeback : ℕ) (f g h : FilesState) (p : PortState) (o : SinkState) → GoesBy request s by more
-    → IsSplitBy by f.told s m split writeback → GoesOn statuses.Done f g → g.reads ≡ raised_by (split_reads s by) f.reads
-    → IsFirstRefused refusal more g h → h.reads ≤ raised_by 2 g.reads → GoesOn (status_of refusal) g h
+    → IsSplitBy by f.told s m split writeback → LeavesFiles statuses.Done f g → g.reads ≡ raised_by (split_reads s by) f.reads
+    → IsFirstRefused refusal more g h → h.reads ≤ raised_by 2 g.reads → LeavesFiles (status_of refusal) g h
     → HasCause refusal (Some request) (work_of f h p p o o) × CountsFaults (status_of refusal) (work_of f h p p o o)
 more_ended refusal request s by more m split writeback f g h p o goes found stays one first two counts =
     gate_ended refusal request f h p o
@@ -261,32 +311,6 @@ more_ended refusal request s by more m split writeback f g h p o goes found stay
     (first_before refusal more f g h stays first)))
     (goes.some f h (reads_at_most (split_reads s by) 2 f.reads g.reads h.reads one two))
     (goes_further (status_of refusal) f g h stays counts)
-
--- the report of a replay that was put on out is an answer
-pub replay_answer : (s t c : List ℕ) (by : Splitting) (m : Tree) (split : List Part) (writeback : ℕ)
-    (packets : List Packet) (plan : Plan) (text sent : List ℕ) (f g : FilesState) (p p' : PortState)
-    → GoesOn statuses.Done f g → IsSplitBy by f.told s m split writeback → IsTraffic g.told t c packets plan
-    → ((replayed : Replayed) × IsReport text m (given m split writeback packets plan.fine) plan replayed p p') → sent ≡ text
-    → IsAnswer sent (Replay s t c by) f.told p p'
-replay_answer s t c by m split writeback packets plan text sent f g p p' goes found traffic report put = (
-  m,
-  split,
-  writeback,
-  packets,
-  plan,
-  report.0,
-  found,
-  told_before (λ told. IsTraffic told t c packets plan) f g goes traffic,
-  subst (λ x. IsReport x m (given m split writeback packets plan.fine) plan report.0 p p') (sym put) report.1,
-)
-
--- where its switch failed
-pub replay_broken : (s t c : List ℕ) (by : Splitting) (m : Tree) (split : List Part) (writeback : ℕ)
-    (packets : List Packet) (plan : Plan) (f g : FilesState) (p p' : PortState) → GoesOn statuses.Done f g
-    → IsSplitBy by f.told s m split writeback → IsTraffic g.told t c packets plan
-    → IsBrokenOn (given m split writeback packets plan.fine) p p' → IsBroken (Replay s t c by) f.told p p'
-replay_broken s t c by m split writeback packets plan f g p p' goes found traffic broken =
-    (m, split, writeback, packets, plan, found, told_before (λ told. IsTraffic told t c packets plan) f g goes traffic, broken)
 
 -- ## Made work
 

@@ -48,7 +48,7 @@ use Rattle.replay_state.specs.Step.{applies}
 use Rattle.replay_state.specs.Views.{KeepViews}
 use Rattle.split_answers.specs.Through.{HasTables}
 use Rattle.replay_contracts.specs.declared.job.Replayed.{Replayed}
-use Rattle.replay_contracts.specs.Given.{Given, setup_for, whole_runs}
+use Rattle.replay_contracts.specs.Inputs.{Inputs, setup_for, whole_runs}
 use Rattle.replay_contracts.specs.Promise.{state_for}
 use Rattle.replay_contracts.specs.Replayer.{IsReported}
 use Rattle.lossy_replay.specs.declared.run.LossyRun.{LossyRun}
@@ -59,8 +59,8 @@ use Rattle.traffic_generator.specs.Translator.{translator_limits, translator_tex
 use Rattle.gallium_cli.specs.Links.{IsLinkReport, IsLinkTraffic}
 use Rattle.gallium_cli.specs.Seen.{IsFastAsSeen}
 use Rattle.gallium_cli.specs.Words as words
-use Rattle.gallium_cli.specs.Words.{Splitting, ServerAlone, Within, Spelled}
-use Rattle.gallium_cli.specs.Words.{Request, Run, Compile, Replay, Lossy, Check, Audit, Gen, PcapIn, PcapOut}
+use Rattle.gallium_cli.specs.Words.{Splitting, ServerAlone, Within, Spelled, Request, Run, Compile, Replay, Lossy}
+use Rattle.gallium_cli.specs.Words.{Check, Audit, Gen, PcapIn, PcapOut}
 use Rattle.gallium_cli.specs.Roles.{source, program, limits, legal_split, trace, schedule, capture, size_of}
 use Rattle.gallium_cli.specs.Roles.{true_report, AreLimits, IsCaptured, IsOnlySource, IsShort}
 use Rattle.gallium_cli.specs.Chains.{IsWired, AreClasses, IsOneSource, connected}
@@ -155,7 +155,7 @@ IsCompiled told s l shrink text =
 -- ## Replays
 
 -- a split middlebox and the packets of a trace, as a replay takes them, in a fine run or a plain one
-abbrev pub given : Tree → List Part → ℕ → List Packet → Bool → Given
+abbrev pub given : Tree → List Part → ℕ → List Packet → Bool → Inputs
 given m split writeback packets fine = record {
   program = flat_of m;
   split = split;
@@ -166,22 +166,22 @@ given m split writeback packets fine = record {
 
 -- the events of a plan, with those that drain picks where whole packets run over whole stores, and the state that they
 -- end in
-abbrev pub events_of : Given → Plan → List Event
+abbrev pub events_of : Inputs → Plan → List Event
 events_of x plan = plan_events (setup_for x) (whole_runs x) plan.events plan.drain
 
-abbrev pub end_of : Given → Plan → State
+abbrev pub end_of : Inputs → Plan → State
 end_of x plan = state_for x (events_of x plan)
 
 -- where nothing is left on its way at the end of a plan
-abbrev pub EndsQuiet : Given → Plan → Type 0
+abbrev pub EndsQuiet : Inputs → Plan → Type 0
 EndsQuiet x plan = IsTrue (is_quiet (end_of x plan))
 
 -- its pass before the server has ended
-abbrev pub HasPassed : Given → List Event → RunTold → Type 0
+abbrev pub HasPassed : Inputs → List Event → RunTold → Type 0
 HasPassed x before run = is_passing (slice_get run.fates (length (state_for x before).progress)) ≡ false
 
 -- What a switch that tells its tables makes of a plan: a serial run of the source.
-pub record IsSerialRun (m : Tree) (x : Given) (plan : Plan) (run : RunTold) (port : PortState) : Type 0 where
+pub record IsSerialRun (m : Tree) (x : Inputs) (plan : Plan) (run : RunTold) (port : PortState) : Type 0 where
   -- it is the run of whole packets by these events
   pub run_is : run ≡ job_run (setup_for x) (whole_runs x) (events_of x plan)
   -- what it releases, and what it leaves, is what the source does to the decided packets in the reported order
@@ -206,13 +206,13 @@ pub record IsSerialRun (m : Tree) (x : Given) (plan : Plan) (run : RunTold) (por
 -- What comes of this replay of a split middlebox over a switch. Whatever the switch answers, it tells what the calls of
 -- the switch make of the plan, each packet is released once, and a plan with `drain` ends drained; where the switch tells
 -- its tables, this very run is a serial run of the source.
-pub record IsReplayed (m : Tree) (x : Given) (plan : Plan) (replayed : Replayed) (port port_after : PortState)
+pub record IsReplayed (m : Tree) (x : Inputs) (plan : Plan) (replayed : Replayed) (port port_after : PortState)
     : Type 0 where
   pub reported : IsReported x plan.events plan.drain replayed port_after
   pub serial : IsSome port.told → IsSerialRun m x plan replayed.run port_after
 
 -- a text that reports what comes of it
-abbrev pub IsReport : List ℕ → Tree → Given → Plan → Replayed → PortState → PortState → Type 0
+abbrev pub IsReport : List ℕ → Tree → Inputs → Plan → Replayed → PortState → PortState → Type 0
 IsReport text m x plan replayed port port_after =
     (text ≡ report_of m.objects replayed.run) × IsReplayed m x plan replayed port port_after
 

@@ -7,19 +7,19 @@ use Rattle.run_model.specs.declared.link_event.LinkEvent.{LinkEvent}
 use Rattle.run_text.specs.declared.plan.Plan.{Plan}
 use Rattle.switch_ir.specs.Port.{PortState}
 use Rattle.replay_contracts.specs.declared.job.ReplayError.TheVariants as errors
-use Rattle.replay_contracts.specs.Given.{Given}
+use Rattle.replay_contracts.specs.Inputs.{Inputs}
 use Rattle.replay_contracts.specs.Replayer.{HasBroken}
 use Rattle.traffic_generator.specs.Packets.{packets_of as made_packets}
 use Rattle.gallium_cli.specs.Answers.{IsMadeSplit, IsSplitBy, IsTraffic, given}
 use Rattle.gallium_cli.specs.Links.{IsLinkTraffic}
 use Rattle.gallium_cli.specs.Words.{Request, Replay, Lossy, Gen, Within}
 
--- One call of the switch failed in this replay. The switch is as it was, but for the count of faults; or it was loaded
+-- One call of the switch failed in a replay. The switch is as it was, but for the count of faults; or it was loaded
 -- with the code of this split, keeps it, and may have been called more.
-abbrev pub IsBrokenOn : Given → PortState → PortState → Type 0
+abbrev pub IsBrokenOn : Inputs → PortState → PortState → Type 0
 IsBrokenOn x port port_after = HasBroken x errors.PortFault port port_after
 
--- so it is of the replay of so many packets that are made from a seed
+-- what the replay of so many packets that are made from a seed left so
 pub record IsMadeBroken (seed count : ℕ) (port port_after : PortState) : Type 0 where
   pub m : Tree
   pub split : List Part
@@ -27,8 +27,8 @@ pub record IsMadeBroken (seed count : ℕ) (port port_after : PortState) : Type 
   pub made : IsMadeSplit m split writeback
   pub broken : IsBrokenOn (given m split writeback (made_packets seed count) false) port port_after
 
--- So it is of the replay that a request asks for: of some middlebox and packets that the files spell, by the split that is
--- asked for. The events are spelled, too.
+-- What the replay that a request asks for left so: one of some middlebox and packets that the files spell, by the split
+-- that is asked for. The events are spelled, too.
 abbrev pub IsBroken : Request → (List ℕ → Option (List ℕ)) → PortState → PortState → Type 0
 IsBroken (Replay s t c by) told port port_after =
     (m : Tree) × (split : List Part) × (writeback : ℕ) × (packets : List Packet) × (plan : Plan)

@@ -1,6 +1,6 @@
 -- How a call ends: why each refusal comes, and what it leaves on out and err.
-use Rattle.std.specs.Prelude.{◌≡◌, ◌≤◌, ◌⊎◌, ℕ, Bool, true, false, List, [], ◌∷◌, length, take}
-use Rattle.std.specs.Prelude.{Option, Some, None, IfSome, is_some, Result, Ok, Err}
+use Rattle.std.specs.Prelude.{◌≡◌, ◌≤◌, ◌⊎◌, ℕ, Bool, true, false, List, [], ◌∷◌, length, take, Option, Some, None}
+use Rattle.std.specs.Prelude.{IfSome, is_some, Result, Ok, Err}
 use Rattle.std.specs.Io.KnownBytes.{append_known}
 use Rattle.gal_io.specs.Count.{Rose, IsCountedIf}
 use Rattle.gal_io.specs.Files.{FilesState}
@@ -23,14 +23,13 @@ use Rattle.gallium_cli.specs.declared.refusal.Refusal.TheVariants.{Usage, Exceed
 use Rattle.gallium_cli.specs.Call.{Call, Work}
 use Rattle.gallium_cli.specs.Words.{Request, Chain, is_replay, request_of}
 use Rattle.gallium_cli.specs.Lines.{status_of, line_of}
-use Rattle.gallium_cli.specs.Roles.{legal_split, true_report, Gate, File, Choice, SplitFile, ReportFile, Composed}
-use Rattle.gallium_cli.specs.Roles.{IsFirst, IsGood}
+use Rattle.gallium_cli.specs.Roles.{Role, legal_split, true_report, Gate, File, Choice, SplitFile, ReportFile, Composed}
+use Rattle.gallium_cli.specs.Roles.{IsFirst, IsGood, gates_of, names_of}
 use Rattle.gallium_cli.specs.Chains.{IsChainRefused, IsChainPassed, AreAllNames, AreNames}
-use Rattle.gallium_cli.specs.Roles.{gates_of, names_of}
 use Rattle.gallium_cli.specs.Splits.{excess_of}
 use Rattle.gallium_cli.specs.Answers.{IsPlan, IsAuditInput, IsAnswer}
 use Rattle.gallium_cli.specs.Broken.{IsBroken}
-use Rattle.gallium_cli.specs.Loads.{IsFileRefused, GoesOn, raised_by}
+use Rattle.gallium_cli.specs.Loads.{IsFileRefused, LeavesFiles, raised_by}
 
 -- why no split of a program is chosen: the greatest one exceeds a limit, and this one first, or no memory was found
 abbrev pub IsUnchosen : Refusal → Program → Limits → Bool → Type 0
@@ -46,32 +45,29 @@ IsOverLimit refusal s l shrink told =
 
 -- ## The first gate that isn't passed
 
+-- what is so of the file that is read at a gate, by its name and by the role that it has for what other files hold
+abbrev pub IsAtFile : (List ℕ → Option (List ℕ)) → (List ℕ → Role → Type 0) → Gate → Type 0
+IsAtFile told IsSo (File name role) = IsSo name role
+IsAtFile told IsSo (SplitFile s l p) =
+    (m : Tree) × (allowed : Limits) × IsPlan told s l m allowed × IsSo p (legal_split (flat_of m) allowed)
+IsAtFile told IsSo (ReportFile s t r) =
+    (m : Tree) × (packets : List Packet) × IsAuditInput told s t m packets × IsSo r (true_report m packets)
+IsAtFile told IsSo _ = ⊥
+
 -- why a request goes no further: a file is refused, or no split is chosen, or the split or the report of a file isn't
 -- taken, or a chain isn't composed
 abbrev pub IsRefusedAt : Refusal → Gate → FilesState → FilesState → Type 0
-IsRefusedAt refusal (File name role) f f' = IsFileRefused refusal role name f f'
 IsRefusedAt refusal (Choice s l shrink) f f' = IsOverLimit refusal s l shrink f.told
-IsRefusedAt refusal (SplitFile s l p) f f' =
-    (m : Tree) × (allowed : Limits)
-    × IsPlan f.told s l m allowed × IsFileRefused refusal (legal_split (flat_of m) allowed) p f f'
-IsRefusedAt refusal (ReportFile s t r) f f' =
-    (m : Tree) × (packets : List Packet)
-    × IsAuditInput f.told s t m packets × IsFileRefused refusal (true_report m packets) r f f'
 IsRefusedAt refusal (Composed w) f f' = IsChainRefused refusal w f f'
+IsRefusedAt refusal gate f f' = IsAtFile f.told (λ name role. IsFileRefused refusal role name f f') gate
 
 -- a file is good, where it is told, and a split is chosen, or taken, or a report is, or a chain is composed
 abbrev pub IsPassed : Gate → (List ℕ → Option (List ℕ)) → Type 0
-IsPassed (File name role) told = IfSome (told name) (IsGood role)
 IsPassed (Choice s l shrink) told =
     (m : Tree) × (allowed : Limits) × (split : List Part)
     × IsPlan told s l m allowed × IsChosen (flat_of m) allowed shrink split
-IsPassed (SplitFile s l p) told =
-    (m : Tree) × (allowed : Limits)
-    × IsPlan told s l m allowed × IfSome (told p) (IsGood (legal_split (flat_of m) allowed))
-IsPassed (ReportFile s t r) told =
-    (m : Tree) × (packets : List Packet)
-    × IsAuditInput told s t m packets × IfSome (told r) (IsGood (true_report m packets))
 IsPassed (Composed w) told = IsChainPassed w told
+IsPassed gate told = IsAtFile told (λ name role. IfSome (told name) (IsGood role)) gate
 
 -- each of these gates is passed
 abbrev pub AllPassed : List Gate → (List ℕ → Option (List ℕ)) → Type 0
@@ -86,9 +82,9 @@ IsFirstRefused refusal gates f f' =
 -- what the reads of this many files, which go through these gates, left: no fault, where the result is there; or else the
 -- first gate that isn't passed, and its fault, if it is for one
 abbrev pub HasRead : {A : Type 0} → Result A Refusal → List Gate → ℕ → FilesState → FilesState → Type 0
-HasRead (Ok x) gates count f f' = GoesOn statuses.Done f f' × (f'.reads ≡ raised_by count f.reads)
+HasRead (Ok x) gates count f f' = LeavesFiles statuses.Done f f' × (f'.reads ≡ raised_by count f.reads)
 HasRead (Err refusal) gates count f f' =
-    IsFirstRefused refusal gates f f' × GoesOn (status_of refusal) f f' × (f'.reads ≤ raised_by count f.reads)
+    IsFirstRefused refusal gates f f' × LeavesFiles (status_of refusal) f f' × (f'.reads ≤ raised_by count f.reads)
 
 -- ## How a request ends
 
@@ -179,7 +175,7 @@ is_switch_fault _ = false
 -- What a request that ends with this status counts: the fault that the status names, once, and no other. No call that
 -- failed was made again.
 pub record CountsFaults (status : Status) (work : Work) : Type 0 where
-  pub files : GoesOn status work.files work.files_after
+  pub files : LeavesFiles status work.files work.files_after
   pub out : IsCountedIf (is_write_fault status) work.out.faults work.out_after.faults
   pub switch : IsCountedIf (is_switch_fault status) work.port.faults work.port_after.faults
 

@@ -1,6 +1,6 @@
 -- Chains of elements: what their files tell, and why no source is made of one.
-use Rattle.std.specs.Prelude.{◌≡◌, ◌≢◌, ◌≤◌, ◌<◌, ◌+◌, ◌⊎◌, ℕ, IsTrue, not, List, [], ◌∷◌, ◌++◌}
-use Rattle.std.specs.Prelude.{length, map, filter, slice_get, Option, Some, None, IfSome, codes}
+use Rattle.std.specs.Prelude.{◌≡◌, ◌≢◌, ◌≤◌, ◌<◌, ◌+◌, ◌⊎◌, ℕ, IsTrue, not, List, [], ◌∷◌, ◌++◌, length, map, filter}
+use Rattle.std.specs.Prelude.{slice_get, Option, Some, None, IfSome, codes}
 use Rattle.std.specs.Option.{option_map}
 use Rattle.std.specs.Str.{bytes_eq}
 use Rattle.gal_io.specs.Files.{FilesState}
@@ -16,8 +16,7 @@ use Rattle.element_print.specs.Printed.{print_tokens, text_of}
 use Rattle.element_lang.specs.Accepted.{IsSource}
 use Rattle.element_chain.specs.declared.chain.Chain.{Chain}
 use Rattle.element_chain.specs.declared.chain.Element.{Element}
-use Rattle.element_chain.specs.Chain.{Connected}
-use Rattle.element_chain.specs.Chain.{element_at, store_at, chain_run}
+use Rattle.element_chain.specs.Chain.{Connected, element_at, store_at, chain_run}
 use Rattle.element_chain.specs.Compose.{composed, joined, base_of}
 use Rattle.element_chain.specs.Laws.{AreKept}
 use Rattle.chain_text.specs.Reads.{IsChainText}

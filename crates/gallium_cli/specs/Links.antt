@@ -1,6 +1,6 @@
 -- What a replay over links is told.
-use Rattle.std.specs.Prelude.{◌≡◌, ◌≤◌, ℕ, List, ◌++◌, ◌∷◌, length, Option, IfSome, IsSome, IsSomeAnd}
-use Rattle.std.specs.Prelude.{Ok, true, IsTrue, codes, decimal}
+use Rattle.std.specs.Prelude.{◌≡◌, ◌≤◌, ℕ, List, ◌++◌, ◌∷◌, length, Option, IfSome, IsSome, IsSomeAnd, Ok, true, IsTrue}
+use Rattle.std.specs.Prelude.{codes, decimal}
 use Rattle.gal_io.specs.Lines.{line_end}
 use Rattle.packet_fields.specs.declared.packet.Packet.{Packet}
 use Rattle.element_lang.specs.Tree.{Tree}
@@ -18,7 +18,7 @@ use Rattle.replay_state.specs.Run.{job_run}
 use Rattle.replay_state.specs.State.{State}
 use Rattle.replay_state.specs.Step.{applies}
 use Rattle.split_answers.specs.Through.{HasTables}
-use Rattle.replay_contracts.specs.Given.{Given, setup_for, whole_runs}
+use Rattle.replay_contracts.specs.Inputs.{Inputs, setup_for, whole_runs}
 use Rattle.replay_contracts.specs.Promise.{state_for}
 use Rattle.lossy_replay.specs.Linked.{linked_of}
 use Rattle.lossy_replay.specs.Replay.{HasEnds, IsLinkedReplay, events_through, world_of}
@@ -55,11 +55,11 @@ pub record IsLinkTraffic (told : List ℕ → Option (List ℕ)) (t c : List ℕ
   pub schedule_is : IfSome (told c) (λ text. (length text ≤ size_of link_schedule) × (link_schedule_of text ≡ Ok events))
 
 -- the state of whole packets behind the events that come through
-abbrev pub end_through : Given → List LinkEvent → State
+abbrev pub end_through : Inputs → List LinkEvent → State
 end_through x events = state_for x (events_through x events)
 
 -- What a switch that tells its tables makes of a schedule over links: a serial run of the source.
-pub record IsSerialOverLinks (m : Tree) (x : Given) (events : List LinkEvent) (run : RunTold) (port : PortState)
+pub record IsSerialOverLinks (m : Tree) (x : Inputs) (events : List LinkEvent) (run : RunTold) (port : PortState)
     : Type 0 where
   -- it is the run of whole packets by the events that come through
   pub run_is : run ≡ job_run (setup_for x) (whole_runs x) (events_through x events)
@@ -79,13 +79,13 @@ pub record IsSerialOverLinks (m : Tree) (x : Given) (events : List LinkEvent) (r
 -- What comes of a replay over links. Whatever the switch answers, it tells what the calls of the switch make of the
 -- schedule, and the links are those behind it; where the switch tells its tables, this very run is a serial run of the
 -- source, and the links are those of whole packets.
-pub record IsLinkReplayed (m : Tree) (x : Given) (events : List LinkEvent) (run : LossyRun) (port port_after : PortState)
+pub record IsLinkReplayed (m : Tree) (x : Inputs) (events : List LinkEvent) (run : LossyRun) (port port_after : PortState)
     : Type 0 where
   pub linked : IsLinkedReplay x events run port_after
   pub serial : IsSome port.told → IsSerialOverLinks m x events run.run port_after
   pub ends : IsSome port.told → HasEnds (linked_of (setup_for x) (world_of x) events) run
 
 -- a text that reports what comes of it, with a line for each link
-abbrev pub IsLinkReport : List ℕ → Tree → Given → List LinkEvent → LossyRun → PortState → PortState → Type 0
+abbrev pub IsLinkReport : List ℕ → Tree → Inputs → List LinkEvent → LossyRun → PortState → PortState → Type 0
 IsLinkReport text m x events run port port_after =
     (text ≡ report_of m.objects run.run ++ link_lines run) × IsLinkReplayed m x events run port port_after

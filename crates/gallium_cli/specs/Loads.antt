@@ -21,12 +21,11 @@ use Rattle.run_text.specs.declared.refusal.LinesError.TheVariants as lines
 use Rattle.gallium_cli.specs.declared.status.Status.{Status}
 use Rattle.gallium_cli.specs.declared.status.Status.TheVariants as statuses
 use Rattle.gallium_cli.specs.declared.refusal.Refusal.{Refusal}
-use Rattle.gallium_cli.specs.declared.refusal.Refusal.TheVariants.{Source, LongProgram, Limits, Exceeded, Split, Trace, Schedule}
-use Rattle.gallium_cli.specs.declared.refusal.Refusal.TheVariants.{TooLong, ReadFault, NoMemory, Pcap, Report, Audit}
-use Rattle.gallium_cli.specs.declared.refusal.Refusal.TheVariants.{Chain}
-use Rattle.gallium_cli.specs.Roles.{Role, source, program, limits, legal_split, true_report, trace, schedule, link_schedule}
-use Rattle.gallium_cli.specs.Roles.{wiring, capture, size_of}
-use Rattle.gallium_cli.specs.Roles.{IsSpelled}
+use Rattle.gallium_cli.specs.declared.refusal.Refusal.TheVariants.{Source, LongProgram, Limits, Exceeded, Split, Trace}
+use Rattle.gallium_cli.specs.declared.refusal.Refusal.TheVariants.{Schedule, TooLong, ReadFault, NoMemory, Pcap, Report}
+use Rattle.gallium_cli.specs.declared.refusal.Refusal.TheVariants.{Audit, Chain}
+use Rattle.gallium_cli.specs.Roles.{Role, source, program, limits, legal_split, true_report, trace, schedule}
+use Rattle.gallium_cli.specs.Roles.{link_schedule, wiring, capture, size_of, IsSpelled}
 use Rattle.gallium_cli.specs.Splits.{IsUnkept}
 use Rattle.gallium_cli.specs.Reports.{IsUntrue}
 
@@ -80,13 +79,13 @@ IsAlone (Audit untruth) (true_report m packets) text =
 IsAlone _ role text = Unit {0}
 
 -- it is refused for this cause, and for no other
-abbrev pub IsHeld : Refusal → Role → List ℕ → Type 0
-IsHeld refusal role text = IsCauseOf refusal role text × IsAlone refusal role text
+abbrev pub IsSoleCause : Refusal → Role → List ℕ → Type 0
+IsSoleCause refusal role text = IsCauseOf refusal role text × IsAlone refusal role text
 
 -- why a text isn't read
 abbrev pub IsUnread : Refusal → Role → List ℕ → Type 0
 IsUnread NoMemory role text = Unit {0}
-IsUnread refusal role text = IsOfRole refusal role × IsHeld refusal role text
+IsUnread refusal role text = IsOfRole refusal role × IsSoleCause refusal role text
 
 -- a file of this role is too long, and is blamed for it; a file can't be read, and is blamed for that
 abbrev pub IsFileTooLong : Role → List ℕ → FilesState → FilesState → Type 0
@@ -103,7 +102,7 @@ IsFileRefused (TooLong blamed) role name f f' = (blamed.now ≡ name) × IsFileT
 IsFileRefused (ReadFault blamed) role name f f' = (blamed.now ≡ name) × IsFileFaulty name f f'
 IsFileRefused NoMemory role name f f' = Unit {0}
 IsFileRefused refusal role name f f' =
-    IsOfRole refusal role × IfSome (f.told name) (λ text. (length text ≤ size_of role) × IsHeld refusal role text)
+    IsOfRole refusal role × IfSome (f.told name) (λ text. (length text ≤ size_of role) × IsSoleCause refusal role text)
 
 -- the bytes of a file that was read: the told ones, where they are told
 abbrev pub AreBytesOf : List ℕ → List ℕ → ℕ → FilesState → Type 0
@@ -123,7 +122,7 @@ is_too_long _ = false
 
 -- Files after some reads, by how these ended: what is told stays, a read fault or a file that is too long is counted
 -- once, where the status is that, and all else but the number of reads is as before.
-pub record GoesOn (status : Status) (f f' : FilesState) : Type 0 where
+pub record LeavesFiles (status : Status) (f f' : FilesState) : Type 0 where
   pub told : (name : List ℕ) → f'.told name ≡ f.told name
   pub faults : IsCountedIf (is_read_fault status) f.faults f'.faults
   pub fault_name : OnFalse (is_read_fault status) (f'.fault_name ≡ f.fault_name)

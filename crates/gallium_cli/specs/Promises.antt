@@ -1,7 +1,6 @@
 -- What the program promises of a whole call.
-use Rattle.std.specs.Prelude.{◌≡◌, ◌<◌, ◌≤◌, ◌⊎◌, ◌≢◌, ℕ, Bool, true, false, List, [], ◌∷◌, length, slice_get}
-use Rattle.std.specs.Prelude.{Option, Some, None, Ok}
-use Rattle.std.specs.Prelude.{IsSome, IsSomeAnd, is_some}
+use Rattle.std.specs.Prelude.{◌≡◌, ◌<◌, ◌≤◌, ◌⊎◌, ◌≢◌, ℕ, Bool, true, false, List, [], ◌∷◌, length, slice_get, Option}
+use Rattle.std.specs.Prelude.{Some, None, Ok, IsSome, IsSomeAnd, is_some}
 use Rattle.std.specs.Io.KnownBytes.{append_known}
 use Rattle.gal_io.specs.Count.{Rose}
 use Rattle.packet_fields.specs.declared.packet.Packet.{Packet}
@@ -18,19 +17,19 @@ use Rattle.chain_compose.specs.Refusals as composing
 use Rattle.chain_compose.specs.declared.error.ComposeError.{ComposeError}
 use Rattle.chain_compose.specs.declared.error.ComposeError.TheVariants as composed
 use Rattle.gallium_cli.specs.declared.status.Status.{Status}
-use Rattle.gallium_cli.specs.declared.status.Status.TheVariants.{Done, Usage, Source, Limits as BadLimits, Exceeded, Split}
-use Rattle.gallium_cli.specs.declared.status.Status.TheVariants.{Trace, Schedule, TooLong, ReadFault, WriteFault}
+use Rattle.gallium_cli.specs.declared.status.Status.TheVariants.{Done, Usage, Source, Limits as BadLimits, Exceeded}
+use Rattle.gallium_cli.specs.declared.status.Status.TheVariants.{Split, Trace, Schedule, TooLong, ReadFault, WriteFault}
 use Rattle.gallium_cli.specs.declared.status.Status.TheVariants.{SwitchFault, NoMemory, Pcap, Report, Audit as Untrue}
 use Rattle.gallium_cli.specs.declared.status.Status.TheVariants.{Chain as BadChain}
 use Rattle.gallium_cli.specs.declared.refusal.Refusal.{Refusal}
 use Rattle.gallium_cli.specs.declared.refusal.Refusal.TheVariants as refusals
 use Rattle.gallium_cli.specs.Call.{Call, Work}
-use Rattle.gallium_cli.specs.Words.{Request, Compile, Replay, Lossy, Check, Audit, Chain, Within, Spelled, is_replay, request_of}
+use Rattle.gallium_cli.specs.Words.{Request, Compile, Replay, Lossy, Check, Audit, Chain, Within, Spelled, is_replay}
+use Rattle.gallium_cli.specs.Words.{request_of}
 use Rattle.gallium_cli.specs.Lines.{status_of, line_of}
 use Rattle.gallium_cli.specs.Roles.{Role, source, program, limits, legal_split, true_report, wiring, trace, schedule}
-use Rattle.gallium_cli.specs.Roles.{capture, link_schedule}
-use Rattle.gallium_cli.specs.Roles.{Gate, File, Choice, SplitFile, ReportFile, Composed, IsFirst, gates_of, names_of}
-use Rattle.gallium_cli.specs.Roles.{size_of, IsGood, IsBad, IsShort, AreLimits}
+use Rattle.gallium_cli.specs.Roles.{capture, link_schedule, Gate, File, Choice, SplitFile, ReportFile, Composed}
+use Rattle.gallium_cli.specs.Roles.{IsFirst, gates_of, names_of, size_of, IsGood, IsBad, IsShort, AreLimits}
 use Rattle.gallium_cli.specs.Loads.{IsCauseOf}
 use Rattle.gallium_cli.specs.Splits.{SpellsLegal, excess_of}
 use Rattle.gallium_cli.specs.Reports.{TellsRun}
@@ -110,27 +109,32 @@ pub record IsCompileText (told : List ℕ → Option (List ℕ)) (s l p : List �
 abbrev pub IsToldWiring : (List ℕ → Option (List ℕ)) → List ℕ → ChainTold → Type 0
 IsToldWiring told w chain = IsSomeAnd (told w) (λ text. (length text ≤ size_of wiring) × IsChainText text chain)
 
--- They are told of the class of each element, and spell these middleboxes: one for all elements of a class.
+-- The contents of the files of all classes are told, and spell these middleboxes: one for all elements of a class.
 pub record AreToldClasses (told : List ℕ → Option (List ℕ)) (chain : ChainTold) (ms : List Tree) : Type 0 where
   pub count : length ms ≡ length chain.elements
   pub each : (e : ℕ) (x : Element) (m : Tree) → slice_get chain.elements e ≡ Some x → slice_get ms e ≡ Some m
       → IsSomeAnd (told (file_of x.class)) (λ text. (length text ≤ size_of source) × IsSource text m)
 
+-- what is so of the told text of the file that is read at a gate, as the role that it has for what other files tell
+abbrev pub IsToldAt : (List ℕ → Option (List ℕ)) → (Role → List ℕ → Type 0) → Gate → Type 0
+IsToldAt told IsSo (File name role) = IsSomeAnd (told name) (IsSo role)
+IsToldAt told IsSo (SplitFile s l p) =
+    (m : Tree) × (allowed : Limits)
+    × IsToldPlan told s l m allowed × IsSomeAnd (told p) (IsSo (legal_split (flat_of m) allowed))
+IsToldAt told IsSo (ReportFile s t r) =
+    (m : Tree) × (packets : List Packet)
+    × IsToldInput told s t m packets × IsSomeAnd (told r) (IsSo (true_report m packets))
+IsToldAt told IsSo _ = ⊥
+
 -- a content is told and good, and a split isn't refused, or is there to take, or a report is there, or a chain is composed
 abbrev pub IsOpen : (List ℕ → Option (List ℕ)) → Gate → Type 0
-IsOpen told (File name role) = IsSomeAnd (told name) (IsGood role)
 IsOpen told (Choice s l shrink) =
     (m : Tree) × (allowed : Limits)
     × IsToldPlan told s l m allowed × choice.IsUnrefused (flat_of m) allowed shrink
-IsOpen told (SplitFile s l p) =
-    (m : Tree) × (allowed : Limits)
-    × IsToldPlan told s l m allowed × IsSomeAnd (told p) (IsGood (legal_split (flat_of m) allowed))
-IsOpen told (ReportFile s t r) =
-    (m : Tree) × (packets : List Packet)
-    × IsToldInput told s t m packets × IsSomeAnd (told r) (IsGood (true_report m packets))
 IsOpen told (Composed w) =
     (chain : ChainTold) × (ms : List Tree)
     × IsToldWiring told w chain × AreToldClasses told chain ms × composing.IsUnrefused (connected chain ms)
+IsOpen told gate = IsToldAt told IsGood gate
 
 abbrev pub AllOpen : (List ℕ → Option (List ℕ)) → List Gate → Type 0
 AllOpen told [] = Unit {0}
@@ -157,57 +161,16 @@ abbrev pub IsRefusedAs : Role → Status → List ℕ → Type 0
 IsRefusedAs role status text =
     ((status ≡ TooLong) × (size_of role < length text)) ⊎ (IsStatusOf status role text × IsBad role text)
 
--- the first file of these that isn't good is told, and refused with this status as the source of a class
-abbrev pub IsFirstClassShut : (List ℕ → Option (List ℕ)) → List (List ℕ) → Status → Type 0
-IsFirstClassShut told names status =
-    IsFirst (λ name. IsSomeAnd (told name) (IsGood source))
-    (λ name. IsSomeAnd (told name) (IsRefusedAs source status)) names
-
 -- a chain of middleboxes that are told is refused for this
 abbrev pub IsToldUncomposed : (List ℕ → Option (List ℕ)) → ChainTold → ComposeError → Type 0
 IsToldUncomposed told chain error =
     (ms : List Tree)
     × AreToldClasses told chain ms × (error ≢ composed.NoMemory) × composing.IsRefused (connected chain ms) error
 
--- a content is told and refused with this status, or the greatest split exceeds a limit and may not shrink, or a chain
--- isn't composed
-abbrev pub IsShut : (List ℕ → Option (List ℕ)) → Gate → Status → Type 0
-IsShut told (File name role) status = IsSomeAnd (told name) (IsRefusedAs role status)
-IsShut told (Choice s l shrink) status =
-    (status ≡ Exceeded)
-    × ((m : Tree) × (allowed : Limits) × (over : Over)
-    × IsToldPlan told s l m allowed × choice.IsRefused (flat_of m) allowed shrink over)
-IsShut told (SplitFile s l p) status =
-    (m : Tree) × (allowed : Limits)
-    × IsToldPlan told s l m allowed × IsSomeAnd (told p) (IsRefusedAs (legal_split (flat_of m) allowed) status)
-IsShut told (ReportFile s t r) status =
-    (m : Tree) × (packets : List Packet)
-    × IsToldInput told s t m packets × IsSomeAnd (told r) (IsRefusedAs (true_report m packets) status)
-IsShut told (Composed w) status =
-    (chain : ChainTold) × IsToldWiring told w chain
-    × (IsFirstClassShut told (class_files chain.elements) status
-    ⊎ ((status ≡ BadChain) × ((error : ComposeError) × IsToldUncomposed told chain error)))
-
--- the gates before one are open, and that one is shut with this status
-abbrev pub IsFirstShut : (List ℕ → Option (List ℕ)) → List Gate → Status → Type 0
-IsFirstShut told gates status = IsFirst (IsOpen told) (λ gate. IsShut told gate status) gates
-
 -- words with no form end in this status, unless the line can't be written; those with a form never do
 abbrev pub IsUsage : Option Request → Status → Type 0
 IsUsage None result = (result ≡ Usage) ⊎ IsWriteFault result
 IsUsage (Some request) result = result ≢ Usage
-
--- where every gate of a request is open, it is done unless there is a fault
-abbrev pub IsComplete : Option Request → Status → Call → Type 0
-IsComplete None result call = Unit {0}
-IsComplete (Some request) result call = AllOpen call.work.files.told (gates_of request) → IsUnlessFault Done result
-
--- where the first gate that isn't open is shut with a status, that is answered unless there is a fault before the switch
--- is called
-abbrev pub IsExact : Option Request → Status → Call → Type 0
-IsExact None result call = Unit {0}
-IsExact (Some request) result call =
-    (status : Status) → IsFirstShut call.work.files.told (gates_of request) status → IsUnlessEarlyFault status result
 
 -- why a text of this role is refused for what it holds, within its size
 abbrev pub IsCause : Refusal → Role → List ℕ → Type 0
@@ -218,45 +181,57 @@ abbrev pub IsClassCause : Refusal → List ℕ → List ℕ → Type 0
 IsClassCause (refusals.ClassSource fault file) name text = (file ≡ name) × IsCause (refusals.Source fault) source text
 IsClassCause _ name text = ⊥
 
--- the first file of these that isn't good is told, and refused for this cause
-abbrev pub IsFirstClassCause : (List ℕ → Option (List ℕ)) → List (List ℕ) → Refusal → Type 0
-IsFirstClassCause told names cause =
-    IsFirst (λ name. IsSomeAnd (told name) (IsGood source))
-    (λ name. IsSomeAnd (told name) (IsClassCause cause name)) names
+-- ## Shut gates
 
--- a content is told and refused for this cause, or the greatest split exceeds this limit first and may not shrink
-abbrev pub IsShutFor : (List ℕ → Option (List ℕ)) → Gate → Refusal → Type 0
-IsShutFor told (File name role) cause = IsSomeAnd (told name) (IsCause cause role)
-IsShutFor told (Choice s l shrink) cause =
+-- what a shut gate is blamed with: a status, or a whole refusal
+pub data Blame : Type 0 where
+  WithStatus : (status : Status) → Blame
+  WithCause : (cause : Refusal) → Blame
+
+-- a text of this role is refused so
+abbrev pub IsTextBlamed : Blame → Role → List ℕ → Type 0
+IsTextBlamed (WithStatus status) role text = IsRefusedAs role status text
+IsTextBlamed (WithCause cause) role text = IsCause cause role text
+
+-- the text of this file is refused so as the source of a class
+abbrev pub IsClassBlamed : Blame → List ℕ → List ℕ → Type 0
+IsClassBlamed (WithStatus status) name text = IsRefusedAs source status text
+IsClassBlamed (WithCause cause) name text = IsClassCause cause name text
+
+-- a split of this middlebox is refused so for this limit
+abbrev pub IsLimitBlamed : Blame → Tree → Over → Type 0
+IsLimitBlamed (WithStatus status) m over = status ≡ Exceeded
+IsLimitBlamed (WithCause cause) m over = cause ≡ refusals.Exceeded (excess_of m.objects over)
+
+-- the chain of these elements is refused so for this
+abbrev pub IsChainBlamed : Blame → List Element → ComposeError → Type 0
+IsChainBlamed (WithStatus status) es error = status ≡ BadChain
+IsChainBlamed (WithCause cause) es error = cause ≡ refusals.Uncomposed (uncomposed_of es error)
+
+-- the first class file of a chain that isn't good is told, and refused so; or the chain isn't composed
+abbrev pub IsChainShut : (List ℕ → Option (List ℕ)) → ChainTold → Blame → Type 0
+IsChainShut told chain blame =
+    IsFirst (λ name. IsSomeAnd (told name) (IsGood source)) (λ name. IsSomeAnd (told name) (IsClassBlamed blame name))
+    (class_files chain.elements)
+    ⊎ ((error : ComposeError) × IsToldUncomposed told chain error × IsChainBlamed blame chain.elements error)
+
+-- a content is told and refused so, or the greatest split exceeds a limit, this one first, and may not shrink, or a chain
+-- isn't composed
+abbrev pub IsShut : (List ℕ → Option (List ℕ)) → Gate → Blame → Type 0
+IsShut told (Choice s l shrink) blame =
     (m : Tree) × (allowed : Limits) × (over : Over)
-    × IsToldPlan told s l m allowed × choice.IsRefused (flat_of m) allowed shrink over
-    × (cause ≡ refusals.Exceeded (excess_of m.objects over))
-IsShutFor told (SplitFile s l p) cause =
-    (m : Tree) × (allowed : Limits)
-    × IsToldPlan told s l m allowed × IsSomeAnd (told p) (IsCause cause (legal_split (flat_of m) allowed))
-IsShutFor told (ReportFile s t r) cause =
-    (m : Tree) × (packets : List Packet)
-    × IsToldInput told s t m packets × IsSomeAnd (told r) (IsCause cause (true_report m packets))
-IsShutFor told (Composed w) cause =
-    (chain : ChainTold) × IsToldWiring told w chain
-    × (IsFirstClassCause told (class_files chain.elements) cause
-    ⊎ ((error : ComposeError) × IsToldUncomposed told chain error
-    × (cause ≡ refusals.Uncomposed (uncomposed_of chain.elements error))))
+    × IsToldPlan told s l m allowed × choice.IsRefused (flat_of m) allowed shrink over × IsLimitBlamed blame m over
+IsShut told (Composed w) blame = (chain : ChainTold) × IsToldWiring told w chain × IsChainShut told chain blame
+IsShut told gate blame = IsToldAt told (IsTextBlamed blame) gate
 
--- the gates before one are open, and that one is shut for this cause
-abbrev pub IsFirstCause : (List ℕ → Option (List ℕ)) → List Gate → Refusal → Type 0
-IsFirstCause told gates cause = IsFirst (IsOpen told) (λ gate. IsShutFor told gate cause) gates
+-- the gates before one are open, and that one is shut so
+abbrev pub IsFirstShut : (List ℕ → Option (List ℕ)) → List Gate → Blame → Type 0
+IsFirstShut told gates blame = IsFirst (IsOpen told) (λ gate. IsShut told gate blame) gates
 
 -- the status is that of this refusal and err received its line, unless there is a fault before the switch is called
 abbrev pub IsBlamedFor : Refusal → Status → Call → Type 0
 IsBlamedFor cause result call =
     ((result ≡ status_of cause) × (call.err_after.taken ≡ append_known call.err.taken (line_of cause))) ⊎ IsEarlyFault result
-
--- where the first gate that isn't open is shut for a cause, err receives its line, unless there is such a fault
-abbrev pub IsCauseTold : Option Request → Status → Call → Type 0
-IsCauseTold None result call = Unit {0}
-IsCauseTold (Some request) result call =
-    (cause : Refusal) → IsFirstCause call.work.files.told (gates_of request) cause → IsBlamedFor cause result call
 
 -- a limit is exceeded only where a split is chosen that may not shrink, or given
 abbrev pub MayExceed : Option Request → Type 0
@@ -329,9 +304,15 @@ pub record Promises (status : Status) (call : Call) : Type 0 where
   pub once : IsReadOnce (request_of call.words) status call
   -- which status comes, by the words and the told texts
   pub usage : IsUsage (request_of call.words) status
-  pub exact : IsExact (request_of call.words) status call
-  pub cause : IsCauseTold (request_of call.words) status call
-  pub complete : IsComplete (request_of call.words) status call
+  -- where the first gate that isn't open is shut with a status, that is answered, and where it is shut for a cause, err
+  -- receives its line, unless there is a fault before the switch is called
+  pub exact : (request : Request) (expected : Status) → request_of call.words ≡ Some request
+      → IsFirstShut call.work.files.told (gates_of request) (WithStatus expected) → IsUnlessEarlyFault expected status
+  pub cause : (request : Request) (refusal : Refusal) → request_of call.words ≡ Some request
+      → IsFirstShut call.work.files.told (gates_of request) (WithCause refusal) → IsBlamedFor refusal status call
+  -- where every gate of a request is open, it is done unless there is a fault
+  pub complete : (request : Request) → request_of call.words ≡ Some request
+      → AllOpen call.work.files.told (gates_of request) → IsUnlessFault Done status
   pub exceeded : status ≡ Exceeded → MayExceed (request_of call.words)
   -- the text that tells the chosen split of this source is never refused as a split of it within the same limits: it is
   -- read, and is legal, and keeps them; so it is accepted, unless it is too long or there is a fault

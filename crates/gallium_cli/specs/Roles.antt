@@ -21,9 +21,9 @@ use Rattle.element_chain.specs.declared.chain.Chain.{Chain}
 use Rattle.chain_text.specs.Reads.{IsChainText}
 use Rattle.pcap_trace.specs.declared.pcap.Pcap.{Pcap}
 use Rattle.pcap_trace.specs.Format.{IsPcap, pcap_bytes}
-use Rattle.gallium_cli.specs.Words.{Splitting, ServerAlone, Within, Spelled}
+use Rattle.gallium_cli.specs.Words.{Splitting, ServerAlone, Within, Spelled, Request, Run, Compile, Replay, Lossy}
+use Rattle.gallium_cli.specs.Words.{Check, Audit, Gen, PcapIn, PcapOut}
 use Rattle.gallium_cli.specs.Words as words
-use Rattle.gallium_cli.specs.Words.{Request, Run, Compile, Replay, Lossy, Check, Audit, Gen, PcapIn, PcapOut}
 
 -- what a file is read as
 pub data Role : Type 0 where

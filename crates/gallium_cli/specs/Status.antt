@@ -1,9 +1,9 @@
 -- The exit code of each status.
 use Rattle.std.specs.Prelude.{ℕ}
 use Rattle.gallium_cli.specs.declared.status.Status.{Status}
-use Rattle.gallium_cli.specs.declared.status.Status.TheVariants.{Done, Usage, Source, Limits, Exceeded, Split, Trace, Schedule}
-use Rattle.gallium_cli.specs.declared.status.Status.TheVariants.{TooLong, ReadFault, WriteFault, SwitchFault, NoMemory, Pcap}
-use Rattle.gallium_cli.specs.declared.status.Status.TheVariants.{Report, Audit, Chain}
+use Rattle.gallium_cli.specs.declared.status.Status.TheVariants.{Done, Usage, Source, Limits, Exceeded, Split, Trace}
+use Rattle.gallium_cli.specs.declared.status.Status.TheVariants.{Schedule, TooLong, ReadFault, WriteFault, SwitchFault}
+use Rattle.gallium_cli.specs.declared.status.Status.TheVariants.{NoMemory, Pcap, Report, Audit, Chain}
 
 abbrev pub code_of : Status → ℕ
 code_of Done = 0

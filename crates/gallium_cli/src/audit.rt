@@ -15,7 +15,7 @@ ghost use Rattle.gallium_cli.specs.Lines.{status_of};
 ghost use Rattle.gallium_cli.specs.Roles.{gates_of, true_report};
 ghost use Rattle.gallium_cli.specs.Reports.{untruth_of};
 ghost use Rattle.gallium_cli.specs.Answers.{IsAuditInput, IsTrueFile, audited_text};
-ghost use Rattle.gallium_cli.specs.Loads.{GoesOn, IsFileRefused, IsUnread, raised_by};
+ghost use Rattle.gallium_cli.specs.Loads.{LeavesFiles, IsFileRefused, IsUnread, raised_by};
 ghost use Rattle.gallium_cli.specs.Causes.{HasEnded, HasRead};
 
 use crate::exceeding::owner;
@@ -147,9 +147,9 @@ fn load_report<'a, F: Files>(
         IsTrueFile (F.seen files.old).told name.now (tree m.now) packets.now run) }
     ensures err { IfErr result (λ refusal. IsFileRefused refusal (true_report (tree m.now) packets.now) name.now
         (F.seen files.old) (F.seen files.new)) }
-    ensures stays { OnOk result (GoesOn Status.Done (F.seen files.old) (F.seen files.new)) }
+    ensures stays { OnOk result (LeavesFiles Status.Done (F.seen files.old) (F.seen files.new)) }
     ensures fault { IfErr result (λ refusal.
-        GoesOn (status_of refusal) (F.seen files.old) (F.seen files.new)) }
+        LeavesFiles (status_of refusal) (F.seen files.old) (F.seen files.new)) }
     ensures read { (F.seen files.new).reads ≡ raised_by 1 (F.seen files.old).reads }
 {
     let format = ReportFormat {

@@ -14,7 +14,7 @@ ghost use Rattle.gallium_cli.specs.Words.{Chain as ChainOf};
 ghost use Rattle.gallium_cli.specs.Call.{work_of};
 ghost use Rattle.gallium_cli.specs.Lines.{status_of};
 ghost use Rattle.gallium_cli.specs.Roles.{source, wiring, size_of, IsOnlySource};
-ghost use Rattle.gallium_cli.specs.Loads.{GoesOn, IsUnread, raised_by};
+ghost use Rattle.gallium_cli.specs.Loads.{LeavesFiles, IsUnread, raised_by};
 ghost use Rattle.gallium_cli.specs.Chains.{AreClasses, IsPlaceOf, MayReadNext, ReadsNext, class_files, class_refusal, file_of};
 ghost use Rattle.gallium_cli.specs.Chains.{IsClassRefused, IsFirstClassRefused, IsNextRefused, IsUncomposed, IsOneSource};
 ghost use Rattle.gallium_cli.specs.Chains.{connected, element_of};
@@ -103,9 +103,9 @@ fn load_class<F: Files>(
     ensures names { IfOk result (λ m. HasNames (tree m)) }
     ensures err { IfErr result (λ refusal. IsClassRefused refusal (file_of class.now)
         (F.seen files.old) (F.seen files.new)) }
-    ensures stays { OnOk result (GoesOn Status.Done (F.seen files.old) (F.seen files.new)) }
+    ensures stays { OnOk result (LeavesFiles Status.Done (F.seen files.old) (F.seen files.new)) }
     ensures fault { IfErr result (λ refusal.
-        GoesOn (status_of refusal) (F.seen files.old) (F.seen files.new)) }
+        LeavesFiles (status_of refusal) (F.seen files.old) (F.seen files.new)) }
     ensures read { OnOk result ((F.seen files.new).reads ≡ raised_by 1 (F.seen files.old).reads) }
     ensures few_reads { ((F.seen files.new).reads ≡ (F.seen files.old).reads)
         ⊎ ((F.seen files.new).reads ≡ raised_by 1 (F.seen files.old).reads) }
@@ -153,9 +153,9 @@ fn next_class<F: Files>(
     ensures names { IfOk result (λ m. HasNames (tree m)) }
     ensures err { IfErr result (λ refusal. IsNextRefused refusal (class_files (take (length known.now) elements.now))
         (class_files (take (length known.now + 1) elements.now)) (F.seen files.old) (F.seen files.new)) }
-    ensures stays { OnOk result (GoesOn Status.Done (F.seen files.old) (F.seen files.new)) }
+    ensures stays { OnOk result (LeavesFiles Status.Done (F.seen files.old) (F.seen files.new)) }
     ensures fault { IfErr result (λ refusal.
-        GoesOn (status_of refusal) (F.seen files.old) (F.seen files.new)) }
+        LeavesFiles (status_of refusal) (F.seen files.old) (F.seen files.new)) }
     ensures read { OnOk result (ReadsNext (class_files (take (length known.now) elements.now))
         (class_files (take (length known.now + 1) elements.now)) (F.seen files.old).reads (F.seen files.new).reads) }
     ensures few_reads { MayReadNext (class_files (take (length known.now) elements.now))
@@ -183,9 +183,9 @@ fn load_classes<F: Files>(
     ensures names { IfOk result (λ ms. All (λ m. HasNames (tree m)) ms.items) }
     ensures err { IfErr result (λ refusal. IsFirstClassRefused refusal (class_files elements.now)
         (F.seen files.old) (F.seen files.new)) }
-    ensures stays { OnOk result (GoesOn Status.Done (F.seen files.old) (F.seen files.new)) }
+    ensures stays { OnOk result (LeavesFiles Status.Done (F.seen files.old) (F.seen files.new)) }
     ensures fault { IfErr result (λ refusal.
-        GoesOn (status_of refusal) (F.seen files.old) (F.seen files.new)) }
+        LeavesFiles (status_of refusal) (F.seen files.old) (F.seen files.new)) }
     ensures read { OnOk result ((F.seen files.new).reads
         ≡ reads_after (class_files elements.now) (F.seen files.old).reads) }
     ensures few_reads { (F.seen files.new).reads

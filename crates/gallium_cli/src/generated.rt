@@ -54,7 +54,7 @@ fn made_program(alloc: Global) -> Result<Flattened, NoMemory>
     }
 }
 
-// Its split. The greatest one keeps the limits, so here too nothing but want of memory stops this.
+// The split of that program. The greatest one keeps the limits, so nothing but want of memory stops this.
 fn made_parts(alloc: Global, f: &Flat, allowed: &Limits) -> Result<Split, NoMemory>
     requires bounded { IsBounded (program_of f.now) }
     requires in_range { AreInRange allowed.now }

@@ -8,7 +8,7 @@ ghost use Rattle.split_validate.specs.Validated.{IsAccepted, IsCause};
 ghost use Rattle.gallium_cli.specs.Lines.{status_of};
 ghost use Rattle.gallium_cli.specs.Roles.{legal_split};
 ghost use Rattle.gallium_cli.specs.Answers.{IsGivenSplit};
-ghost use Rattle.gallium_cli.specs.Loads.{GoesOn, IsFileRefused, IsUnread, raised_by};
+ghost use Rattle.gallium_cli.specs.Loads.{LeavesFiles, IsFileRefused, IsUnread, raised_by};
 
 use crate::exceeding::excess;
 use crate::load::{Format, MAX_TEXT, load};
@@ -44,7 +44,7 @@ fn read(alloc: Global, f: &Flat, text: &[u8]) -> Result<Split, Refusal<'static>>
     }
 }
 
-// What is told where the split of a text isn't taken.
+// The refusal of a text whose split isn't taken.
 fn told(
     alloc: Global,
     f: &Flat,
@@ -126,9 +126,9 @@ pub fn load_parts<'a, F: Files>(
     ensures few { IfOk result HasFewStages }
     ensures err { IfErr result (λ refusal. IsFileRefused refusal (legal_split (program_of f.now) allowed.now) name.now
         (F.seen files.old) (F.seen files.new)) }
-    ensures stays { OnOk result (GoesOn Status.Done (F.seen files.old) (F.seen files.new)) }
+    ensures stays { OnOk result (LeavesFiles Status.Done (F.seen files.old) (F.seen files.new)) }
     ensures fault { IfErr result (λ refusal.
-        GoesOn (status_of refusal) (F.seen files.old) (F.seen files.new)) }
+        LeavesFiles (status_of refusal) (F.seen files.old) (F.seen files.new)) }
     ensures read { (F.seen files.new).reads ≡ raised_by 1 (F.seen files.old).reads }
 {
     let format = SplitFormat { flat: f, allowed };

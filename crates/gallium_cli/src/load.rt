@@ -2,7 +2,7 @@
 ghost use Rattle.std.specs.Prelude.{◌≡◌, ◌≤◌, IfOk, IfErr, IfSome, List, OnOk, ℕ, length};
 ghost use Rattle.gallium_cli.specs.Lines.{status_of};
 ghost use Rattle.gallium_cli.specs.Roles.{Role, size_of};
-ghost use Rattle.gallium_cli.specs.Loads.{IsFileRefused, IsUnread, GoesOn, raised_by};
+ghost use Rattle.gallium_cli.specs.Loads.{IsFileRefused, IsUnread, LeavesFiles, raised_by};
 
 use crate::refusal::Refusal;
 use crate::status::Status;
@@ -57,9 +57,9 @@ pub fn load<'a, T: Format, F: Files>(
     ensures sound { IfOk result (λ value. T.sound format.now value) }
     ensures err { IfErr result (λ refusal. IsFileRefused refusal (T.role format.now) name.now
         (F.seen files.old) (F.seen files.new)) }
-    ensures stays { OnOk result (GoesOn Status.Done (F.seen files.old) (F.seen files.new)) }
+    ensures stays { OnOk result (LeavesFiles Status.Done (F.seen files.old) (F.seen files.new)) }
     ensures fault { IfErr result (λ refusal.
-        GoesOn (status_of refusal) (F.seen files.old) (F.seen files.new)) }
+        LeavesFiles (status_of refusal) (F.seen files.old) (F.seen files.new)) }
     ensures read { (F.seen files.new).reads ≡ raised_by 1 (F.seen files.old).reads }
 {
     let mut bytes = Vec::new(alloc);

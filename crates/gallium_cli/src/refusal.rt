@@ -78,9 +78,9 @@ pub enum Refusal<'a> {
     Trace(LinesError),
     /// The schedule is refused, for this cause, which isn't want of memory.
     Schedule(LinesError),
-    /// This file has more bytes than its size allows.
+    /// The file of this name has more bytes than its size allows.
     TooLong(&'a str),
-    /// This file can't be read.
+    /// The file of this name can't be read.
     ReadFault(&'a str),
     /// The answer can't be written.
     WriteFault,

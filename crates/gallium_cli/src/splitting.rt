@@ -23,7 +23,7 @@ use crate::refusal::Refusal;
 use crate::words::SplitForm;
 use flat_ir::Flat;
 use gal_io::Files;
-use partition::{PartError, all_on_server, partition};
+use partition::{PartitionError, all_on_server, partition};
 use resource_limits::Limits;
 use split_model::Split;
 use std::alloc::Global;
@@ -73,11 +73,11 @@ pub fn choose(
 {
     match partition(alloc, f, allowed, shrink) {
         Ok(split) => Ok(split),
-        Err(PartError::Exceeds(over)) => {
+        Err(PartitionError::Exceeds(over)) => {
             let told = excess(alloc, f.objects.as_slice(), over)?;
             Err(Refusal::Exceeded(told))
         }
-        Err(PartError::NoMemory) => Err(Refusal::NoMemory),
+        Err(PartitionError::NoMemory) => Err(Refusal::NoMemory),
     }
 }
 
@@ -169,7 +169,7 @@ pub fn load_split<'a, F: Files>(
 {
     match split {
         SplitForm::ServerAlone => load_served(alloc, source, files),
-        SplitForm::Within { limits, shrink } => load_within(alloc, source, limits, shrink, files),
-        SplitForm::Spelled { limits, split } => load_given(alloc, source, limits, split, files),
+        SplitForm::Within(limits, shrink) => load_within(alloc, source, limits, shrink, files),
+        SplitForm::Spelled(limits, split) => load_given(alloc, source, limits, split, files),
     }
 }

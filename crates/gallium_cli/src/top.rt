@@ -76,38 +76,26 @@ fn perform_form<'a, F: Files, S: SwitchPort, O: Sink>(
         (O.seen out.old) (O.seen out.new)) }
 {
     match form {
-        Form::Run { source, trace } => perform_run(alloc, source, trace, files, out),
-        Form::Compile {
-            source,
-            limits,
-            shrink,
-        } => perform_compile(alloc, source, limits, shrink, files, out),
-        Form::Replay {
-            source,
-            trace,
-            schedule,
-            split,
-        } => perform_replay(alloc, source, trace, schedule, split, files, port, out),
-        Form::Lossy {
-            source,
-            trace,
-            schedule,
-            limits,
-        } => perform_lossy(alloc, source, trace, schedule, limits, files, port, out),
-        Form::Check {
-            source,
-            limits,
-            split,
-        } => perform_check(alloc, source, limits, split, files, out),
-        Form::Audit {
-            source,
-            trace,
-            report,
-        } => perform_audit(alloc, source, trace, report, files, out),
-        Form::Chain { wiring } => perform_chain(alloc, wiring, files, out),
-        Form::Gen { seed, count } => perform_gen(alloc, seed, count, port, out),
-        Form::PcapIn { capture, port: by } => perform_pcap_in(alloc, capture, by, files, out),
-        Form::PcapOut { trace, big, nano } => perform_pcap_out(alloc, trace, big, nano, files, out),
+        Form::Run(source, trace) => perform_run(alloc, source, trace, files, out),
+        Form::Compile(source, limits, shrink) => {
+            perform_compile(alloc, source, limits, shrink, files, out)
+        }
+        Form::Replay(source, trace, schedule, split) => {
+            perform_replay(alloc, source, trace, schedule, split, files, port, out)
+        }
+        Form::Lossy(source, trace, schedule, limits) => {
+            perform_lossy(alloc, source, trace, schedule, limits, files, port, out)
+        }
+        Form::Check(source, limits, split) => {
+            perform_check(alloc, source, limits, split, files, out)
+        }
+        Form::Audit(source, trace, report) => {
+            perform_audit(alloc, source, trace, report, files, out)
+        }
+        Form::Chain(wiring) => perform_chain(alloc, wiring, files, out),
+        Form::Gen(seed, count) => perform_gen(alloc, seed, count, port, out),
+        Form::PcapIn(capture, by) => perform_pcap_in(alloc, capture, by, files, out),
+        Form::PcapOut(trace, big, nano) => perform_pcap_out(alloc, trace, big, nano, files, out),
     }
 }
 

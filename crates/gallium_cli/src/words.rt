@@ -11,75 +11,39 @@ use traffic_generator::Count;
 pub enum SplitForm<'a> {
     /// Every instruction is left to the server, and so every packet is sent there.
     ServerAlone,
-    /// The split that `Compile` would print.
-    Within { limits: &'a str, shrink: bool },
-    /// The split that a file spells, which has to keep these limits.
-    Spelled { limits: &'a str, split: &'a str },
+    /// The split that `Compile` would print, within these limits, and whether it may shrink.
+    Within(&'a str, bool),
+    /// The split that a file spells, behind the limits that it has to keep.
+    Spelled(&'a str, &'a str),
 }
 
-/// What a command asks for. Each text is the name of a file.
+/// What a command asks for. Each text is the name of a file, in the order in which the words name them.
 #[derive(Clone, Copy, Debug)]
 pub enum Form<'a> {
-    /// Runs a middlebox on the packets of a trace, one after the other.
-    Run {
-        source: &'a str,
-        trace: &'a str,
-    },
-    /// Prints the flat program of a middlebox and its split within these limits. The greatest split has to keep them,
-    /// or else may shrink until it does.
-    Compile {
-        source: &'a str,
-        limits: &'a str,
-        shrink: bool,
-    },
-    /// Replays a middlebox on a trace by a schedule, with this split.
-    Replay {
-        source: &'a str,
-        trace: &'a str,
-        schedule: &'a str,
-        split: SplitForm<'a>,
-    },
-    /// Replays a middlebox on a trace by a schedule over links that lose, repeat and reorder, with the split that
-    /// `Compile` would print within these limits.
-    Lossy {
-        source: &'a str,
-        trace: &'a str,
-        schedule: &'a str,
-        limits: &'a str,
-    },
-    /// Prints what the split takes that a file spells, where it is legal and keeps these limits.
-    Check {
-        source: &'a str,
-        limits: &'a str,
-        split: &'a str,
-    },
-    /// Says whether a report is true of a middlebox and the packets of a trace.
-    Audit {
-        source: &'a str,
-        trace: &'a str,
-        report: &'a str,
-    },
+    /// Runs the middlebox of a source on the packets of a trace, one after the other.
+    Run(&'a str, &'a str),
+    /// Prints the flat program of a source and its split within limits. The greatest split has to keep them, or else
+    /// may shrink until it does, where the last is true.
+    Compile(&'a str, &'a str, bool),
+    /// Replays the middlebox of a source on a trace by a schedule, with this split.
+    Replay(&'a str, &'a str, &'a str, SplitForm<'a>),
+    /// Replays the middlebox of a source on a trace by a schedule over links that lose, repeat and reorder, with the
+    /// split that `Compile` would print within limits.
+    Lossy(&'a str, &'a str, &'a str, &'a str),
+    /// Prints what a split of a source takes that the last file spells, where it is legal and keeps the limits of the
+    /// second.
+    Check(&'a str, &'a str, &'a str),
+    /// Says whether a report is true of the middlebox of a source and the packets of a trace.
+    Audit(&'a str, &'a str, &'a str),
     /// Prints a chain of middleboxes as one source.
-    Chain {
-        wiring: &'a str,
-    },
-    /// Replays so many packets that are made from a seed, and prints a summary.
-    Gen {
-        seed: u64,
-        count: Count,
-    },
+    Chain(&'a str),
+    /// Replays packets that are made from a seed, so many, and prints a summary.
+    Gen(u64, Count),
     /// Prints the packets of a capture as a trace. Each arrives by this port.
-    PcapIn {
-        capture: &'a str,
-        port: u8,
-    },
+    PcapIn(&'a str, u8),
     /// Prints the packets of a trace as a capture: whether its numbers have the highest byte first, and whether its
     /// fractions of seconds are nanoseconds.
-    PcapOut {
-        trace: &'a str,
-        big: bool,
-        nano: bool,
-    },
+    PcapOut(&'a str, bool, bool),
 }
 
 // The port that a word is.
@@ -127,7 +91,7 @@ fn pcap_in<'a>(way: &str, capture: &'a str, port: &str) -> Option<Form<'a>>
         return None;
     }
     let port = port_of(port)?;
-    Some(Form::PcapIn { capture, port })
+    Some(Form::PcapIn(capture, port))
 }
 
 fn pcap_out<'a>(way: &str, trace: &'a str, order: &str, unit: &str) -> Option<Form<'a>>
@@ -139,7 +103,7 @@ fn pcap_out<'a>(way: &str, trace: &'a str, order: &str, unit: &str) -> Option<Fo
     }
     let big = order_of(order)?;
     let nano = unit_of(unit)?;
-    Some(Form::PcapOut { trace, big, nano })
+    Some(Form::PcapOut(trace, big, nano))
 }
 
 // The number of packets that a word is.
@@ -157,7 +121,7 @@ fn made_by<'a>(seed: &str, count: &str) -> Option<Form<'a>>
 {
     let seed = number_up_to(seed.as_bytes(), u64::MAX)?;
     let count = count_of(count)?;
-    Some(Form::Gen { seed, count })
+    Some(Form::Gen(seed, count))
 }
 
 /// The form of the words after the program's name, if they have one.
@@ -168,25 +132,16 @@ pub fn form_of<'a>(words: &'a [String]) -> Option<Form<'a>>
     match words {
         [word, wiring] => {
             if word.as_str() == "chain" {
-                return Some(Form::Chain {
-                    wiring: wiring.as_str(),
-                });
+                return Some(Form::Chain(wiring.as_str()));
             }
             None
         }
         [word, source, second] => {
             if word.as_str() == "run" {
-                return Some(Form::Run {
-                    source: source.as_str(),
-                    trace: second.as_str(),
-                });
+                return Some(Form::Run(source.as_str(), second.as_str()));
             }
             if word.as_str() == "compile" {
-                return Some(Form::Compile {
-                    source: source.as_str(),
-                    limits: second.as_str(),
-                    shrink: false,
-                });
+                return Some(Form::Compile(source.as_str(), second.as_str(), false));
             }
             if word.as_str() == "gen" {
                 return made_by(source.as_str(), second.as_str());
@@ -198,34 +153,22 @@ pub fn form_of<'a>(words: &'a [String]) -> Option<Form<'a>>
                 return pcap_in(source.as_str(), second.as_str(), third.as_str());
             }
             if word.as_str() == "replay" {
-                return Some(Form::Replay {
-                    source: source.as_str(),
-                    trace: second.as_str(),
-                    schedule: third.as_str(),
-                    split: SplitForm::ServerAlone,
-                });
+                return Some(Form::Replay(
+                    source.as_str(),
+                    second.as_str(),
+                    third.as_str(),
+                    SplitForm::ServerAlone,
+                ));
             }
             if word.as_str() == "check" {
-                return Some(Form::Check {
-                    source: source.as_str(),
-                    limits: second.as_str(),
-                    split: third.as_str(),
-                });
+                return Some(Form::Check(source.as_str(), second.as_str(), third.as_str()));
             }
             if word.as_str() == "audit" {
-                return Some(Form::Audit {
-                    source: source.as_str(),
-                    trace: second.as_str(),
-                    report: third.as_str(),
-                });
+                return Some(Form::Audit(source.as_str(), second.as_str(), third.as_str()));
             }
             if word.as_str() == "compile" {
                 if third.as_str() == "shrink" {
-                    return Some(Form::Compile {
-                        source: source.as_str(),
-                        limits: second.as_str(),
-                        shrink: true,
-                    });
+                    return Some(Form::Compile(source.as_str(), second.as_str(), true));
                 }
             }
             None
@@ -240,38 +183,32 @@ pub fn form_of<'a>(words: &'a [String]) -> Option<Form<'a>>
                 );
             }
             if word.as_str() == "replay" {
-                return Some(Form::Replay {
-                    source: source.as_str(),
-                    trace: trace.as_str(),
-                    schedule: schedule.as_str(),
-                    split: SplitForm::Within {
-                        limits: limits.as_str(),
-                        shrink: false,
-                    },
-                });
+                return Some(Form::Replay(
+                    source.as_str(),
+                    trace.as_str(),
+                    schedule.as_str(),
+                    SplitForm::Within(limits.as_str(), false),
+                ));
             }
             if word.as_str() == "lossy" {
-                return Some(Form::Lossy {
-                    source: source.as_str(),
-                    trace: trace.as_str(),
-                    schedule: schedule.as_str(),
-                    limits: limits.as_str(),
-                });
+                return Some(Form::Lossy(
+                    source.as_str(),
+                    trace.as_str(),
+                    schedule.as_str(),
+                    limits.as_str(),
+                ));
             }
             None
         }
         [word, source, trace, schedule, limits, last] => {
             if word.as_str() == "replay" {
                 if last.as_str() == "shrink" {
-                    return Some(Form::Replay {
-                        source: source.as_str(),
-                        trace: trace.as_str(),
-                        schedule: schedule.as_str(),
-                        split: SplitForm::Within {
-                            limits: limits.as_str(),
-                            shrink: true,
-                        },
-                    });
+                    return Some(Form::Replay(
+                        source.as_str(),
+                        trace.as_str(),
+                        schedule.as_str(),
+                        SplitForm::Within(limits.as_str(), true),
+                    ));
                 }
             }
             None
@@ -279,15 +216,12 @@ pub fn form_of<'a>(words: &'a [String]) -> Option<Form<'a>>
         [word, source, trace, schedule, limits, by, split] => {
             if word.as_str() == "replay" {
                 if by.as_str() == "split" {
-                    return Some(Form::Replay {
-                        source: source.as_str(),
-                        trace: trace.as_str(),
-                        schedule: schedule.as_str(),
-                        split: SplitForm::Spelled {
-                            limits: limits.as_str(),
-                            split: split.as_str(),
-                        },
-                    });
+                    return Some(Form::Replay(
+                        source.as_str(),
+                        trace.as_str(),
+                        schedule.as_str(),
+                        SplitForm::Spelled(limits.as_str(), split.as_str()),
+                    ));
                 }
             }
             None

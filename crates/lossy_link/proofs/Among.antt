@@ -8,6 +8,7 @@ use Rattle.std.proofs.lemmas.List.Elements.{All-head, All-tail, All-cons, All-ni
 use Rattle.lossy_link.specs.Link.{is_among}
 use Rattle.lemmas.proofs.Lists.{range_pushed}
 use Rattle.lemmas.proofs.Tests.{and_false, or_assoc, or_false}
+use Rattle.std.proofs.lemmas.Option.{get_or_from_slice_get, slice_get_within}
 
 -- ---- tests
 
@@ -22,9 +23,7 @@ left_out false b c h = refl
 -- ---- a place of a list
 
 pub at_place : (P : ℕ → Type 0) (xs : List ℕ) (j n : ℕ) → All P xs → slice_get xs j ≡ Some n → P n
-at_place P [] j n all is = absurd cc
-at_place P (x ∷ xs) zero n all is = let same : x ≡ n = cc in subst P same (All-head P x xs all)
-at_place P (x ∷ xs) (suc j) n all is = at_place P xs j n (All-tail P x xs all) is
+at_place P xs j n all is = subst P (get_or_from_slice_get xs j n n is) (all j n (slice_get_within xs j n is))
 
 pub map_same : {B : Type 0} (f g : ℕ → B) (xs : List ℕ) → All (λ n. f n ≡ g n) xs → map f xs ≡ map g xs
 map_same f g [] all = refl

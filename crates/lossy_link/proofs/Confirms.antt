@@ -1,5 +1,5 @@
 -- What a sender keeps, call by call.
-use Rattle.std.proofs.Common.{◌≡◌, ◌<◌, ◌+◌, ℕ, zero, suc, Bool, true, false, cond, List, [], ◌∷◌, ◌++◌, length, get_or, set, sym, ap, ◌∙◌, subst, Some, arith}
+use Rattle.std.proofs.Common.{◌≡◌, ◌<◌, ◌+◌, ℕ, Bool, true, false, cond, List, [], ◌∷◌, ◌++◌, length, set, sym, ap, ◌∙◌, subst, Some, arith}
 use Rattle.std.specs.Prelude.{slice_get}
 use Rattle.std.specs.FinSet as finset
 use Rattle.std.specs.Ordering.{nat_cmp}
@@ -12,6 +12,7 @@ use Rattle.lossy_link.specs.Sender.{Sender, answer_to, first_sender, given, unkn
 use Rattle.lossy_link.specs.Unknown.{AreRising, known_beside, sender_with}
 use Rattle.lossy_link.proofs.Counts.{numbers_apart, numbers_at, numbers_cleared, numbers_pushed, numbers_rise}
 use Rattle.lossy_link.proofs.Rising.{known_again, known_first, known_given, known_removed, unknown_are}
+use Rattle.std.proofs.lemmas.Option.{slice_get_within, get_or_from_slice_get}
 
 abbrev pub sender_by : List (List ℕ) → List Bool → Sender
 sender_by items marks = sender_with items (numbers_set 0 marks)
@@ -55,11 +56,6 @@ pub record Learns (s : Sender) (number : ℕ) (answer : Confirm) (after : Sender
 abbrev sender_of_parts : List (List ℕ) → finset.FinSet nat_cmp → Sender
 sender_of_parts items known = record { items = items; known = known }
 
-read_at : (xs : List ℕ) (place n : ℕ) → slice_get xs place ≡ Some n → (place < length xs) × (get_or xs place 0 ≡ n)
-read_at [] place n is = absurd cc
-read_at (x ∷ xs) zero n is = (omega arith, cc)
-read_at (x ∷ xs) (suc place) n is = let rest = read_at xs place n is in (omega (arith, rest.0), rest.1)
-
 -- of an item that isn't known
 pub learned : (items : List (List ℕ)) (marks : List Bool) (n : ℕ) → length marks ≡ length items → n < length items
     → slice_get marks n ≡ Some true
@@ -68,11 +64,13 @@ learned items marks n long below is =
     let xs = numbers_set 0 marks in
     let place = set_below marks n in
     let same : 0 + n ≡ n = omega arith in
-    let at = read_at xs place n (numbers_at 0 marks n is ∙ ap (λ (k : ℕ). Some k) same) in
+    let at = numbers_at 0 marks n is ∙ ap (λ (k : ℕ). Some k) same in
+    let inside = slice_get_within xs place n at in
+    let here = get_or_from_slice_get xs place n 0 at in
     record {
-      says = sym (ap (λ (b : Bool). cond b Again Known) (known_first (length items) xs place n at.0 at.1 below));
+      says = sym (ap (λ (b : Bool). cond b Again Known) (known_first (length items) xs place n inside here below));
       leaves = ap (λ (ys : List ℕ). sender_with items ys) (numbers_cleared 0 marks n is)
-          ∙ ap (λ (known : finset.FinSet nat_cmp). sender_of_parts items known) (known_removed (length items) xs place n (marks_rise items marks long) at.0 at.1 below);
+          ∙ ap (λ (known : finset.FinSet nat_cmp). sender_of_parts items known) (known_removed (length items) xs place n (marks_rise items marks long) inside here below);
     }
 
 -- of one that is

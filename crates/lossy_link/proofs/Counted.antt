@@ -9,18 +9,10 @@ use Rattle.lossy_link.specs.Link.{is_among}
 use Rattle.lossy_link.specs.Unknown.{AreRising, known_beside, sender_with}
 use Rattle.lossy_link.proofs.Rising.{moved, rising_apart, rising_filter, rising_lower}
 use Rattle.std.proofs.lemmas.List.FromFn.{length-range_with_len}
-
--- each number of a list passes a test or doesn't
-both_kinds : (p : ℕ → Bool) (xs : List ℕ) → length (filter (λ k. not (p k)) xs) + length (filter p xs) ≡ length xs
-both_kinds p [] = refl
-both_kinds p (x ∷ xs) =
-    elim (p x) as (λ b. length (cond (not b) (x ∷ filter (λ k. not (p k)) xs) (filter (λ k. not (p k)) xs)) + length (cond b (x ∷ filter p xs) (filter p xs)) ≡ suc (length xs)) [
-      | true ↦ omega (arith, both_kinds p xs)
-      | false ↦ omega (arith, both_kinds p xs)
-    ]
+use Rattle.std.proofs.lemmas.List.Filters.{length-filter_both}
 
 -- what a test keeps of a range rises
-kept_rises : (p : ℕ → Bool) (a n : ℕ) → AreRising a (a + n) (filter p (range_with_len a n))
+pub kept_rises : (p : ℕ → Bool) (a n : ℕ) → AreRising a (a + n) (filter p (range_with_len a n))
 kept_rises p a zero = tt
 kept_rises p a (suc n) =
     let rest = moved (a + 1) ((a + 1) + n) (a + suc n) (filter p (range_with_len (a + 1) n)) (omega arith) (kept_rises p (a + 1) n) in
@@ -45,7 +37,7 @@ known_count items xs up =
     let p : ℕ → Bool = λ k. is_among xs k in
     let others = filter (λ k. not (p k)) (range_with_len 0 count) in
     let kept : filter p (range_with_len 0 count) ≡ xs = rising_filter 0 count xs (moved 0 count (0 + count) xs (omega arith) up) in
-    let halves : length others + length (filter p (range_with_len 0 count)) ≡ length (range_with_len 0 count) = both_kinds p (range_with_len 0 count) in
+    let halves = length-filter_both p (λ k. not (p k)) (λ _. refl) (range_with_len 0 count) in
     let long : length (filter p (range_with_len 0 count)) ≡ length xs = ap (λ (l : List ℕ). length l) kept in
     let size : set.len (known_beside count xs) ≡ length others = rising_len 0 (0 + count) others (kept_rises (λ k. not (p k)) 0 count) in
     omega (arith, halves, long, size, length-range_with_len 0 count)

@@ -2,7 +2,7 @@
 use Rattle.std.proofs.Common.{◌≡◌, ◌<◌, ◌≤◌, ◌+◌, ◌-◌, ◌/◌, ℕ, zero, suc, Bool, true, false, List, [], ◌∷◌, ◌++◌, length, get_or, set, remove, refl, sym, ap, ◌∙◌, subst, inl, inr, Some, None, arith}
 use Rattle.std.specs.Prelude.{◌==◌, slice_get}
 use Rattle.std.proofs.lemmas.Bool.{cases_lt, ne_eqb, or_from}
-use Rattle.std.proofs.lemmas.Option.{slice_get_past}
+use Rattle.std.proofs.lemmas.Option.{slice_get_past, slice_get_within}
 use Rattle.std.proofs.lemmas.List.{get_or-set_other, get_or-set_same, get_or_append_left, get_or_push, length-set, length_push}
 use Rattle.lossy_link.specs.Link.{is_among}
 use Rattle.lossy_link.specs.Marks.{AreCounts, AreLowered, IsCountBehind, IsCounted, IsFound, IsOneLess, IsOneMore, numbers_set, set_below, span_of}
@@ -327,22 +327,19 @@ numbers_pushed first (false ∷ marks) =
 pub numbers_at : (first : ℕ) (marks : List Bool) (n : ℕ) → slice_get marks n ≡ Some true
     → slice_get (numbers_set first marks) (set_below marks n) ≡ Some (first + n)
 unfolding set_below numbers_set
-numbers_at first [] n is = absurd cc
 numbers_at first (true ∷ marks) zero is = ap (λ (k : ℕ). Some k) (omega arith)
-numbers_at first (false ∷ marks) zero is = absurd cc
 numbers_at first (true ∷ marks) (suc n) is = numbers_at (first + 1) marks n is ∙ ap (λ (k : ℕ). Some k) (omega arith)
-numbers_at first (false ∷ marks) (suc n) is =
-    numbers_at (first + 1) marks n is ∙ ap (λ (k : ℕ). Some k) (omega arith)
+numbers_at first (false ∷ marks) (suc n) is = numbers_at (first + 1) marks n is ∙ ap (λ (k : ℕ). Some k) (omega arith)
+numbers_at first _ n is = absurd cc
 
 -- without it
 pub numbers_cleared : (first : ℕ) (marks : List Bool) (n : ℕ) → slice_get marks n ≡ Some true
     → numbers_set first (set marks n false) ≡ remove (numbers_set first marks) (set_below marks n)
 unfolding set_below numbers_set
-numbers_cleared first [] n is = absurd cc
 numbers_cleared first (true ∷ marks) zero is = refl
-numbers_cleared first (false ∷ marks) zero is = absurd cc
 numbers_cleared first (true ∷ marks) (suc n) is = ap (λ (ks : List ℕ). first ∷ ks) (numbers_cleared (first + 1) marks n is)
 numbers_cleared first (false ∷ marks) (suc n) is = numbers_cleared (first + 1) marks n is
+numbers_cleared first _ n is = absurd cc
 
 -- one that isn't set is none of them
 pub numbers_apart : (first : ℕ) (marks : List Bool) (n : ℕ) → slice_get marks n ≡ Some false
@@ -359,11 +356,6 @@ numbers_apart first (true ∷ marks) (suc n) is =
 numbers_apart first (false ∷ marks) (suc n) is =
     let same : first + 1 + n ≡ first + suc n = omega arith in
     ap (λ k. is_among (numbers_set (first + 1) marks) k) (sym same) ∙ numbers_apart (first + 1) marks n is
-
-pub set_inside : (marks : List Bool) (n : ℕ) → slice_get marks n ≡ Some true → n < length marks
-set_inside [] n is = absurd cc
-set_inside (mark ∷ marks) zero is = omega arith
-set_inside (mark ∷ marks) (suc n) is = omega (arith, set_inside marks n is)
 
 -- a number before which fewer are set than with it is set
 pub set_where : (marks : List Bool) (n j : ℕ) → set_below marks n ≤ j → j < set_below marks (suc n)
@@ -420,7 +412,7 @@ pub counted_less : (marks : List Bool) (counts lowered : List ℕ) (total n : �
     → AreLowered counts lowered 0 4294967296 n
     → (1 ≤ total) × IsCounted (set marks n false) lowered (total - 1)
 counted_less marks counts lowered total n c is long lowers =
-    let inside = set_inside marks n is in
+    let inside = slice_get_within marks n true is in
     let less = set_cleared marks n is in
     let long_set : length (set marks n false) ≡ length marks = length-set marks n false in
     let all : set_below (set marks n false) (length (set marks n false)) ≡ set_below (set marks n false) (length marks) = ap (set_below (set marks n false)) long_set in
@@ -445,7 +437,7 @@ counted_at marks counts total j n c few found =
     let none = set_none marks in
     let at = found 32 (set_below marks) spans_all stays (omega (arith, few, c.all, all, none)) c.tree in
     let here = set_where marks n j (omega (arith, at.0, none)) (omega (arith, at.1, none)) in
-    (ap (λ k. slice_get (numbers_set 0 marks) k) (sym here.0) ∙ (numbers_at 0 marks n here.1 ∙ ap (λ (k : ℕ). Some k) (omega arith)), omega (arith, c.few, set_inside marks n here.1))
+    (ap (λ k. slice_get (numbers_set 0 marks) k) (sym here.0) ∙ (numbers_at 0 marks n here.1 ∙ ap (λ (k : ℕ). Some k) (omega arith)), omega (arith, c.few, slice_get_within marks n true here.1))
 
 -- there is none
 pub counted_past : (marks : List Bool) (counts : List ℕ) (total j : ℕ) → IsCounted marks counts total → total ≤ j

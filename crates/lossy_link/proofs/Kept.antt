@@ -18,11 +18,8 @@ pub four_read : (bytes : List ℕ) (n : ℕ) → 4 ≤ length bytes
     → n ≡ from_be_bytes w32 (get_or bytes 0 0 ∷ get_or bytes 1 0 ∷ get_or bytes 2 0 ∷ get_or bytes 3 0 ∷ [])
     → n ≡ number_in bytes
 unfolding number_in
-four_read [] n long is = absurd (omega arith)
-four_read (a ∷ []) n long is = absurd (omega arith)
-four_read (a ∷ b ∷ []) n long is = absurd (omega arith)
-four_read (a ∷ b ∷ c ∷ []) n long is = absurd (omega arith)
 four_read (a ∷ b ∷ c ∷ d ∷ rest) n long is = is
+four_read _ n long is = absurd (omega arith)
 
 -- no numbers
 pub numbers_first : (ordered : Bool) (numbers : Numbers) → numbers.marks.items ≡ [] → IsEmpty numbers.others → AreNumbersOf ordered [] numbers
@@ -36,8 +33,6 @@ numbers_first ordered numbers no_marks no_others = record {
     by_order n false =
         ap (λ (l : List Bool). get_or l n false || contains nat_cmp numbers.others n) no_marks
         ∙ ap (λ (keys : List ℕ). list_any (λ k. eq_by_cmp nat_cmp n k) keys) no_others
-
--- ---- marks
 
 -- ---- answers
 

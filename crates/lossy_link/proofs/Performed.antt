@@ -1,6 +1,6 @@
 -- What the ends of a link do is what the link does.
-use Rattle.std.proofs.Common.{◌≡◌, ◌<◌, ◌≤◌, ◌^◌, ℕ, zero, suc, Bool, true, false, not, ◌||◌, ◌&&◌, cond, List, [], ◌∷◌, ◌++◌, length, map, refl, sym, ap, ◌∙◌, subst, inl, inr, Some, None, arith, append-nil, length-append, true≢false}
-use Rattle.std.specs.Prelude.{◌==◌, Option, nat_lt, slice_get}
+use Rattle.std.proofs.Common.{◌≡◌, ◌<◌, ◌≤◌, ◌^◌, ℕ, Bool, true, false, not, ◌||◌, ◌&&◌, cond, List, [], ◌∷◌, ◌++◌, length, map, refl, sym, ap, ◌∙◌, subst, inl, inr, Some, None, arith, append-nil, length-append, true≢false}
+use Rattle.std.specs.Prelude.{◌==◌, Option, nat_lt, slice_get, unwrap_or}
 use Rattle.std.specs.Option.{option_map}
 use Rattle.std.specs.Int.{w32, to_be_bytes, from_be_bytes}
 use Rattle.std.specs.List.{All, Contains}
@@ -8,7 +8,7 @@ use Rattle.std.proofs.lemmas.Bool.{and_from, and_right, cases_eq, cases_lt, cond
 use Rattle.std.proofs.lemmas.List.{length-map, map_push, take_at, drop_at}
 use Rattle.std.proofs.lemmas.List.Elements.{All-contains, All-map, All-weaker}
 use Rattle.std.proofs.lemmas.Nat.{from_be_bytes-to_be_bytes_4}
-use Rattle.std.proofs.lemmas.Option.{slice_get-map}
+use Rattle.std.proofs.lemmas.Option.{slice_get-map, slice_get-get_or, unwrap_or-slice_get}
 use Rattle.lossy_link.specs.declared.answers.Took.{Took}
 use Rattle.lossy_link.specs.declared.answers.Took.TheVariants.{New, Again, Early, Malformed}
 use Rattle.lossy_link.specs.declared.receiver.Delivered.{Delivered}
@@ -20,6 +20,7 @@ use Rattle.lossy_link.specs.Ends.{Ends, ends_sent, confirmations_of, ends_arrive
 use Rattle.lossy_link.specs.Laws.{IsFaithful, AreEndsOf, IsOneStep, given_in}
 use Rattle.lossy_link.proofs.Among.{among_pushed, among_range, at_place, map_same}
 use Rattle.lossy_link.proofs.Faithful.{faithful_through, first_faithful, given_through, step_faithful}
+use Rattle.lemmas.proofs.Lists.{get_front}
 
 -- ---- bytes
 
@@ -48,14 +49,10 @@ datagram_long n item =
 
 item_more : (items : List (List ℕ)) (item : List ℕ) (n : ℕ) → n < length items
     → item_at items n ≡ item_at (items ++ item ∷ []) n
-item_more [] item n below = absurd (omega arith)
-item_more (x ∷ items) item zero below = refl
-item_more (x ∷ items) item (suc n) below = item_more items item n (omega arith)
+item_more items item n below = sym (ap (λ (o : Option (List ℕ)). unwrap_or o []) (get_front items (item ∷ []) n below))
 
 item_there : (items : List (List ℕ)) (n : ℕ) → n < length items → slice_get items n ≡ Some (item_at items n)
-item_there [] n below = absurd (omega arith)
-item_there (x ∷ items) zero below = refl
-item_there (x ∷ items) (suc n) below = item_there items n (omega arith)
+item_there items n below = slice_get-get_or items n [] below ∙ ap Some (sym (unwrap_or-slice_get items n []))
 
 abbrev pair_with : List ℕ → ℕ → Delivered
 pair_with item number = record { number = number; item = item }

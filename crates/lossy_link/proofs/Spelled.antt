@@ -4,9 +4,9 @@ use Rattle.std.specs.Prelude.{nat_lt, slice_get}
 use Rattle.std.specs.Int.{w64, from_be_bytes}
 use Rattle.std.proofs.Math.Seq.{take-add}
 use Rattle.std.proofs.lemmas.Bool.{and_from, and_parts}
-use Rattle.std.proofs.lemmas.List.{drop-drop, drop_at, get_or-drop, length-append, length-drop, take_all, take_at, take_more}
+use Rattle.std.proofs.lemmas.List.{drop-drop, drop_at, get_or-drop, length-append, length-drop, take_all, take_at, take_more, take_rest}
 use Rattle.std.proofs.lemmas.List.Concat.{flat_map-append}
-use Rattle.std.proofs.lemmas.List.Elements.{All-append, All-head, All-push, All-same, All-tail, All-take, All-drop}
+use Rattle.std.proofs.lemmas.List.Elements.{All-append, All-head, All-push, All-same, All-tail, All-drop}
 use Rattle.std.proofs.lemmas.Nat.{be_bytes_8, from_be_bytes-to_be_bytes_8}
 use Rattle.state_store.specs.declared.object.ObjectDecl.{ObjectDecl}
 use Rattle.state_store.specs.Kept.{have_widths}
@@ -18,7 +18,8 @@ use Rattle.writeback_table.specs.declared.command.Update.{Update}
 use Rattle.writeback_table.specs.Widths.{fits_update, has_value_widths}
 use Rattle.lossy_link.specs.CommandBytes.{AreBytesOf, AreWords, eight_bytes, numbers_to, to_bytes, update_bytes, word_bytes}
 use Rattle.lossy_link.specs.Spelling.{SpellTo, SpellUpdate, SpellWords}
-use Rattle.lemmas.proofs.Lists.{first_parts, second_parts}
+use Rattle.lemmas.proofs.Lists.{first_parts, second_parts, all_front}
+use Rattle.std.proofs.lemmas.Option.{slice_get_read}
 
 -- ---- numbers
 
@@ -39,10 +40,6 @@ one_word m n m_fits n_fits same =
 
 words_same : (ms ns : List ℕ) → AreWords ms → AreWords ns → word_bytes ms ≡ word_bytes ns → ms ≡ ns
 words_same [] [] ms_fit ns_fit same = refl
-words_same [] (n ∷ ns) ms_fit ns_fit same =
-    absurd (omega (arith, ap (λ (bytes : List ℕ). length bytes) same, length-words (n ∷ ns)))
-words_same (m ∷ ms) [] ms_fit ns_fit same =
-    absurd (omega (arith, ap (λ (bytes : List ℕ). length bytes) same, length-words (m ∷ ms)))
 words_same (m ∷ ms) (n ∷ ns) ms_fit ns_fit same =
     let long : length (eight_bytes m) ≡ length (eight_bytes n) = length-eight m ∙ sym (length-eight n) in
     let here : m ≡ n =
@@ -52,6 +49,8 @@ words_same (m ∷ ms) (n ∷ ns) ms_fit ns_fit same =
     words_same ms ns (All-tail (λ k. k < 2 ^ 64) m ms ms_fit) (All-tail (λ k. k < 2 ^ 64) n ns ns_fit)
     (second_parts (eight_bytes m) (eight_bytes n) (word_bytes ms) (word_bytes ns) long same) in
     λ i. here i ∷ rest i
+words_same ms ns ms_fit ns_fit same =
+    absurd (omega (arith, ap (λ (bytes : List ℕ). length bytes) same, length-words ms, length-words ns))
 
 -- the eight bytes of one of the numbers
 word_at : (ns : List ℕ) (i : ℕ) → i < length ns → take 8 (drop (8 * i) (word_bytes ns)) ≡ eight_bytes (get_or ns i 0)
@@ -84,29 +83,11 @@ eight_are bytes at are (suc (suc (suc (suc (suc (suc (suc zero))))))) = are (at 
 eight_are bytes at are (suc (suc (suc (suc (suc (suc (suc (suc i)))))))) = lit< tt
 
 first_eight : (bytes : List ℕ) → 8 ≤ length bytes → eight_from bytes 0 ≡ take 8 bytes
-first_eight [] long = absurd (omega arith)
-first_eight (a ∷ []) long = absurd (omega arith)
-first_eight (a ∷ b ∷ []) long = absurd (omega arith)
-first_eight (a ∷ b ∷ c ∷ []) long = absurd (omega arith)
-first_eight (a ∷ b ∷ c ∷ d ∷ []) long = absurd (omega arith)
-first_eight (a ∷ b ∷ c ∷ d ∷ e ∷ []) long = absurd (omega arith)
-first_eight (a ∷ b ∷ c ∷ d ∷ e ∷ f ∷ []) long = absurd (omega arith)
-first_eight (a ∷ b ∷ c ∷ d ∷ e ∷ f ∷ g ∷ []) long = absurd (omega arith)
 first_eight (a ∷ b ∷ c ∷ d ∷ e ∷ f ∷ g ∷ h ∷ rest) long = refl
+first_eight _ long = absurd (omega arith)
 
 eight_at : (bytes : List ℕ) (at : ℕ) → at + 8 ≤ length bytes → eight_from bytes at ≡ take 8 (drop at bytes)
-eight_at bytes at inside =
-    let p0 : get_or (drop at bytes) 0 0 ≡ get_or bytes at 0 = get_or-drop at bytes 0 0 ∙ ap (λ (i : ℕ). get_or bytes i 0) (add-zero at) in
-    let p1 : get_or (drop at bytes) 1 0 ≡ get_or bytes (at + 1) 0 = get_or-drop at bytes 1 0 in
-    let p2 : get_or (drop at bytes) 2 0 ≡ get_or bytes (at + 2) 0 = get_or-drop at bytes 2 0 in
-    let p3 : get_or (drop at bytes) 3 0 ≡ get_or bytes (at + 3) 0 = get_or-drop at bytes 3 0 in
-    let p4 : get_or (drop at bytes) 4 0 ≡ get_or bytes (at + 4) 0 = get_or-drop at bytes 4 0 in
-    let p5 : get_or (drop at bytes) 5 0 ≡ get_or bytes (at + 5) 0 = get_or-drop at bytes 5 0 in
-    let p6 : get_or (drop at bytes) 6 0 ≡ get_or bytes (at + 6) 0 = get_or-drop at bytes 6 0 in
-    let p7 : get_or (drop at bytes) 7 0 ≡ get_or bytes (at + 7) 0 = get_or-drop at bytes 7 0 in
-    let all : eight_from (drop at bytes) 0 ≡ take 8 (drop at bytes) =
-    first_eight (drop at bytes) (omega (arith, length-drop at bytes)) in
-    cc
+eight_at bytes at inside = simp (get_or-drop, add-zero) at (first_eight (drop at bytes) (omega (arith, length-drop at bytes)))
 
 -- the number that eight bytes spell
 pub eight_read : (bytes : List ℕ) (at n : ℕ) → ((i : ℕ) → get_or bytes i 0 < 256) → at + 8 ≤ length bytes
@@ -120,10 +101,9 @@ eight_read bytes at n are inside is =
 
 widths_length : (ws ns : List ℕ) → have_widths ws ns ≡ true → length ns ≡ length ws
 widths_length [] [] fit = refl
-widths_length [] (n ∷ ns) fit = absurd (true≢false (sym fit))
-widths_length (w ∷ ws) [] fit = absurd (true≢false (sym fit))
 widths_length (w ∷ ws) (n ∷ ns) fit =
     ap suc (widths_length ws ns (and_parts (nat_lt n (2 ^ w)) (have_widths ws ns) fit).1)
+widths_length _ _ fit = cc
 
 width_at : (ws ns : List ℕ) (i : ℕ) → have_widths ws ns ≡ true → i < length ws → nat_lt (get_or ns i 0) (2 ^ get_or ws i 0) ≡ true
 width_at [] ns i fit inside = absurd (omega arith)
@@ -135,11 +115,10 @@ width_at (w ∷ ws) (n ∷ ns) (suc i) fit inside =
 widths_push : (ws ns : List ℕ) (w n : ℕ) → have_widths ws ns ≡ true → nat_lt n (2 ^ w) ≡ true
     → have_widths (ws ++ w ∷ []) (ns ++ n ∷ []) ≡ true
 widths_push [] [] w n fit small = and_from (nat_lt n (2 ^ w)) true small refl
-widths_push [] (m ∷ ns) w n fit small = absurd (true≢false (sym fit))
-widths_push (v ∷ ws) [] w n fit small = absurd (true≢false (sym fit))
 widths_push (v ∷ ws) (m ∷ ns) w n fit small =
     let parts = and_parts (nat_lt m (2 ^ v)) (have_widths ws ns) fit in
     and_from (nat_lt m (2 ^ v)) (have_widths (ws ++ w ∷ []) (ns ++ n ∷ [])) parts.0 (widths_push ws ns w n parts.1 small)
+widths_push _ _ w n fit small = cc
 
 -- ---- numbers that are read
 
@@ -246,10 +225,6 @@ to_some d (Value values) s = omega (arith, ap (λ (b : List ℕ). length b) s.sp
 
 -- ---- a key and what it has
 
-first_all : (xs ys : List ℕ) → AreWords (xs ++ ys) → AreWords xs
-first_all xs ys all =
-    All-same (λ n. n < 2 ^ 64) xs (take (length xs) (xs ++ ys)) (sym (take_at xs ys (length xs) refl)) (All-take (λ n. n < 2 ^ 64) (length xs) (xs ++ ys) all)
-
 second_all : (xs ys : List ℕ) → AreWords (xs ++ ys) → AreWords ys
 second_all xs ys all =
     All-same (λ n. n < 2 ^ 64) ys (drop (length xs) (xs ++ ys)) (sym (drop_at xs ys (length xs) refl)) (All-drop (λ n. n < 2 ^ 64) (length xs) (xs ++ ys) all)
@@ -258,42 +233,54 @@ second_all xs ys all =
 pub both_words : (key : List ℕ) (to : To) → AreWords key → AreWords (numbers_to to) → AreWords (key ++ numbers_to to)
 both_words key to first second = All-append (λ n. n < 2 ^ 64) key (numbers_to to) first second
 
--- the parts of a change, where its object is this one
-pub record HasParts (d : ObjectDecl) (u : Update) (o : ℕ) (rest : List ℕ) : Type 0 where
+-- the parts of a change, where its object is this one, with so many numbers in a key
+pub record HasParts (d : ObjectDecl) (u : Update) (o n : ℕ) (rest : List ℕ) : Type 0 where
   pub object : u.object ≡ o
-  pub long : 8 * length d.keys ≤ length rest
-  pub key : SpellWords d.keys u.key (take (8 * length d.keys) rest)
-  pub to : SpellTo d u.to (drop (8 * length d.keys) rest)
+  pub long : 8 * n ≤ length rest
+  pub key : SpellWords d.keys u.key (take (8 * n) rest)
+  pub to : SpellTo d u.to (take (length rest - 8 * n) (drop (8 * n) rest))
 
 same_object : (objects : List ObjectDecl) (o p : ℕ) (d e : ObjectDecl) → slice_get objects o ≡ Some d
     → slice_get objects p ≡ Some e → p ≡ o → e ≡ d
 same_object objects o p d e at_o at_p same =
     let both : Some e ≡ Some d = sym at_p ∙ (ap (λ (k : ℕ). slice_get objects k) same ∙ at_o) in cc
 
-pub update_parts : (objects : List ObjectDecl) (o : ℕ) (d : ObjectDecl) (u : Update) (rest : List ℕ)
-    → slice_get objects o ≡ Some d → SpellUpdate objects u (o ∷ rest) → HasParts d u o rest
-update_parts objects o d u rest there s =
+pub update_parts : (objects : List ObjectDecl) (o n : ℕ) (d : ObjectDecl) (u : Update) (rest : List ℕ) → n ≡ length d.keys
+    → slice_get objects o ≡ Some d → SpellUpdate objects u (o ∷ rest) → HasParts d u o n rest
+update_parts objects o n d u rest many there s =
     let object : u.object ≡ o = sym (ap (λ (b : List ℕ). get_or b 0 0) s.spelled) in
     let same : s.declared.0 ≡ d = same_object objects o u.object d s.declared.0 there s.declared.1 object in
     let fits : fits_update d u ≡ true = subst (λ (e : ObjectDecl). fits_update e u ≡ true) same s.declared.2 in
     let parts = and_parts (have_widths d.keys u.key) (has_value_widths d u.to) fits in
     let behind : rest ≡ word_bytes u.key ++ to_bytes u.to = ap (λ (b : List ℕ). drop 1 b) s.spelled in
-    let keys : length (word_bytes u.key) ≡ 8 * length d.keys =
-    length-words u.key ∙ ap (λ (k : ℕ). 8 * k) (widths_length d.keys u.key parts.0) in
+    let keys : length (word_bytes u.key) ≡ 8 * n = length-words u.key ∙ ap (λ (k : ℕ). 8 * k) (widths_length d.keys u.key parts.0 ∙ sym many) in
     record {
       object = object;
       long = omega (arith, ap (λ (b : List ℕ). length b) behind, length-append (word_bytes u.key) (to_bytes u.to), keys);
       key = record {
         fit = parts.0;
-        small = first_all u.key (numbers_to u.to) s.small;
-        spelled = ap (λ (b : List ℕ). take (8 * length d.keys) b) behind ∙ take_at (word_bytes u.key) (to_bytes u.to) (8 * length d.keys) keys;
+        small = all_front (λ k. k < 2 ^ 64) u.key (numbers_to u.to) s.small;
+        spelled = ap (λ (b : List ℕ). take (8 * n) b) behind ∙ take_at (word_bytes u.key) (to_bytes u.to) (8 * n) keys;
       };
       to = record {
         fit = parts.1;
         small = second_all u.key (numbers_to u.to) s.small;
-        spelled = ap (λ (b : List ℕ). drop (8 * length d.keys) b) behind ∙ drop_at (word_bytes u.key) (to_bytes u.to) (8 * length d.keys) keys;
+        spelled = take_rest rest (8 * n) ∙ (ap (λ (b : List ℕ). drop (8 * n) b) behind ∙ drop_at (word_bytes u.key) (to_bytes u.to) (8 * n) keys);
       };
     }
+
+-- the object that the first byte names is one of these items
+pub named : (objects items : List ObjectDecl) (bytes : List ℕ) (number : ℕ) (d : ObjectDecl) → items ≡ objects → number ≡ get_or bytes 0 0
+    → number < length items → d ≡ get_or items number d → slice_get objects (get_or bytes 0 0) ≡ Some d
+named objects items bytes number d same first inside is =
+    subst (λ (xs : List ObjectDecl). slice_get xs (get_or bytes 0 0) ≡ Some d) same
+    (subst (λ (k : ℕ). slice_get items k ≡ Some d) first (slice_get_read items (length items) number d refl inside is))
+
+pub named_parts : (objects : List ObjectDecl) (bytes : List ℕ) (n : ℕ) (d : ObjectDecl) (u : Update) → slice_get objects (get_or bytes 0 0) ≡ Some d
+    → 1 ≤ length bytes → n ≡ length d.keys → SpellUpdate objects u bytes → HasParts d u (get_or bytes 0 0) n (take (length bytes - 1) (drop 1 bytes))
+named_parts objects bytes n d u there some many s =
+    update_parts objects (get_or bytes 0 0) n d u (take (length bytes - 1) (drop 1 bytes)) many there
+    (subst (λ (b : List ℕ). SpellUpdate objects u b) (first_and_rest bytes some) s)
 
 pub update_from : (objects : List ObjectDecl) (o : ℕ) (d : ObjectDecl) (key front back rest : List ℕ) (to : To)
     → slice_get objects o ≡ Some d → SpellWords d.keys key front → SpellTo d to back → rest ≡ front ++ back
@@ -305,10 +292,10 @@ update_from objects o d key front back rest to there k t parts = record {
 }
 
 -- a change is told by its parts
-pub update_once : (objects : List ObjectDecl) (o : ℕ) (d : ObjectDecl) (key : List ℕ) (to : To) (u : Update) (rest : List ℕ)
-    → HasParts d u o rest → Some key ≡ Some u.key → Some to ≡ Some u.to
+pub update_once : (o n : ℕ) (d : ObjectDecl) (key : List ℕ) (to : To) (u : Update) (rest : List ℕ)
+    → HasParts d u o n rest → Some key ≡ Some u.key → Some to ≡ Some u.to
     → Some (record { object = o; key = key; to = to }) ≡ Some u
-update_once objects o d key to u rest parts keys tos =
+update_once o n d key to u rest parts keys tos =
     let same_key : key ≡ u.key = cc in
     let same_to : to ≡ u.to = cc in
     let same_object : o ≡ u.object = sym parts.object in

@@ -3,9 +3,9 @@
 /// What a confirmation was.
 #[derive(Clone, Copy, Debug, PartialEq, Eq)]
 pub enum Confirm {
-    /// Its item wasn't known to be delivered, and is from now on.
+    /// The item wasn't known to be delivered, and is from now on.
     Known,
-    /// Its item was known to be delivered. Nothing has changed.
+    /// The item was known to be delivered. Nothing has changed.
     Again,
     /// The bytes aren't four bytes that spell the number of an item. Nothing has changed.
     Malformed,
@@ -14,9 +14,9 @@ pub enum Confirm {
 /// What a datagram was, with its number.
 #[derive(Clone, Copy, Debug, PartialEq, Eq)]
 pub enum Took {
-    /// Its item is delivered now. The number is to be confirmed.
+    /// The item is delivered now. The number is to be confirmed.
     New(u32),
-    /// Its item was delivered before. Nothing has changed. The number is to be confirmed, since the confirmation may
+    /// The item was delivered before. Nothing has changed. The number is to be confirmed, since the confirmation may
     /// have been lost.
     Again(u32),
     /// The link is ordered, and items before this one are still to come. Nothing has changed.

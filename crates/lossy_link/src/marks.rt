@@ -85,7 +85,7 @@ impl Marks {
         self.marks[number as usize]
     }
 
-    /// This number, which is set, is set no more. This takes 32 steps.
+    /// Clears a number that is set, in 32 steps.
     pub(crate) fn clear(&mut self, number: u32)
         requires { slice_get self.old number ≡ Some true }
         ensures { self.new ≡ set self.old number false }

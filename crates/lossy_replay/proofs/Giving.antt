@@ -5,7 +5,7 @@ use Rattle.std.proofs.lemmas.Bool.{cond-false, cond-true, le-ltb, lt-ltb}
 use Rattle.std.proofs.lemmas.List.{drop_at, length-map, length_push}
 use Rattle.run_model.specs.declared.link_event.LinkEvent.{LinkEvent}
 use Rattle.replay_state.specs.Answers.{Setup}
-use Rattle.lossy_replay.specs.Linked.{Course as World, Linked, behind, linked_step, linked_steps}
+use Rattle.lossy_replay.specs.Linked.{World, Linked, behind, linked_step, linked_steps}
 use Rattle.lossy_replay.specs.Linking.{newest}
 
 -- ---- a schedule with one event more

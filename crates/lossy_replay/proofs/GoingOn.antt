@@ -13,10 +13,10 @@ use Rattle.switch_ir.specs.Tables.{Told}
 use Rattle.replay_state.proofs.Laws.{a_run_is_answered_by_its_calls-state_stays as state_stays}
 use Rattle.replay_state.specs.Journal.{Call}
 use Rattle.replay_state.specs.State.{State}
-use Rattle.replay_contracts.specs.Given.{Given, setup_for, whole}
+use Rattle.replay_contracts.specs.Inputs.{Inputs, setup_for, whole}
 use Rattle.replay_contracts.specs.Replay.{IsReplay}
 use Rattle.replay_course.specs.declared.course.Course.{Course}
-use Rattle.lossy_replay.specs.Linked.{Course as World, Linked, at_link, first_linked, linked_step}
+use Rattle.lossy_replay.specs.Linked.{World, Linked, at_link, first_linked, linked_step}
 use Rattle.lossy_replay.specs.Linking.{AreLinks, ArePlaced, HasFew, IsLinking, StayPlaced}
 use Rattle.lossy_replay.specs.Replay.{HasItems, linked_by, world_by, world_of}
 use Rattle.lossy_replay.specs.declared.line.Line.{Line}
@@ -63,7 +63,7 @@ last_or (s ∷ schedule) (b ∷ before) behind event is =
       | inr more ↦ inr (more.0, (λ i. first i ∷ more.1 i))
     ]
 
-pub placed_more : (x : Given) (schedule : List LinkEvent) (event : LinkEvent) (calls : List Call) → StayPlaced x schedule calls
+pub placed_more : (x : Inputs) (schedule : List LinkEvent) (event : LinkEvent) (calls : List Call) → StayPlaced x schedule calls
     → ((more : List Call) → ArePlaced (world_by x (calls ++ more)) (linked_by x (calls ++ more) (schedule ++ event ∷ [])))
     → StayPlaced x (schedule ++ event ∷ []) calls
 placed_more x schedule event calls before_it now = λ more before behind is.
@@ -73,27 +73,27 @@ placed_more x schedule event calls before_it now = λ more before behind is.
       | inr rest ↦ before_it more before rest.0 rest.1
     ]
 
-pub placed_behind : (x : Given) (schedule : List LinkEvent) (calls one : List Call) → StayPlaced x schedule calls → StayPlaced x schedule (calls ++ one)
+pub placed_behind : (x : Inputs) (schedule : List LinkEvent) (calls one : List Call) → StayPlaced x schedule calls → StayPlaced x schedule (calls ++ one)
 placed_behind x schedule calls one placed = λ more before behind is.
     subst (λ (cs : List Call). ArePlaced (world_by x cs) (linked_by x cs before)) (sym (append_assoc calls one more)) (placed (one ++ more) before behind is)
 
 -- the links as they are now
-pub placed_now : (x : Given) (schedule : List LinkEvent) (links : Links) (c : Course) (port : PortState)
+pub placed_now : (x : Inputs) (schedule : List LinkEvent) (links : Links) (c : Course) (port : PortState)
     (linking : IsLinking x schedule links c port) (more : List Call) → ArePlaced (world_by x (linking.calls ++ more)) linking.linked
 placed_now x schedule links c port linking more =
     subst (λ (l : Linked). ArePlaced (world_by x (linking.calls ++ more)) l) (linking.stands more)
     (linking.placed more schedule [] (sym (append-nil schedule)))
 
-pub stays_at : (x : Given) (events : List Event) (calls more : List Call) (st : State) (port : PortState)
+pub stays_at : (x : Inputs) (events : List Event) (calls more : List Call) (st : State) (port : PortState)
     → IsReplay x events calls st port → (world_by x (calls ++ more)).at events ≡ st
 stays_at x events calls more st port replay = sym (state_stays (setup_for x) (whole x) x.packets events calls more st replay.answered)
 
-pub told_at : (x : Given) (events : List Event) (calls : List Call) (st : State) (port : PortState) (tables : Told)
+pub told_at : (x : Inputs) (events : List Event) (calls : List Call) (st : State) (port : PortState) (tables : Told)
     → IsReplay x events calls st port → port.told ≡ Some tables → (world_of x).at events ≡ st
 told_at x events calls st port tables replay is = sym (replay.told tables is).tied.same
 
 -- an event that no event of the world comes of
-pub stays_in_world : (x : Given) (schedule : List LinkEvent) (event : LinkEvent) (links next : Links) (c : Course) (port : PortState)
+pub stays_in_world : (x : Inputs) (schedule : List LinkEvent) (event : LinkEvent) (links next : Links) (c : Course) (port : PortState)
     (linking : IsLinking x schedule links c port) (l' : Linked)
     → ((w : World) → w.at linking.linked.events ≡ linking.st → linked_step (setup_for x) w linking.linked event ≡ l')
     → l'.events ≡ linking.linked.events → HasItems x l' linking.calls linking.st → AreLinks (length schedule + 1) l' next
@@ -140,7 +140,7 @@ pub confirm_items : (l : Link) (j : ℕ) → (link_step l (confirm j)).items ≡
 confirm_items l j = confirmed_items l (slice_get l.back j)
 
 -- a change of one link that leaves its items
-items_stay : (change : Link → Link) → ((l : Link) → (change l).items ≡ l.items) → (x : Given) (l : Linked) (name : LinkName)
+items_stay : (change : Link → Link) → ((l : Link) → (change l).items ≡ l.items) → (x : Inputs) (l : Linked) (name : LinkName)
     (calls : List Call) (st : State) → HasItems x l calls st → HasItems x (at_link change l name) calls st
 items_stay change stays x l names.Up calls st items =
     record { up = stays l.up ∙ items.up; down = items.down; ctl = items.ctl; ack = items.ack }
@@ -158,7 +158,7 @@ events_stay change l names.Ctl = refl
 events_stay change l names.Ack = refl
 
 -- a change of one link that leaves its items
-pub link_on : (change : Link → Link) → ((l : Link) → (change l).items ≡ l.items) → (x : Given) (schedule : List LinkEvent) (event : LinkEvent)
+pub link_on : (change : Link → Link) → ((l : Link) → (change l).items ≡ l.items) → (x : Inputs) (schedule : List LinkEvent) (event : LinkEvent)
     (name : LinkName) (links next : Links) (c : Course) (port : PortState) (linking : IsLinking x schedule links c port)
     → ((w : World) → linked_step (setup_for x) w linking.linked event ≡ at_link change linking.linked name)
     → AreLinks (length schedule + 1) (at_link change linking.linked name) next → IsLinking x (schedule ++ event ∷ []) next c port

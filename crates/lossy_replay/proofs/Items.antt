@@ -26,10 +26,10 @@ use Rattle.replay_state.specs.Program.{SplitProgram, packet_at}
 use Rattle.replay_state.specs.declared.pass.Pass.{Pass}
 use Rattle.replay_state.specs.State.{State, Progress, applied_commands, store_at}
 use Rattle.replay_state.specs.Step.{applies, came, came_down, came_in, came_out, ended, entered, happens, idled, let_go, pass_of, served, state_of, step, tick, waits, with_changes}
-use Rattle.replay_contracts.specs.Given.{Given, setup_for, whole}
+use Rattle.replay_contracts.specs.Inputs.{Inputs, setup_for, whole}
 use Rattle.replay_contracts.specs.Replay.{answered}
 use Rattle.replay_course.specs.declared.course.Course.{Course}
-use Rattle.lossy_replay.specs.Linked.{Course as World, Linked, at_place, behind, let_by, place_of}
+use Rattle.lossy_replay.specs.Linked.{World, Linked, at_place, behind, let_by, place_of}
 use Rattle.lossy_replay.specs.Linking.{newest, noted}
 use Rattle.lossy_replay.specs.Replay.{HasItems, frames_down, frames_in, world_by}
 use Rattle.lossy_replay.proofs.Noting.{GoesUp, HasFrames, applied_step, last_is, newest_up}
@@ -279,7 +279,7 @@ admit_up setup s packets events calls one st w_down c before none_left is before
     ∙ sym (ap frames_in came.1 ∙ frames_of_one setup.fine n packet answer)))
 
 -- A replay that an event goes on with, performed as another that applies, and the course behind it.
-pub record GoesOn (x : Given) (l : Linked) (events : List Event) (calls one : List Call) (st : State) (event own : Event) (before : ℕ)
+pub record GoesOn (x : Inputs) (l : Linked) (events : List Event) (calls one : List Call) (st : State) (event own : Event) (before : ℕ)
     (c : Course) : Type 0 where
   pub plain : (setup_for x).pre_stages ≡ 0
   pub by_calls : IsAnswered (setup_for x) (whole x) x.packets events calls st
@@ -301,7 +301,7 @@ no_command false = refl
 abbrev pub blank : Command → List ℕ
 blank command = []
 
-module _ (x : Given) (l : Linked) (events : List Event) (calls one : List Call) (st : State) (before : ℕ) (c : Course) where
+module _ (x : Inputs) (l : Linked) (events : List Event) (calls one : List Call) (st : State) (before : ℕ) (c : Course) where
   abbrev Goes : Event → Event → Type 0
   Goes event own = GoesOn x l events calls one st event own before c
 

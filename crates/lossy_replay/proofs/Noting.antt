@@ -15,7 +15,7 @@ use Rattle.replay_state.specs.Commands.{one_or_none}
 use Rattle.replay_state.specs.State.{State, seen, store_at}
 use Rattle.replay_state.specs.Step.{applies, happens, idled, let_go, may_go, step, tick}
 use Rattle.replay_course.specs.declared.course.Course.{Course}
-use Rattle.lossy_replay.specs.Linked.{Course as World, Linked, behind, gives, given_all, let_by}
+use Rattle.lossy_replay.specs.Linked.{World, Linked, behind, gives, given_all, let_by}
 use Rattle.lossy_replay.specs.Linking.{newest, noted}
 use Rattle.lossy_replay.proofs.Giving.{none_newer, one_newer}
 

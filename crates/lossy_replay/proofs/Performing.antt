@@ -6,7 +6,7 @@ use Rattle.run_model.specs.declared.link_event.LinkEvent.TheVariants.{World as I
 use Rattle.replay_state.specs.Answers.{Setup}
 use Rattle.replay_state.specs.State.{State}
 use Rattle.replay_state.specs.Step.{applies}
-use Rattle.lossy_replay.specs.Linked.{Course as World, Linked, gives, let_by, linked_step, performed, performed_if}
+use Rattle.lossy_replay.specs.Linked.{World, Linked, gives, let_by, linked_step, performed, performed_if}
 
 abbrev pub after_event : Linked → Linked → Event → Linked
 after_event given l own = record given { events = l.events ++ own ∷ [] }

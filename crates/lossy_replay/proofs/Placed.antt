@@ -20,7 +20,7 @@ use Rattle.replay_state.specs.Journal.{over_in}
 use Rattle.replay_state.specs.Places.{HavePlaces}
 use Rattle.replay_state.specs.State.{Fast, Held, Progress, Slow, State, Up, seen, store_at}
 use Rattle.replay_state.specs.Step.{applies, came_down, decided, entered, ended, happens, pass_of, released, served, step, tick, with_changes}
-use Rattle.lossy_replay.specs.Linked.{Course as World, Linked, TakeWhatCame, arrived, at_link, at_place, behind, gives, gone_on, let_by, place_in, place_of, standing, without}
+use Rattle.lossy_replay.specs.Linked.{World, Linked, TakeWhatCame, arrived, at_link, at_place, behind, gives, gone_on, let_by, place_in, place_of, standing, without}
 use Rattle.lossy_replay.specs.Linking.{AreLinks, ArePlaced, StillStand}
 use Rattle.lossy_replay.specs.Ways.{IsWay}
 use Rattle.lossy_replay.specs.declared.links.Links.{Links}

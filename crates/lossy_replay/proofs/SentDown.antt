@@ -16,7 +16,7 @@ use Rattle.replay_state.specs.Journal.{Call, down_frame}
 use Rattle.replay_state.specs.Program.{SplitProgram}
 use Rattle.replay_state.specs.State.{State, first_state}
 use Rattle.replay_state.specs.Step.{applies, let_go, step, steps, tick}
-use Rattle.replay_contracts.specs.Given.{Given, setup_for, whole}
+use Rattle.replay_contracts.specs.Inputs.{Inputs, setup_for, whole}
 use Rattle.replay_contracts.specs.Replay.{answered}
 use Rattle.lossy_replay.specs.Linked.{Linked, at_link, behind, first_linked, gives, let_by, linked_step, linked_steps, performed, performed_if}
 use Rattle.lossy_replay.specs.Replay.{frame_let_go, frames_down, linked_by, sent_down, sent_down_from, world_by}
@@ -24,7 +24,7 @@ use Rattle.lossy_replay.proofs.GoingOn.{arrive_items, confirm_items, send_items}
 use Rattle.lossy_replay.proofs.Items.{is_as, none_behind}
 use Rattle.lossy_replay.proofs.Noting.{applied_step}
 
-abbrev pub HasSentDown : Given → List Call → Linked → Type 0
+abbrev pub HasSentDown : Inputs → List Call → Linked → Type 0
 HasSentDown x calls l = l.down.items ≡ frames_down x calls l.events
 
 -- ---- one event more
@@ -34,7 +34,7 @@ one_step_more : (setup : Setup) (a : Answers) (st : State) (events : List Event)
 one_step_more setup a st [] event = refl
 one_step_more setup a st (first ∷ events) event = one_step_more setup a (step setup a st first) events event
 
-one_more : (x : Given) (calls : List Call) (st : State) (events : List Event) (event : Event)
+one_more : (x : Inputs) (calls : List Call) (st : State) (events : List Event) (event : Event)
     → sent_down_from x calls st (events ++ event ∷ [])
     ≡ sent_down_from x calls st events ++ sent_down x calls (steps (setup_for x) (answered x calls) st events) event
 one_more x calls st [] event = append-nil (sent_down x calls st event)
@@ -52,13 +52,13 @@ let_go_gives s calls st j None = ap (map (down_frame s calls (tick st))) (none_b
 let_go_gives s calls st j (Some (n, need)) =
     ap (map (down_frame s calls (let_go (tick st) j (Some (n, need))))) (drop_at st.down (n ∷ []) (length st.down) refl)
 
-none_given : (x : Given) (calls : List Call) (st : State) (items : List (List ℕ)) (e own : Event) → e ≡ own → sent_down x calls st e ≡ []
+none_given : (x : Inputs) (calls : List Call) (st : State) (items : List (List ℕ)) (e own : Event) → e ≡ own → sent_down x calls st e ≡ []
     → items ≡ items ++ sent_down x calls st own
 none_given x calls st items e own same none =
     sym (append-nil items)
     ∙ (ap (λ (frames : List (List ℕ)). items ++ frames) (sym none) ∙ ap (λ (event : Event). items ++ sent_down x calls st event) same)
 
-given_down : (x : Given) (calls : List Call) (l : Linked) (st : State) (event own : Event) → let_by l st event ≡ Some own
+given_down : (x : Inputs) (calls : List Call) (l : Linked) (st : State) (event own : Event) → let_by l st event ≡ Some own
     → applies (setup_for x) st own ≡ true
     → (gives (world_by x calls) l event st (step (setup_for x) (answered x calls) st own)).down.items ≡ l.down.items ++ sent_down x calls st own
 given_down x calls l st Admit own is may = none_given x calls st l.down.items Admit own (is_as l st Admit own is) refl
@@ -87,7 +87,7 @@ given_down x calls l st (Down j) own is may =
 
 -- ---- one event of a schedule more
 
-sent_by : (x : Given) (calls : List Call) (l : Linked) (event own : Event) → let_by l ((world_by x calls).at l.events) event ≡ Some own
+sent_by : (x : Inputs) (calls : List Call) (l : Linked) (event own : Event) → let_by l ((world_by x calls).at l.events) event ≡ Some own
     → applies (setup_for x) ((world_by x calls).at l.events) own ≡ true → HasSentDown x calls l
     → HasSentDown x calls (performed (world_by x calls) l event own)
 sent_by x calls l event own is may sent =
@@ -100,13 +100,13 @@ sent_by x calls l event own is may sent =
     ∙ (given_down x calls l st event own is may
     ∙ (ap (λ (items : List (List ℕ)). items ++ sent_down x calls st own) sent ∙ sym (one_more x calls first l.events own)))
 
-sent_if : (x : Given) (calls : List Call) (l : Linked) (event own : Event) (b : Bool)
+sent_if : (x : Inputs) (calls : List Call) (l : Linked) (event own : Event) (b : Bool)
     → let_by l ((world_by x calls).at l.events) event ≡ Some own → applies (setup_for x) ((world_by x calls).at l.events) own ≡ b
     → HasSentDown x calls l → HasSentDown x calls (cond b (performed (world_by x calls) l event own) l)
 sent_if x calls l event own true is may sent = sent_by x calls l event own is may sent
 sent_if x calls l event own false is may sent = sent
 
-sent_where : (x : Given) (calls : List Call) (l : Linked) (event : Event) (o : Option Event)
+sent_where : (x : Inputs) (calls : List Call) (l : Linked) (event : Event) (o : Option Event)
     → let_by l ((world_by x calls).at l.events) event ≡ o → HasSentDown x calls l
     → HasSentDown x calls (performed_if (setup_for x) (world_by x calls) l event o)
 sent_where x calls l event None is sent = sent
@@ -114,25 +114,25 @@ sent_where x calls l event (Some own) is sent =
     sent_if x calls l event own (applies (setup_for x) ((world_by x calls).at l.events) own) is refl sent
 
 -- a change of one link that leaves its items
-sent_still : (change : Link → Link) → ((l : Link) → (change l).items ≡ l.items) → (x : Given) (calls : List Call) (l : Linked)
+sent_still : (change : Link → Link) → ((l : Link) → (change l).items ≡ l.items) → (x : Inputs) (calls : List Call) (l : Linked)
     (name : LinkName) → HasSentDown x calls l → HasSentDown x calls (at_link change l name)
 sent_still change stays x calls l names.Up sent = sent
 sent_still change stays x calls l names.Down sent = stays l.down ∙ sent
 sent_still change stays x calls l names.Ctl sent = sent
 sent_still change stays x calls l names.Ack sent = sent
 
-sent_on : (x : Given) (calls : List Call) (l : Linked) (event : LinkEvent) → HasSentDown x calls l
+sent_on : (x : Inputs) (calls : List Call) (l : Linked) (event : LinkEvent) → HasSentDown x calls l
     → HasSentDown x calls (linked_step (setup_for x) (world_by x calls) l event)
 sent_on x calls l (InWorld event) sent = sent_where x calls l event (let_by l ((world_by x calls).at l.events) event) refl sent
 sent_on x calls l (Transmit name j) sent = sent_still (λ one. link_step one (send j)) (λ one. send_items one j) x calls l name sent
 sent_on x calls l (Deliver name j) sent = sent_still (λ one. link_step one (arrive j)) (λ one. arrive_items one j) x calls l name sent
 sent_on x calls l (Confirm name j) sent = sent_still (λ one. link_step one (confirm j)) (λ one. confirm_items one j) x calls l name sent
 
-sent_through : (x : Given) (calls : List Call) (l : Linked) (schedule : List LinkEvent) → HasSentDown x calls l
+sent_through : (x : Inputs) (calls : List Call) (l : Linked) (schedule : List LinkEvent) → HasSentDown x calls l
     → HasSentDown x calls (linked_steps (setup_for x) (world_by x calls) l schedule)
 sent_through x calls l [] sent = sent
 sent_through x calls l (event ∷ schedule) sent =
     sent_through x calls (linked_step (setup_for x) (world_by x calls) l event) schedule (sent_on x calls l event sent)
 
-pub all_sent_down : (x : Given) (calls : List Call) (schedule : List LinkEvent) → HasSentDown x calls (linked_by x calls schedule)
+pub all_sent_down : (x : Inputs) (calls : List Call) (schedule : List LinkEvent) → HasSentDown x calls (linked_by x calls schedule)
 all_sent_down x calls schedule = sent_through x calls first_linked schedule refl

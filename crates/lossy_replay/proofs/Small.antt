@@ -17,9 +17,9 @@ use Rattle.lossy_link.specs.CommandBytes.{NamesBelow}
 use Rattle.output_commit.specs.Batches.{commands_in}
 use Rattle.output_commit.specs.Commit.{last_sent}
 use Rattle.output_commit.specs.Laws.{changes_in}
-use Rattle.replay_contracts.specs.Given.{Given, code_for}
+use Rattle.replay_contracts.specs.Inputs.{Inputs, code_for}
 use Rattle.replay_course.specs.declared.course.Course.{Course}
-use Rattle.replay_course.specs.Going.{IsGoing}
+use Rattle.replay_course.specs.Going.{CanGoOn}
 use Rattle.replay_course.proofs.Named.{commands_each}
 use Rattle.lemmas.proofs.Lists.{each_weaker}
 
@@ -43,7 +43,7 @@ declared_low f split (x ∷ ds) k o d is =
     (λ there. let low = declared_low f split ds (suc k) o d there in omega (arith, low)) is
 
 -- an object of a change of the code
-update_low : (x : Given) (u : Update) → IsBounded x.program → IsUpdateOf (code_for x) u → u.object < 64
+update_low : (x : Inputs) (u : Update) → IsBounded x.program → IsUpdateOf (code_for x) u → u.object < 64
 update_low x u bounded fit =
     let low = declared_low x.program x.split x.program.objects 0 u.object fit.0 fit.1.declared in
     omega (arith, low, bounded.objects)
@@ -67,7 +67,7 @@ unless : (b : Bool) (o : Option Command) → IfSome o Named → IfSome (cond b N
 unless true o some = tt
 unless false o some = some
 
-pub last_named : (x : Given) (c : Course) (port : PortState) → IsGoing x c port → IfSome (last_sent c.commit) (NamesBelow 64)
+pub last_named : (x : Inputs) (c : Course) (port : PortState) → CanGoOn x c port → IfSome (last_sent c.commit) (NamesBelow 64)
 last_named x c port going =
     let low = each_weaker (IsUpdateOf (code_for x)) Low (λ u fit. update_low x u going.prepared.ready.split.bounded fit) (changes_in c.commit.batches)
     going.sound.updates in

@@ -11,15 +11,15 @@ use Rattle.replay_state.specs.Drain.{is_quiet}
 use Rattle.replay_state.specs.Journal.{Call}
 use Rattle.replay_state.specs.Run.{job_run}
 use Rattle.replay_state.specs.State.{State, applied_commands}
-use Rattle.replay_contracts.specs.Given.{Given, setup_for, whole, whole_runs}
+use Rattle.replay_contracts.specs.Inputs.{Inputs, setup_for, whole, whole_runs}
 use Rattle.replay_contracts.specs.Promise.{Promises, Reports, state_for}
 use Rattle.replay_contracts.specs.Replay.{IsReplay}
 use Rattle.replay_contracts.specs.Replayer.{StaysTold}
 use Rattle.replay_contracts.specs.declared.job.Replayed.{Replayed}
 use Rattle.replay_course.specs.declared.course.Course.{Course}
-use Rattle.replay_course.specs.UnderWay.{HasGone}
+use Rattle.replay_course.specs.UnderWay.{HasReplayedFrom}
 use Rattle.lossy_replay.specs.Linked.{Linked, first_linked, linked_of}
-use Rattle.lossy_replay.specs.Linking.{AreLinks, ArePlaced, HasLinked, IsLinking, IsOnItsWay, StayPlaced}
+use Rattle.lossy_replay.specs.Linking.{AreLinks, ArePlaced, HasLinked, IsLinking, IsLinkingShort, StayPlaced}
 use Rattle.lossy_replay.specs.Replay.{HasEnds, HasItems, IsLinkedReplay, IsLinkedRun, events_through, frames_in, linked_by, world_by, world_of}
 use Rattle.lossy_replay.specs.declared.links.Links.{Links}
 use Rattle.lossy_replay.specs.declared.run.LossyRun.{LossyRun}
@@ -33,7 +33,7 @@ use Rattle.replay_state.proofs.Laws.{a_run_is_answered_by_its_calls-once as end_
 
 -- ---- the start
 
-no_items : (x : Given) (calls : List Call) (st : State) (port : PortState) → IsReplay x [] calls st port → HasItems x first_linked calls st
+no_items : (x : Inputs) (calls : List Call) (st : State) (port : PortState) → IsReplay x [] calls st port → HasItems x first_linked calls st
 no_items x calls st port replay =
     let none : calls ≡ [] = none_asked calls replay.answered.asked in
     record {
@@ -47,12 +47,12 @@ no_front : {X : Type 0} (xs ys : List X) → [] ≡ xs ++ ys → xs ≡ []
 no_front [] ys is = refl
 no_front (x ∷ xs) ys is = absurd cc
 
-first_placed : (x : Given) (calls : List Call) → StayPlaced x [] calls
+first_placed : (x : Inputs) (calls : List Call) → StayPlaced x [] calls
 first_placed x calls = λ more before behind is.
     subst (λ (s : List LinkEvent). ArePlaced (world_by x (calls ++ more)) (linked_by x (calls ++ more) s)) (sym (no_front before behind is))
     (record { up = refl; down = refl; stand_up = λ j number at. absurd cc; stand_down = λ j number at. absurd cc })
 
-pub starts : (x : Given) (links : Links) (c : Course) (first port : PortState) → x.manner.fine ≡ false → HasGone x [] c first port
+pub starts : (x : Inputs) (links : Links) (c : Course) (first port : PortState) → x.manner.fine ≡ false → HasReplayedFrom x [] c first port
     → AreLinks 0 first_linked links → HasLinked x [] links c first port
 starts x links c first port plain gone are =
     let u = gone.under_way in
@@ -81,15 +81,15 @@ starts x links c first port plain gone are =
 short_of : (n i count most : ℕ) → n ≤ i → i < count → count ≤ most → n < most
 short_of n i count most few inside all = omega arith
 
-pub on_its_way : (x : Given) (n : ℕ) (schedule : List LinkEvent) (links : Links) (c : Course) (first port : PortState)
-    → HasLinked x (take n schedule) links c first port → n < length schedule → length schedule ≤ most_events → IsOnItsWay x links c port
+pub on_its_way : (x : Inputs) (n : ℕ) (schedule : List LinkEvent) (links : Links) (c : Course) (first port : PortState)
+    → HasLinked x (take n schedule) links c first port → n < length schedule → length schedule ≤ most_events → IsLinkingShort x links c port
 on_its_way x n schedule links c first port has inside few = record {
   schedule = take n schedule;
   short = short_of (length (take n schedule)) n (length schedule) most_events (length_take_most n schedule) inside few;
   linking = has.linking;
 }
 
-pub linked_more : (x : Given) (n : ℕ) (schedule : List LinkEvent) (event : LinkEvent) (links next : Links) (c after : Course) (first old new : PortState)
+pub linked_more : (x : Inputs) (n : ℕ) (schedule : List LinkEvent) (event : LinkEvent) (links next : Links) (c after : Course) (first old new : PortState)
     → slice_get schedule n ≡ Some event → HasLinked x (take n schedule) links c first old
     → ((s : List LinkEvent) → IsLinking x s links c old → IsLinking x (s ++ event ∷ []) next after new) → StaysTold old new
     → HasLinked x (take (n + 1) schedule) next after first new
@@ -99,7 +99,7 @@ linked_more x n schedule event links next c after first old new at has on stays 
       stays = record { told = stays.told ∙ has.stays.told; faults = stays.faults ∙ has.stays.faults };
     })
 
-pub all_linked : (x : Given) (n : ℕ) (schedule : List LinkEvent) (links : Links) (c : Course) (first port : PortState)
+pub all_linked : (x : Inputs) (n : ℕ) (schedule : List LinkEvent) (links : Links) (c : Course) (first port : PortState)
     → HasLinked x (take n schedule) links c first port → length schedule ≤ n → HasLinked x schedule links c first port
 all_linked x n schedule links c first port has past =
     subst (λ (s : List LinkEvent). HasLinked x s links c first port) (take_past schedule n past) has
@@ -109,7 +109,7 @@ all_linked x n schedule links c first port has past =
 abbrev pub EndsOf : Links → LossyRun → Type 0
 EndsOf links run = (n : ℕ) (l : Linked) → AreLinks n l links → HasEnds l run
 
-pub is_linked : (x : Given) (schedule : List LinkEvent) (links : Links) (c : Course) (first port new : PortState) (replayed : Replayed)
+pub is_linked : (x : Inputs) (schedule : List LinkEvent) (links : Links) (c : Course) (first port new : PortState) (replayed : Replayed)
     (run : LossyRun) → HasLinked x schedule links c first port → ReportsOf x c port new replayed → run.run ≡ replayed.run → EndsOf links run
     → IsLinkedReplay x schedule run new
 is_linked x schedule links c first port new replayed run has says same_run ends =
@@ -132,7 +132,7 @@ is_linked x schedule links c first port new replayed run has says same_run ends 
           (subst (λ (cs : List Call). ArePlaced (world_by x cs) (linked_by x cs before)) (append-nil k.calls) (k.placed [] before behind is));
     }
 
-pub is_linked_run : (x : Given) (schedule : List LinkEvent) (links : Links) (c : Course)
+pub is_linked_run : (x : Inputs) (schedule : List LinkEvent) (links : Links) (c : Course)
     (first port new : PortState) (replayed : Replayed) (run : LossyRun) → HasLinked x schedule links c first port
     → ReportsOf x c port new replayed → run.run ≡ replayed.run → EndsOf links run → IsSome port.told → IsLinkedRun x schedule run new
 is_linked_run x schedule links c first port new replayed run has says same_run ends tells =
@@ -158,7 +158,7 @@ is_linked_run x schedule links c first port new replayed run has says same_run e
     }
 
 -- the port tells its tables where it told them before, and no call of it failed
-pub stays_reported : (x : Given) (schedule : List LinkEvent) (links : Links) (c : Course) (first port new : PortState) (replayed : Replayed)
+pub stays_reported : (x : Inputs) (schedule : List LinkEvent) (links : Links) (c : Course) (first port new : PortState) (replayed : Replayed)
     → HasLinked x schedule links c first port → ReportsOf x c port new replayed → StaysTold first new
 stays_reported x schedule links c first port new replayed has says =
     let k = has.linking in

@@ -15,16 +15,16 @@ use Rattle.replay_state.specs.Journal.{Call, SentUp, UpAnswer, frame_in, over_in
 use Rattle.replay_state.specs.State.{State}
 use Rattle.replay_state.specs.Step.{applies, step}
 use Rattle.replay_contracts.specs.Called.{journal_of}
-use Rattle.replay_contracts.specs.Given.{Given, setup_for, whole}
+use Rattle.replay_contracts.specs.Inputs.{Inputs, setup_for, whole}
 use Rattle.replay_contracts.specs.Replay.{IsReplay, answered}
 use Rattle.replay_contracts.specs.Replayer.{Fails}
 use Rattle.replay_contracts.specs.declared.job.ReplayError.TheVariants as errors
 use Rattle.replay_contracts.specs.declared.job.Stepped.{Stepped}
 use Rattle.replay_course.specs.declared.course.Course.{Course}
-use Rattle.replay_course.specs.Going.{HasTurned, MayCall}
+use Rattle.replay_course.specs.Going.{HasAdvanced, MayCall}
 use Rattle.replay_course.specs.Shown.{IsShown}
-use Rattle.lossy_replay.specs.Linked.{Course as World, Linked, first_linked, let_by, linked_step}
-use Rattle.lossy_replay.specs.Linking.{AreLinks, ArePlaced, IsLinking, IsOnItsWay, noted}
+use Rattle.lossy_replay.specs.Linked.{World, Linked, first_linked, let_by, linked_step}
+use Rattle.lossy_replay.specs.Linking.{AreLinks, ArePlaced, IsLinking, IsLinkingShort, noted}
 use Rattle.lossy_replay.specs.Replay.{linked_by, world_by, world_of}
 use Rattle.lossy_replay.specs.declared.links.Links.{Links}
 use Rattle.lossy_replay.proofs.Giving.{one_event_more}
@@ -45,7 +45,7 @@ use Rattle.replay_contracts.proofs.KnowingOn.{answer_stays}
 
 -- ---- the worlds of a replay
 
-frames_by : (x : Given) (events : List Event) (calls more : List Call) (st : State) (port : PortState) (c : Course)
+frames_by : (x : Inputs) (events : List Event) (calls more : List Call) (st : State) (port : PortState) (c : Course)
     → IsReplay x events calls st port → IsShown (whole x) calls st c → HasFrames (world_by x (calls ++ more)) st c
 frames_by x events calls more st port c replay shown = record {
   up = shown.up;
@@ -61,7 +61,7 @@ frames_by x events calls more st port c replay shown = record {
   sent = shown.sent;
 }
 
-pub frames_of : (x : Given) (events : List Event) (calls : List Call) (st : State) (port : PortState) (c : Course) (tables : Told)
+pub frames_of : (x : Inputs) (events : List Event) (calls : List Call) (st : State) (port : PortState) (c : Course) (tables : Told)
     → IsReplay x events calls st port → port.told ≡ Some tables → IsShown (whole x) calls st c → HasFrames (world_of x) st c
 frames_of x events calls st port c tables replay is shown =
     let framed = (replay.told tables is).tied.framed in
@@ -104,18 +104,18 @@ links_events n given l own links are = record {
 abbrev pub noted_on : Linked → Course → Course → Event → Event → Linked
 noted_on l c after event own = after_event (noted after (length c.up.items) l event) l own
 
-no_stages : (x : Given) → x.manner.fine ≡ false → (setup_for x).pre_stages ≡ 0
+no_stages : (x : Inputs) → x.manner.fine ≡ false → (setup_for x).pre_stages ≡ 0
 no_stages x plain = ap (λ b. cond b (whole x).pre_stages 0) plain
 
-sent_there : (x : Given) (calls : List Call) (st : State) (c : Course) → IsShown (whole x) calls st c → st.sent ≤ length (commands_in st.batches)
+sent_there : (x : Inputs) (calls : List Call) (st : State) (c : Course) → IsShown (whole x) calls st c → st.sent ≤ length (commands_in st.batches)
 sent_there x calls st c shown =
     subst (λ (bs : List Batch). st.sent ≤ length (commands_in bs)) shown.batches
     (subst (λ (n : ℕ). n ≤ length (commands_in c.commit.batches)) shown.sent shown.sent_within)
 
 -- what the course did is done by the links too
-pub world_on : (x : Given) (schedule : List LinkEvent) (event own : Event) (links next : Links)
+pub world_on : (x : Inputs) (schedule : List LinkEvent) (event own : Event) (links next : Links)
     (c after : Course) (old new : PortState) (stepped : Stepped) (linking : IsLinking x schedule links c old)
-    → HasTurned x own stepped c old after new → let_by linking.linked linking.st event ≡ Some own
+    → HasAdvanced x own stepped c old after new → let_by linking.linked linking.st event ≡ Some own
     → applies (setup_for x) linking.st own ≡ true
     → AreLinks (length schedule + 1) (noted after (length c.up.items) linking.linked event) next
     → IsLinking x (schedule ++ InWorld event ∷ []) next after new
@@ -205,7 +205,7 @@ world_on x schedule event own links next c after old new stepped linking turned 
 
 -- ---- an event that isn't performed
 
-not_on : (x : Given) (schedule : List LinkEvent) (event : Event) (links : Links) (c : Course) (port : PortState)
+not_on : (x : Inputs) (schedule : List LinkEvent) (event : Event) (links : Links) (c : Course) (port : PortState)
     (linking : IsLinking x schedule links c port)
     → ((w : World) → w.at linking.linked.events ≡ linking.st → linked_step (setup_for x) w linking.linked (InWorld event) ≡ linking.linked)
     → IsLinking x (schedule ++ InWorld event ∷ []) links c port
@@ -214,13 +214,13 @@ not_on x schedule event links c port linking stays =
     stays_in_world x schedule (InWorld event) links links c port linking l stays refl linking.items
     (links_stay (length schedule) l links linking.links_are) (λ w placed. placed)
 
-pub not_let_on : (x : Given) (schedule : List LinkEvent) (event : Event) (links : Links) (c : Course) (port : PortState)
+pub not_let_on : (x : Inputs) (schedule : List LinkEvent) (event : Event) (links : Links) (c : Course) (port : PortState)
     (linking : IsLinking x schedule links c port) → let_by linking.linked linking.st event ≡ None
     → IsLinking x (schedule ++ InWorld event ∷ []) links c port
 not_let_on x schedule event links c port linking is =
     not_on x schedule event links c port linking (λ w now. not_let (setup_for x) w linking.linked event linking.st now is)
 
-pub not_applied_on : (x : Given) (schedule : List LinkEvent) (event own : Event) (links : Links) (c : Course) (port : PortState)
+pub not_applied_on : (x : Inputs) (schedule : List LinkEvent) (event own : Event) (links : Links) (c : Course) (port : PortState)
     (linking : IsLinking x schedule links c port) → let_by linking.linked linking.st event ≡ Some own
     → applies (setup_for x) linking.st own ≡ false → IsLinking x (schedule ++ InWorld event ∷ []) links c port
 not_applied_on x schedule event own links c port linking is fails =
@@ -228,14 +228,14 @@ not_applied_on x schedule event own links c port linking is fails =
 
 -- ---- the calls
 
-pub may_call_there : (x : Given) (links : Links) (c : Course) (port : PortState) → IsOnItsWay x links c port → MayCall x c port
+pub may_call_there : (x : Inputs) (links : Links) (c : Course) (port : PortState) → IsLinkingShort x links c port → MayCall x c port
 may_call_there x links c port way =
     let l = way.linking in
     the_next_calls_may_be_made x l.linked.events l.calls l.st c port l.replay l.shown l.going
 
 -- where there is no memory behind an event that the course performed
-pub fails_behind : (x : Given) (own : Event) (stepped : Stepped) (links : Links) (c after : Course) (old new : PortState)
-    → IsOnItsWay x links c old → HasTurned x own stepped c old after new → Fails errors.NoMemory old new
+pub fails_behind : (x : Inputs) (own : Event) (stepped : Stepped) (links : Links) (c after : Course) (old new : PortState)
+    → IsLinkingShort x links c old → HasAdvanced x own stepped c old after new → Fails errors.NoMemory old new
 fails_behind x own stepped links c after old new way turned =
     let linking = way.linking in
     let l = linking.linked in

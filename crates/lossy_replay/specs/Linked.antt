@@ -12,14 +12,14 @@ use Rattle.run_model.specs.declared.event.Event.TheVariants.{Admit, Stage, Serve
 use Rattle.run_model.specs.declared.link_event.Link.{Link as LinkName}
 use Rattle.run_model.specs.declared.link_event.Link.TheVariants as names
 use Rattle.run_model.specs.declared.link_event.LinkEvent.{LinkEvent}
-use Rattle.run_model.specs.declared.link_event.LinkEvent.TheVariants.{World, Transmit, Deliver, Confirm}
+use Rattle.run_model.specs.declared.link_event.LinkEvent.TheVariants as link_event
 use Rattle.replay_state.specs.Answers.{Setup}
 use Rattle.replay_state.specs.Commands.{one_or_none}
 use Rattle.replay_state.specs.State.{State}
 use Rattle.replay_state.specs.Step.{applies}
 
 -- The world: its state after events, and the frames in which packets go up, and go down from a state, by number.
-pub record Course : Type 0 where
+pub record World : Type 0 where
   pub at : List Event → State
   pub up : ℕ → List ℕ
   pub down : State → ℕ → List ℕ
@@ -100,7 +100,7 @@ gone_on gone (Some number) = gone ++ number ∷ []
 -- The frame of a packet that goes up since then is given to the link up, that of one that is let go to the link down, the
 -- bytes of a command that was sent to the link of commands, and an empty item for one that was applied to that of
 -- acknowledgements. The frame that was run, or taken, isn't there any more.
-abbrev pub gives : Course → Linked → Event → State → State → Linked
+abbrev pub gives : World → Linked → Event → State → State → Linked
 gives w l Admit before after = record l { up = given_all l.up (map w.up (behind before.up after.up)) }
 gives w l (Stage j) before after = l
 gives w l (Serve j) before after = record l { ran = gone_on l.ran (slice_get (arrived l.up l.ran) j) }
@@ -113,7 +113,7 @@ gives w l (Hold j) before after =
 gives w l (Down j) before after = record l { taken = gone_on l.taken (slice_get (arrived l.down l.taken) j) }
 
 -- an event of the schedule was performed as this event of the world
-abbrev pub performed : Course → Linked → Event → Event → Linked
+abbrev pub performed : World → Linked → Event → Event → Linked
 performed w l event own =
     let events = l.events ++ own ∷ [] in
     record (gives w l event (w.at l.events) (w.at events)) { events = events }
@@ -121,7 +121,7 @@ performed w l event own =
 -- ## All events
 
 -- it is performed only where it applies; else nothing happens, and it isn't counted
-abbrev pub performed_if : Setup → Course → Linked → Event → Option Event → Linked
+abbrev pub performed_if : Setup → World → Linked → Event → Option Event → Linked
 performed_if setup w l event None = l
 performed_if setup w l event (Some own) =
     if applies setup (w.at l.events) own then performed w l event own else l
@@ -132,28 +132,28 @@ at_link change l names.Down = record l { down = change l.down }
 at_link change l names.Ctl = record l { ctl = change l.ctl }
 at_link change l names.Ack = record l { ack = change l.ack }
 
-abbrev pub linked_step : Setup → Course → Linked → LinkEvent → Linked
-linked_step setup w l (World event) = performed_if setup w l event (let_by l (w.at l.events) event)
-linked_step setup w l (Transmit name j) = at_link (λ link. link_step link (send j)) l name
-linked_step setup w l (Deliver name j) = at_link (λ link. link_step link (arrive j)) l name
-linked_step setup w l (Confirm name j) = at_link (λ link. link_step link (confirm j)) l name
+abbrev pub linked_step : Setup → World → Linked → LinkEvent → Linked
+linked_step setup w l (link_event.World event) = performed_if setup w l event (let_by l (w.at l.events) event)
+linked_step setup w l (link_event.Transmit name j) = at_link (λ link. link_step link (send j)) l name
+linked_step setup w l (link_event.Deliver name j) = at_link (λ link. link_step link (arrive j)) l name
+linked_step setup w l (link_event.Confirm name j) = at_link (λ link. link_step link (confirm j)) l name
 
-abbrev pub linked_steps : Setup → Course → Linked → List LinkEvent → Linked
+abbrev pub linked_steps : Setup → World → Linked → List LinkEvent → Linked
 linked_steps setup w l [] = l
 linked_steps setup w l (event ∷ events) = linked_steps setup w (linked_step setup w l event) events
 
 -- the links, and the events of the world that came through, behind a whole schedule
-abbrev pub linked_of : Setup → Course → List LinkEvent → Linked
+abbrev pub linked_of : Setup → World → List LinkEvent → Linked
 linked_of setup w schedule = linked_steps setup w first_linked schedule
 
-abbrev pub through : Setup → Course → List LinkEvent → List Event
+abbrev pub through : Setup → World → List LinkEvent → List Event
 through setup w schedule = (linked_of setup w schedule).events
 
 -- ## What a place tells
 
 -- The j-th of the frames that were delivered and not taken has a place, and the packet at that place in the world is on
 -- its way in just that frame.
-pub record TakeWhatCame (w : Course) (l : Linked) : Type 0 where
+pub record TakeWhatCame (w : World) (l : Linked) : Type 0 where
   pub up : (j number : ℕ) → slice_get (arrived l.up l.ran) j ≡ Some number
       → (place n : ℕ) × (place_of l.up l.ran j ≡ Some place) × (slice_get (w.at l.events).up place ≡ Some n)
       × (w.up n ≡ item_at l.up.items number)

@@ -13,13 +13,13 @@ use Rattle.switch_ir.specs.Port.{PortState}
 use Rattle.switch_ir.specs.Tables.{Told}
 use Rattle.replay_state.specs.Journal.{Call}
 use Rattle.replay_state.specs.State.{State}
-use Rattle.replay_contracts.specs.Given.{Given, setup_for, whole}
+use Rattle.replay_contracts.specs.Inputs.{Inputs, setup_for, whole}
 use Rattle.replay_contracts.specs.Replay.{IsReplay}
 use Rattle.replay_contracts.specs.Replayer.{StaysTold}
 use Rattle.replay_course.specs.declared.course.Course.{Course}
-use Rattle.replay_course.specs.Going.{IsGoing}
+use Rattle.replay_course.specs.Going.{CanGoOn}
 use Rattle.replay_course.specs.Shown.{IsShown}
-use Rattle.lossy_replay.specs.Linked.{Course as World, Linked, arrived, given_all, gone_on, linked_of, standing}
+use Rattle.lossy_replay.specs.Linked.{World, Linked, arrived, given_all, gone_on, linked_of, standing}
 use Rattle.lossy_replay.specs.Lines.{IsAtWork, link_of}
 use Rattle.lossy_replay.specs.Replay.{HasItems, linked_by, world_by, world_of}
 use Rattle.lossy_replay.specs.Ways.{IsWay}
@@ -58,13 +58,13 @@ pub record ArePlaced (w : World) (l : Linked) : Type 0 where
   pub stand_down : StillStand l.down l.taken
 
 -- so it is before each event of a schedule, and behind it, of the world that these calls and any more determine
-abbrev pub StayPlaced : Given → List LinkEvent → List Call → Type 0
+abbrev pub StayPlaced : Inputs → List LinkEvent → List Call → Type 0
 StayPlaced x schedule calls = (more : List Call) (before behind : List LinkEvent) → schedule ≡ before ++ behind
     → ArePlaced (world_by x (calls ++ more)) (linked_by x (calls ++ more) before)
 
 -- Some calls made a replay of the events that came through, which the course shows, and the links are those behind this
 -- schedule. Calls behind these leave that as it is; over a switch that tells its tables, whole packets lead to the same.
-pub record IsLinking (x : Given) (schedule : List LinkEvent) (links : Links) (c : Course) (port : PortState)
+pub record IsLinking (x : Inputs) (schedule : List LinkEvent) (links : Links) (c : Course) (port : PortState)
     : Type 0 where
   pub plain : x.manner.fine ≡ false
   pub calls : List Call
@@ -73,7 +73,7 @@ pub record IsLinking (x : Given) (schedule : List LinkEvent) (links : Links) (c 
   pub stands : (more : List Call) → linked_by x (calls ++ more) schedule ≡ linked
   pub replay : IsReplay x linked.events calls st port
   pub shown : IsShown (whole x) calls st c
-  pub going : IsGoing x c port
+  pub going : CanGoOn x c port
   pub counted : c.events ≡ length linked.events
   pub few : length linked.events ≤ length schedule
   pub items : HasItems x linked calls st
@@ -82,13 +82,13 @@ pub record IsLinking (x : Given) (schedule : List LinkEvent) (links : Links) (c 
   pub told : (tables : Told) → port.told ≡ Some tables → linked_of (setup_for x) (world_of x) schedule ≡ linked
 
 -- so it is of some schedule that is short enough to go on
-pub record IsOnItsWay (x : Given) (links : Links) (c : Course) (port : PortState) : Type 0 where
+pub record IsLinkingShort (x : Inputs) (links : Links) (c : Course) (port : PortState) : Type 0 where
   pub schedule : List LinkEvent
   pub short : length schedule < most_events
   pub linking : IsLinking x schedule links c port
 
 -- it came so from a port as it was before
-pub record HasLinked (x : Given) (schedule : List LinkEvent) (links : Links) (c : Course) (first port : PortState)
+pub record HasLinked (x : Inputs) (schedule : List LinkEvent) (links : Links) (c : Course) (first port : PortState)
     : Type 0 where
   pub linking : IsLinking x schedule links c port
   pub stays : StaysTold first port

@@ -16,24 +16,24 @@ use Rattle.replay_state.specs.State.{State, applied_commands, first_state}
 use Rattle.replay_state.specs.Step.{applies, state_of, step}
 use Rattle.split_answers.specs.Through.{HasTables}
 use Rattle.switch_ir.specs.Tables.{Told}
-use Rattle.replay_contracts.specs.Given.{Given, setup_for, whole}
+use Rattle.replay_contracts.specs.Inputs.{Inputs, setup_for, whole}
 use Rattle.replay_contracts.specs.Promise.{Promises, Reports, state_for}
 use Rattle.replay_contracts.specs.Replay.{IsReplay, answered}
-use Rattle.lossy_replay.specs.Linked.{Course, Linked, TakeWhatCame, linked_of, through}
+use Rattle.lossy_replay.specs.Linked.{World, Linked, TakeWhatCame, linked_of, through}
 use Rattle.lossy_replay.specs.Lines.{IsEnd}
 use Rattle.lossy_replay.specs.declared.run.LossyRun.{LossyRun}
 
 -- ## Over any switch
 
 -- the world that the calls of a switch determine, with the frames that they answered
-abbrev pub world_by : Given → List Call → Course
+abbrev pub world_by : Inputs → List Call → World
 world_by x calls = record {
   at = state_of (setup_for x) (answered x calls);
   up = λ n. frame_in (up_answer calls n);
   down = down_frame (whole x) calls;
 }
 
-abbrev pub linked_by : Given → List Call → List LinkEvent → Linked
+abbrev pub linked_by : Inputs → List Call → List LinkEvent → Linked
 linked_by x calls schedule = linked_of (setup_for x) (world_by x calls) schedule
 
 -- the frames in which calls answered that a packet goes up, in order
@@ -55,7 +55,7 @@ frame_let_go s calls st None = []
 frame_let_go s calls st (Some (n, need)) = down_frame s calls st n ∷ []
 
 -- what an event sends down: the frame of the output that the server lets go, where it may
-abbrev pub sent_down : Given → List Call → State → Event → List (List ℕ)
+abbrev pub sent_down : Inputs → List Call → State → Event → List (List ℕ)
 sent_down x calls st Admit = []
 sent_down x calls st (Stage j) = []
 sent_down x calls st (Serve j) = []
@@ -67,17 +67,17 @@ sent_down x calls st (Hold j) =
 sent_down x calls st (Down j) = []
 
 -- the frames that events send down, in order: from a state on, and from the first
-abbrev pub sent_down_from : Given → List Call → State → List Event → List (List ℕ)
+abbrev pub sent_down_from : Inputs → List Call → State → List Event → List (List ℕ)
 sent_down_from x calls st [] = []
 sent_down_from x calls st (event ∷ events) =
     sent_down x calls st event ++ sent_down_from x calls (step (setup_for x) (answered x calls) st event) events
 
-abbrev pub frames_down : Given → List Call → List Event → List (List ℕ)
+abbrev pub frames_down : Inputs → List Call → List Event → List (List ℕ)
 frames_down x calls events = sent_down_from x calls (first_state (start_store x.program.objects)) events
 
 -- All that was given: the frames in which calls answered that packets go up, those of the outputs that the server let go,
 -- the bytes of the commands that were sent, and an empty item for each that was applied.
-pub record HasItems (x : Given) (l : Linked) (calls : List Call) (last : State) : Type 0 where
+pub record HasItems (x : Inputs) (l : Linked) (calls : List Call) (last : State) : Type 0 where
   pub up : l.up.items ≡ frames_in calls
   pub down : l.down.items ≡ frames_down x calls l.events
   pub ctl : l.ctl.items ≡ map bytes_of (take last.sent (commands_in last.batches))
@@ -92,7 +92,7 @@ pub record HasEnds (l : Linked) (run : LossyRun) : Type 0 where
 
 -- The report is that of the replay of the events that came through, as the switch's calls determine it, and the ends are
 -- those of the links behind the schedule. One call has ended each pass that has ended.
-pub record IsLinkedReplay (x : Given) (schedule : List LinkEvent) (run : LossyRun) (port : PortState) : Type 0 where
+pub record IsLinkedReplay (x : Inputs) (schedule : List LinkEvent) (run : LossyRun) (port : PortState) : Type 0 where
   pub calls : List Call
   pub last : State
   pub commands : ℕ
@@ -108,7 +108,7 @@ pub record IsLinkedReplay (x : Given) (schedule : List LinkEvent) (run : LossyRu
 -- ## Over a switch that tells its tables
 
 -- the world of whole packets, each in the frame of its values
-abbrev pub world_of : Given → Course
+abbrev pub world_of : Inputs → World
 world_of x = record {
   at = state_for x;
   up = λ n. (whole x).up_frame n (packet_at x.packets n);
@@ -116,12 +116,12 @@ world_of x = record {
 }
 
 -- the events that come through over links, of whole packets
-abbrev pub events_through : Given → List LinkEvent → List Event
+abbrev pub events_through : Inputs → List LinkEvent → List Event
 events_through x schedule = through (setup_for x) (world_of x) schedule
 
 -- The report is that of whole packets by the events that come through, which keeps its promises, and the ends are those of
 -- the links of whole packets; where nothing is left on its way, the switch has the server's tables.
-pub record IsLinkedRun (x : Given) (schedule : List LinkEvent) (run : LossyRun) (port : PortState) : Type 0 where
+pub record IsLinkedRun (x : Inputs) (schedule : List LinkEvent) (run : LossyRun) (port : PortState) : Type 0 where
   pub promises : Promises x (events_through x schedule) run.run
   pub ends : HasEnds (linked_of (setup_for x) (world_of x) schedule) run
   pub tables : (let last = state_for x (events_through x schedule) in

@@ -10,10 +10,10 @@ ghost use Rattle.replay_state.specs.Journal.{Call};
 ghost use Rattle.replay_state.specs.State.{State};
 ghost use Rattle.replay_state.specs.Commands.{one_or_none};
 ghost use Rattle.replay_state.specs.Program.{SplitProgram};
-ghost use Rattle.replay_contracts.specs.Replayer.{Fails, StaysTold, given_of};
+ghost use Rattle.replay_contracts.specs.Replayer.{Fails, StaysTold, inputs_of};
 ghost use Rattle.replay_course.specs.Shown.{IsShown};
 ghost use Rattle.lossy_replay.specs.Linked.{Linked, at_link, first_linked, given_all, let_by};
-ghost use Rattle.lossy_replay.specs.Linking.{AreLinks, IsLinking, IsOnItsWay, newest, noted};
+ghost use Rattle.lossy_replay.specs.Linking.{AreLinks, IsLinking, IsLinkingShort, newest, noted};
 ghost use Rattle.lossy_replay.specs.Lines.{IsAtWork, link_of};
 ghost use Rattle.lossy_replay.specs.Replay.{HasEnds};
 ghost use Rattle.lossy_replay.specs.Ways.{IsWay};
@@ -163,10 +163,10 @@ impl Links {
         port: &mut S,
         event: Event,
     ) -> Result<(), ReplayError>
-        requires { IsOnItsWay (given_of job.now) self.old course.old (S.seen port.old) }
+        requires { IsLinkingShort (inputs_of job.now) self.old course.old (S.seen port.old) }
         ensures ok { OnOk result ((schedule : List LinkEvent)
-            → IsLinking (given_of job.now) schedule self.old course.old (S.seen port.old)
-            → IsLinking (given_of job.now) (schedule ++ World event ∷ []) self.new course.new (S.seen port.new)) }
+            → IsLinking (inputs_of job.now) schedule self.old course.old (S.seen port.old)
+            → IsLinking (inputs_of job.now) (schedule ++ World event ∷ []) self.new course.new (S.seen port.new)) }
         ensures stays { OnOk result (StaysTold (S.seen port.old) (S.seen port.new)) }
         ensures fails { IfErr result (λ e. Fails e (S.seen port.old) (S.seen port.new)) }
     {
@@ -236,10 +236,10 @@ impl Links {
         port: &mut S,
         event: LinkEvent,
     ) -> Result<(), ReplayError>
-        requires { IsOnItsWay (given_of job.now) self.old course.old (S.seen port.old) }
+        requires { IsLinkingShort (inputs_of job.now) self.old course.old (S.seen port.old) }
         ensures ok { OnOk result ((schedule : List LinkEvent)
-            → IsLinking (given_of job.now) schedule self.old course.old (S.seen port.old)
-            → IsLinking (given_of job.now) (schedule ++ event ∷ []) self.new course.new (S.seen port.new)) }
+            → IsLinking (inputs_of job.now) schedule self.old course.old (S.seen port.old)
+            → IsLinking (inputs_of job.now) (schedule ++ event ∷ []) self.new course.new (S.seen port.new)) }
         ensures stays { OnOk result (StaysTold (S.seen port.old) (S.seen port.new)) }
         ensures fails { IfErr result (λ e. Fails e (S.seen port.old) (S.seen port.new)) }
     {

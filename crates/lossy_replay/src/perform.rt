@@ -5,7 +5,7 @@ ghost use Rattle.run_model.specs.LinkEvents.{IsLinkSchedule};
 ghost use Rattle.run_model.specs.Sizes.{most_packets};
 ghost use Rattle.split_model.specs.Bounds.{HasFewStages};
 ghost use Rattle.split_answers.specs.Whole.{IsSplit};
-ghost use Rattle.replay_contracts.specs.Replayer.{CountsFault, HasBroken, given_of};
+ghost use Rattle.replay_contracts.specs.Replayer.{CountsFault, HasBroken, inputs_of};
 ghost use Rattle.lossy_replay.specs.Replay.{IsLinkedReplay, IsLinkedRun};
 
 use crate::links::Links;
@@ -35,13 +35,13 @@ pub fn replay_lossy<S: SwitchPort>(
     requires none { job.now.events ≡ [] }
     requires plain { job.now.fine ≡ false }
     requires ends { job.now.drain ≡ false }
-    ensures linked { IfOk result (λ run. IsLinkedReplay (given_of job.now) events.now run (S.seen port.new)) }
+    ensures linked { IfOk result (λ run. IsLinkedReplay (inputs_of job.now) events.now run (S.seen port.new)) }
     ensures told { IsSome (S.seen port.old).told → IfOk result (λ run.
-        IsLinkedRun (given_of job.now) events.now run (S.seen port.new)) }
+        IsLinkedRun (inputs_of job.now) events.now run (S.seen port.new)) }
     ensures stays { is_some (S.seen port.new).told ≡ is_some (S.seen port.old).told }
     ensures no_fault { OnOk result ((S.seen port.new).faults ≡ (S.seen port.old).faults) }
     ensures fault { IfErr result (λ e. CountsFault e (S.seen port.old) (S.seen port.new)) }
-    ensures fails { IfErr result (λ e. HasBroken (given_of job.now) e (S.seen port.old) (S.seen port.new)) }
+    ensures fails { IfErr result (λ e. HasBroken (inputs_of job.now) e (S.seen port.old) (S.seen port.new)) }
 {
     let mut course = Course::start(alloc, job, port)?;
     let mut links = Links::new(alloc);

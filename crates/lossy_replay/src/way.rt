@@ -15,7 +15,7 @@ pub struct Way {
     pub line: Line,
     /// The numbers of the frames that weren't taken, in the order in which they were given.
     pub standing: Vec<u32>,
-    /// Those of them that were delivered, in the order in which they were.
+    /// The numbers of the frames that were delivered, in the order of their delivery.
     pub arrived: Vec<u32>,
 }
 

@@ -40,7 +40,7 @@ fn table(alloc: Global) -> Result<ObjectDecl, NoMemory> {
     Ok(table)
 }
 
-// That starts at 7.
+// An integer that starts at 7.
 fn int(alloc: Global) -> Result<ObjectDecl, NoMemory> {
     let mut int = of_words(alloc, Kind::Int, 0, 1, 1)?;
     int.start = 7;

@@ -1,6 +1,6 @@
 -- Batches that come, and one that takes up those behind it.
-use Rattle.std.proofs.Common.{◌≡◌, ◌≤◌, ◌<◌, ◌^◌, ℕ, zero, suc, ◌+◌, ◌-◌, ◌*◌, true, false, eqb, List, [], ◌∷◌, ◌++◌, refl, sym, subst, ◌∙◌, ap, arith, length, map, take, drop, get_or, set, append_assoc}
-use Rattle.std.proofs.lemmas.List.{length-append, length-drop, take-append-le, drop-append-le, take-set-le, drop-set-lt, take_more_set, map-append, drop_more as drop_next, take_rest}
+use Rattle.std.proofs.Common.{◌≡◌, ◌≤◌, ◌<◌, ◌^◌, ℕ, ◌+◌, ◌-◌, ◌*◌, true, false, eqb, List, [], ◌∷◌, ◌++◌, refl, sym, subst, ◌∙◌, ap, arith, length, map, take, drop, get_or, set, append_assoc}
+use Rattle.std.proofs.lemmas.List.{length-append, length-drop, take-append-le, drop-append-le, length-set, take-set-le, drop-set-lt, take_more_set, map-append, drop_more as drop_next, take_rest}
 use Rattle.writeback_table.specs.declared.command.Update.{Update}
 use Rattle.output_commit.specs.declared.batches.Batches.{Batches}
 use Rattle.output_commit.specs.declared.span.Span.{Span}
@@ -60,6 +60,7 @@ taking_next most us spans span behind d count t less at so =
 
 -- what stands behind the first is within all changes, and both as one are not too many
 pub record Behind (us : List Update) (spans : List Span) (span behind : Span) : Type 0 where
+  pub next : behind.first ≡ span.first + span.changes
   pub first_in : span.first + span.changes ≤ length us
   pub second_in : behind.first + behind.changes ≤ length us
   pub few : span.changes + behind.changes ≤ total spans
@@ -78,7 +79,7 @@ taking_behind most us spans span behind d count t less at =
     let upto = joined_upto _ rest (length us) j.2.2 in
     let count_is = t.fewer in
     let all = ap (λ l. total (span ∷ l)) e in
-    record { first_in = omega arith; second_in = omega arith; few = omega arith; versions = omega arith }
+    record { next = omega arith; first_in = omega arith; second_in = omega arith; few = omega arith; versions = omega arith }
 
 pub first_in : (us : List Update) (spans : List Span) (span d : Span) → 0 < length spans → span ≡ get_or spans 0 d
     → AreJoined (first_of spans) spans (length us) → span.first + span.changes ≤ length us
@@ -144,7 +145,7 @@ begins most b b' span count kept less takes updates spans begun next commands ta
     record {
       kept = record {
         begun = omega arith;
-        next = let size = ap length spans in let within = takes.within in let same = length_set b.spans.items b.begun span in omega arith;
+        next = let size = ap length spans in let within = takes.within in let same = length-set b.spans.items b.begun span in omega arith;
         joined = subst (λ ss. AreJoined 0 ss (length b'.updates.items)) (sym all) (subst (λ n. AreJoined 0 (B ++ (span ∷ drop count W)) n) (sym (ap length us_is))
             (joined_both 0 B (span ∷ drop count W) parts.0 (length us) parts.1.0 (subst (λ n. AreJoined n (span ∷ drop count W) (length us)) first takes.joined)));
         tallied = subst (λ vs. AreTallied b'.tally vs) (sym us_is) tallied;
@@ -157,11 +158,6 @@ begins most b b' span count kept less takes updates spans begun next commands ta
       front = λ k low. ap (take k) spans ∙ take-set-le k b.spans.items b.begun span low;
       last = last;
     }
-  where
-    length_set : {X : Type 0} (xs : List X) (i : ℕ) (x : X) → length (set xs i x) ≡ length xs
-    length_set [] i x = refl
-    length_set (y ∷ xs) zero x = refl
-    length_set (y ∷ xs) (suc i) x = ap suc (length_set xs i x)
 
 -- ## One batch more
 
@@ -213,13 +209,7 @@ pub taking_updates : (most : ℕ) (us : List Update) (spans : List Span) (span b
     → count < length spans → behind ≡ get_or spans count d
     → (batch_in us (joined span behind)).updates ≡ (batch_in us span).updates ++ (batch_in us behind).updates
 taking_updates most us spans span behind d count t less at =
-    let rest = drop (count + 1) spans in
-    let e : drop count spans ≡ behind ∷ rest = drop_next spans count d less ∙ ap (λ y. y ∷ rest) (sym at) in
-    let j : AreJoined (first_of spans) (span ∷ (behind ∷ rest)) (length us) = subst (λ l. AreJoined (first_of spans) (span ∷ l) (length us)) e t.joined in
-    let from = j.0 in
-    let next = j.2.0 in
-    let upto = joined_upto _ rest (length us) j.2.2 in
-    joined_updates us span behind (omega arith) (omega arith)
+    let here = taking_behind most us spans span behind d count t less at in joined_updates us span behind here.next here.first_in
 
 pub waiting_few : (b : Batches) → AreKept b → total (drop b.next b.spans.items) < 2 ^ 32
 waiting_few b kept = let t = total_append (begun_in b) (drop b.next b.spans.items) in let f = kept.few in omega arith

@@ -1,33 +1,32 @@
 -- The bit behind the commands before a place.
-use Rattle.std.proofs.Common.{◌≡◌, ℕ, ◌+◌, ◌*◌, ◌<◌, ◌≤◌, Bool, true, false, ltb, List, [], ◌∷◌, ◌++◌, Option, inl, inr, refl, sym, ◌∙◌, ap, arith, zero, suc, map, length, take, drop, append_assoc, ◌-◌}
+use Rattle.std.proofs.Common.{◌≡◌, ℕ, ◌+◌, ◌*◌, ◌<◌, ◌≤◌, Bool, true, false, ltb, List, [], ◌∷◌, ◌++◌, inl, inr, refl, sym, ◌∙◌, ap, arith, zero, suc, map, length, take, drop, ◌-◌}
 use Rattle.std.specs.Prelude.{◌&&◌}
 use Rattle.std.proofs.Math.Seq.{take-append-add}
 use Rattle.std.proofs.lemmas.Bool.{cases_lt, lt-ltb, le-ltb}
-use Rattle.std.proofs.lemmas.List.{length-map, take-append-le, map-append}
+use Rattle.std.proofs.lemmas.List.{length-map, take-append-le, take-map, map-append}
 use Rattle.writeback_table.specs.declared.command.Update.{Update}
 use Rattle.writeback_table.specs.declared.command.Command.{Command}
-use Rattle.writeback_table.specs.declared.command.Command.TheVariants.{Stage, On, Main, Off, Clear}
+use Rattle.writeback_table.specs.declared.command.Command.TheVariants.{Stage, On, Main, Off}
 use Rattle.writeback_table.specs.Commands.{bit_after, bit_through, clear_of, commands_of}
 use Rattle.output_commit.specs.declared.batches.Batches.{Batches}
 use Rattle.output_commit.specs.declared.place.Place.{Place}
 use Rattle.output_commit.specs.declared.span.Span.{Span}
 use Rattle.output_commit.specs.Batches.{commands_in}
-use Rattle.output_commit.specs.Kept.{IsCounted, batches_in, begun_in, spans_in}
-use Rattle.output_commit.specs.Spans.{IsIn, batch_in, bit_at, has_bit, passed, span_len, total}
+use Rattle.output_commit.specs.Kept.{IsCounted, batches_in, begun_in}
+use Rattle.output_commit.specs.Spans.{IsIn, batch_in, bit_at, passed, span_len, total}
 use Rattle.output_commit.proofs.Counting.{kept_full}
+use Rattle.output_commit.proofs.Merging.{push_take}
 use Rattle.output_commit.proofs.Spanning.{AreFull, full_append, len_is, total_is}
 
 -- ## Within a batch
 
 -- commands that leave the bit
-same_bit : (b : Bool) (k : ℕ) (us : List Update) (f : Update → Command) → ((c : Bool) (u : Update) → bit_after c (f u) ≡ c) → bit_through b (take k (map f us)) ≡ b
-same_bit b zero us f h = refl
-same_bit b (suc k) [] f h = refl
-same_bit b (suc k) (u ∷ us) f h = ap (λ c. bit_through c (take k (map f us))) (h b u) ∙ same_bit b k us f h
-
 all_same : (b : Bool) (us : List Update) (f : Update → Command) → ((c : Bool) (u : Update) → bit_after c (f u) ≡ c) → bit_through b (map f us) ≡ b
 all_same b [] f h = refl
 all_same b (u ∷ us) f h = ap (λ c. bit_through c (map f us)) (h b u) ∙ all_same b us f h
+
+same_bit : (b : Bool) (k : ℕ) (us : List Update) (f : Update → Command) → ((c : Bool) (u : Update) → bit_after c (f u) ≡ c) → bit_through b (take k (map f us)) ≡ b
+same_bit b k us f h = ap (bit_through b) (take-map f k us) ∙ all_same b (take k us) f h
 
 pub bit_past : (b : Bool) (xs ys : List Command) → bit_through b (xs ++ ys) ≡ bit_through (bit_through b xs) ys
 bit_past b [] ys = refl
@@ -98,7 +97,8 @@ bit_part us k = elim (cases_lt (length us) k) [
       | inr ge ↦ le-ltb a b ge ∙ sym (le-ltb c d (from ge))
     ]
 
-bit_whole : (us : List Update) → bit_through false (commands_of us) ≡ false
+-- the bit is clear behind a batch
+pub bit_whole : (us : List Update) → bit_through false (commands_of us) ≡ false
 bit_whole us =
     bit_past false (Staged us) (On ∷ Behind us)
     ∙ bit_past true (Made us) (Off ∷ map clear_of us)
@@ -140,11 +140,7 @@ front_commands : (us : List Update) (xs ys : List Span) (n : ℕ) → AreFull us
     → take n (commands_in (map (batch_in us) (xs ++ ys))) ≡ take n (commands_in (map (batch_in us) xs))
 front_commands us xs ys n full le =
     let l = total_is us xs full in
-    ap (λ cs. take n cs) (parts us xs ys) ∙ take-append-le n (commands_in (map (batch_in us) xs)) (commands_in (map (batch_in us) ys)) (omega arith)
-  where
-    parts : (us : List Update) (xs ys : List Span) → commands_in (map (batch_in us) (xs ++ ys)) ≡ commands_in (map (batch_in us) xs) ++ commands_in (map (batch_in us) ys)
-    parts us [] ys = refl
-    parts us (x ∷ xs) ys = ap (λ cs. commands_of (batch_in us x).updates ++ cs) (parts us xs ys) ∙ sym (append_assoc (commands_of (batch_in us x).updates) (commands_in (map (batch_in us) xs)) (commands_in (map (batch_in us) ys)))
+    ap (λ bs. take n (commands_in bs)) (map-append (batch_in us) xs ys) ∙ push_take (map (batch_in us) xs) (map (batch_in us) ys) n (omega arith)
 
 pub bit_placed : (b : Batches) (sent done acked left : ℕ) (applied known : Place) (v a : ℕ) → IsCounted b sent done acked left applied known v a
     → bit_at (begun_in b) applied ≡ bit_through false (take done (commands_in (batches_in b)))

@@ -9,8 +9,8 @@ use Rattle.output_commit.specs.Batches.{commands_in, fits, merged}
 use Rattle.output_commit.specs.Commit.{AreHeld, Commit, IsInOrder, first, batch_of, commands, visible, acknowledged, with_output, after_release}
 use Rattle.output_commit.specs.Laws.{Call, HoldsFitting, after_call, after_calls, changes_in, changes_of, one_if_any, versions_in, versions_of, IsKeptInOrder, IsSeenFromThenOn, StaysSent}
 use Rattle.output_commit.specs.Laws.Call.{hold, send, apply, acknowledge, release}
-use Rattle.output_commit.proofs.Merging.{merged_changes, merged_goes_on, merged_held, merged_take, merged_versions, push_changes, push_commands, push_held, push_take, push_versions}
-use Rattle.output_commit.proofs.Seeing.{visible_front, visible_merged, visible_more}
+use Rattle.output_commit.proofs.Merging.{is_merged, merged_held, push_changes, push_commands, push_held, push_take, push_versions}
+use Rattle.output_commit.proofs.Seeing.{visible_front, visible_more}
 use Rattle.std.proofs.lemmas.List.{length-append}
 
 -- the counts stay in order, what is seen only rises, what was sent stays, and these changes come in
@@ -22,15 +22,20 @@ record GoesOn (c c' : Commit) (added : List Update) (outputs : ℕ) : Type 0 whe
   changes : changes_in c'.batches ≡ changes_in c.batches ++ added
   versions : versions_in c'.batches ≡ versions_in c.batches + outputs
 
-stays_so : (c : Commit) → IsInOrder c → GoesOn c c [] 0
-stays_so c i = record {
-  in_order = i;
-  rises = omega arith;
+-- more commands are applied or acknowledged, or other outputs wait
+counts_on : (c : Commit) (done acked : ℕ) (held : List Output) → IsInOrder c → c.done ≤ done → done ≤ c.sent → acked ≤ done
+    → GoesOn c (record c { done = done; acked = acked; held = held }) [] 0
+counts_on c done acked held i later within known = record {
+  in_order = record { acked_within = known; done_within = within; sent_within = i.sent_within };
+  rises = visible_more c.batches c.done done later;
   sent = omega arith;
   stays = λ m h. refl;
   changes = sym (append-nil (changes_in c.batches));
   versions = omega arith;
 }
+
+stays_so : (c : Commit) → IsInOrder c → GoesOn c c [] 0
+stays_so c i = counts_on c c.done c.acked c.held i (omega arith) i.done_within i.acked_within
 
 pub changes_one : (us : List Update) → changes_in (batch_of us) ≡ us
 changes_one [] = refl
@@ -58,40 +63,30 @@ held_on c output us i =
 sent_on : (c : Commit) (b : Bool) → nat_lt c.sent (length (commands c)) ≡ b → IsInOrder c
     → GoesOn c (cond b (record c { batches = merged (fits c.writeback) c.sent c.batches; sent = c.sent + 1 }) c) [] 0
 sent_on c true e i =
-    let there = ltb-true c.sent (length (commands c)) e in
-    let goes = merged_goes_on (fits c.writeback) c.sent c.batches there in
+    let m = is_merged (fits c.writeback) c.sent c.batches in
+    let goes = m.goes_on (ltb-true c.sent (length (commands c)) e) in
+    let same = m.shows c.done i.done_within in
     let less = i.done_within in
-    let same = visible_merged (fits c.writeback) c.sent c.done c.batches less in
     record {
       in_order = record { acked_within = i.acked_within; done_within = omega arith; sent_within = omega arith };
       rises = omega arith;
       sent = omega arith;
-      stays = λ m h. merged_take (fits c.writeback) c.sent m c.batches h;
-      changes = merged_changes (fits c.writeback) c.sent c.batches ∙ sym (append-nil (changes_in c.batches));
-      versions = let v = merged_versions (fits c.writeback) c.sent c.batches in omega arith;
+      stays = m.stays;
+      changes = m.changes ∙ sym (append-nil (changes_in c.batches));
+      versions = let v = m.versions in omega arith;
     }
 sent_on c false e i = stays_so c i
 
 applied_on : (c : Commit) (b : Bool) → nat_lt c.done c.sent ≡ b → IsInOrder c → GoesOn c (cond b (record c { done = c.done + 1 }) c) [] 0
-applied_on c true e i = let there = ltb-true c.done c.sent e in let less = i.acked_within in record {
-  in_order = record { acked_within = omega arith; done_within = omega arith; sent_within = i.sent_within };
-  rises = visible_more c.batches c.done (c.done + 1) (omega arith);
-  sent = omega arith;
-  stays = λ m h. refl;
-  changes = sym (append-nil (changes_in c.batches));
-  versions = omega arith;
-}
+applied_on c true e i =
+    let there = ltb-true c.done c.sent e in let less = i.acked_within in
+    counts_on c (c.done + 1) c.acked c.held i (omega arith) (omega arith) (omega arith)
 applied_on c false e i = stays_so c i
 
 acknowledged_on : (c : Commit) (b : Bool) → nat_lt c.acked c.done ≡ b → IsInOrder c → GoesOn c (cond b (record c { acked = c.acked + 1 }) c) [] 0
-acknowledged_on c true e i = let there = ltb-true c.acked c.done e in record {
-  in_order = record { acked_within = omega arith; done_within = i.done_within; sent_within = i.sent_within };
-  rises = omega arith;
-  sent = omega arith;
-  stays = λ m h. refl;
-  changes = sym (append-nil (changes_in c.batches));
-  versions = omega arith;
-}
+acknowledged_on c true e i =
+    let there = ltb-true c.acked c.done e in
+    counts_on c c.done (c.acked + 1) c.held i (omega arith) i.done_within (omega arith)
 acknowledged_on c false e i = stays_so c i
 
 released_on : (c : Commit) (j : ℕ) (output : Option Output) → IsInOrder c → GoesOn c (after_release c j output) [] 0
@@ -100,14 +95,7 @@ released_on c j (Some output) i = waits_or_goes (nat_lt (acknowledged c) output.
   where
     waits_or_goes : (b : Bool) → GoesOn c (cond b c (record c { held = remove c.held j })) [] 0
     waits_or_goes true = stays_so c i
-    waits_or_goes false = record {
-      in_order = record { acked_within = i.acked_within; done_within = i.done_within; sent_within = i.sent_within };
-      rises = omega arith;
-      sent = omega arith;
-      stays = λ m h. refl;
-      changes = sym (append-nil (changes_in c.batches));
-      versions = omega arith;
-    }
+    waits_or_goes false = counts_on c c.done c.acked (remove c.held j) i (omega arith) i.done_within i.acked_within
 
 one_call : (c : Commit) (call : Call) → IsInOrder c → GoesOn c (after_call c call) (changes_of (call ∷ [])) (versions_of (call ∷ []))
 one_call c (hold output us) i = let h = held_on c output us i in record {
@@ -191,42 +179,31 @@ batch_held room [] h = tt
 batch_held room (u ∷ us) h = (h, tt)
 
 -- the same limit, and batches that are held
-record Holds (room : ℕ) (c : Commit) : Type 0 where
-  limit : c.writeback ≡ room
-  held : AreHeld room c.batches
+abbrev Holds : ℕ → Commit → Type 0
+Holds room c = (c.writeback ≡ room) × AreHeld room c.batches
 
 sent_holds : (room : ℕ) (c : Commit) (b : Bool) → Holds room c
     → Holds room (cond b (record c { batches = merged (fits c.writeback) c.sent c.batches; sent = c.sent + 1 }) c)
-sent_holds room c true h = record {
-  limit = h.limit;
-  held = subst (λ r. AreHeld room (merged (fits r) c.sent c.batches)) (sym h.limit) (merged_held room c.sent c.batches h.held);
-}
+sent_holds room c true h = (h.0, subst (λ r. AreHeld room (merged (fits r) c.sent c.batches)) (sym h.0) (merged_held room c.sent c.batches h.1))
 sent_holds room c false h = h
 
-done_holds : (room : ℕ) (c : Commit) (b : Bool) → Holds room c → Holds room (cond b (record c { done = c.done + 1 }) c)
-done_holds room c true h = record { limit = h.limit; held = h.held }
-done_holds room c false h = h
-
-acked_holds : (room : ℕ) (c : Commit) (b : Bool) → Holds room c → Holds room (cond b (record c { acked = c.acked + 1 }) c)
-acked_holds room c true h = record { limit = h.limit; held = h.held }
-acked_holds room c false h = h
+-- where one of two is the case
+either_holds : (room : ℕ) (c other : Commit) (b : Bool) → Holds room c → Holds room other → Holds room (cond b other c)
+either_holds room c other true h k = k
+either_holds room c other false h k = h
 
 gone_holds : (room : ℕ) (c : Commit) (j : ℕ) (output : Option Output) → Holds room c → Holds room (after_release c j output)
 gone_holds room c j None h = h
-gone_holds room c j (Some output) h = waits_or_goes (nat_lt (acknowledged c) output.need)
-  where
-    waits_or_goes : (b : Bool) → Holds room (cond b c (record c { held = remove c.held j }))
-    waits_or_goes true = h
-    waits_or_goes false = record { limit = h.limit; held = h.held }
+gone_holds room c j (Some output) h = either_holds room (record c { held = remove c.held j }) c (nat_lt (acknowledged c) output.need) h h
 
 all_hold : (room : ℕ) (c : Commit) (calls : List Call) → Holds room c → HoldsFitting room calls → Holds room (after_calls c calls)
 all_hold room c [] h fit = h
 all_hold room c (hold output us ∷ calls) h fit = all_hold room (with_output c output us) calls
-    (record { limit = h.limit; held = push_held room c.batches (batch_of us) h.held (batch_held room us fit.0) }) fit.1
-all_hold room c (send ∷ calls) h fit = all_hold room _ calls (sent_holds room c _ h) fit
-all_hold room c (apply ∷ calls) h fit = all_hold room _ calls (done_holds room c _ h) fit
-all_hold room c (acknowledge ∷ calls) h fit = all_hold room _ calls (acked_holds room c _ h) fit
-all_hold room c (release j ∷ calls) h fit = all_hold room _ calls (gone_holds room c j (slice_get c.held j) h) fit
+    (h.0, push_held room c.batches (batch_of us) h.1 (batch_held room us fit.0)) fit.1
+all_hold room c (send ∷ calls) h fit = all_hold room (after_call c send) calls (sent_holds room c (nat_lt c.sent (length (commands c))) h) fit
+all_hold room c (apply ∷ calls) h fit = all_hold room (after_call c apply) calls (either_holds room c (record c { done = c.done + 1 }) (nat_lt c.done c.sent) h h) fit
+all_hold room c (acknowledge ∷ calls) h fit = all_hold room (after_call c acknowledge) calls (either_holds room c (record c { acked = c.acked + 1 }) (nat_lt c.acked c.done) h h) fit
+all_hold room c (release j ∷ calls) h fit = all_hold room (after_call c (release j)) calls (gone_holds room c j (slice_get c.held j) h) fit
 
 pub each_held : (writeback : ℕ) (calls : List Call) → HoldsFitting writeback calls → AreHeld writeback (after_calls (first writeback) calls).batches
-each_held writeback calls fit = (all_hold writeback (first writeback) calls (record { limit = refl; held = tt }) fit).held
+each_held writeback calls fit = (all_hold writeback (first writeback) calls (refl, tt) fit).1

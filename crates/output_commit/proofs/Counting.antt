@@ -1,13 +1,12 @@
 -- How many commands there are, and what they make visible.
-use Rattle.std.proofs.Common.{◌≡◌, ◌≤◌, ◌<◌, ◌^◌, ℕ, zero, suc, ◌+◌, ◌-◌, ◌*◌, List, [], ◌∷◌, ◌++◌, refl, sym, ◌∙◌, ap, arith, length, map, take, drop}
+use Rattle.std.proofs.Common.{◌≡◌, ◌-◌, List, [], ◌∷◌, refl, sym, ◌∙◌, arith, length}
 use Rattle.writeback_table.specs.declared.command.Update.{Update}
 use Rattle.writeback_table.specs.Commands.{commands_of}
 use Rattle.output_commit.specs.declared.batches.Batches.{Batches}
-use Rattle.output_commit.specs.Batches.{Batch, commands_in}
+use Rattle.output_commit.specs.Batches.{commands_in}
 use Rattle.output_commit.specs.Commit.{batch_len, batch_of}
 use Rattle.output_commit.specs.Kept.{AreKept, batches_in, spans_in}
-use Rattle.output_commit.specs.Spans.{total}
-use Rattle.output_commit.proofs.Seeing.{length_batch}
+use Rattle.writeback_table.proofs.Ons.{length_batch}
 use Rattle.output_commit.proofs.Spanning.{AreFull, are_full, total_is}
 use Rattle.std.proofs.lemmas.List.{length-append}
 

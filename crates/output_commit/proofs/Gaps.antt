@@ -1,11 +1,11 @@
 -- Spans of which the first were begun and the last wait, with a gap between.
-use Rattle.std.proofs.Common.{◌≡◌, ℕ, ◌+◌, ◌-◌, ◌<◌, ◌≤◌, List, [], ◌∷◌, ◌++◌, refl, sym, ◌∙◌, ap, arith, zero, suc, map, length, length-drop, take, drop}
+use Rattle.std.proofs.Common.{◌≡◌, ℕ, ◌+◌, ◌-◌, ◌≤◌, List, [], ◌∷◌, ◌++◌, refl, sym, ◌∙◌, ap, arith, zero, suc, map, length, length-drop, take, drop}
 use Rattle.std.proofs.lemmas.List.{take-append-le}
 use Rattle.writeback_table.specs.declared.command.Update.{Update}
 use Rattle.output_commit.specs.declared.span.Span.{Span}
-use Rattle.output_commit.specs.Batches.{Batch}
 use Rattle.output_commit.specs.Spans.{AreJoined, batch_in}
 use Rattle.output_commit.proofs.Spanning.{joined_upto}
+use Rattle.lemmas.proofs.Lists.{take_whole}
 
 pub drop_more : {X : Type 0} (l : List X) (m n : ℕ) → drop n (drop m l) ≡ drop (m + n) l
 drop_more l zero n = let e : 0 + n ≡ n = omega arith in rw e refl
@@ -20,11 +20,7 @@ part_front [] vs (suc first) n h = absurd (omega arith)
 part_front (u ∷ us) vs (suc first) n h = part_front us vs first n (omega arith)
 
 pub part_last : (us vs : List Update) → take (length vs) (drop (length us) (us ++ vs)) ≡ vs
-part_last [] vs = whole vs
-  where
-    whole : (ws : List Update) → take (length ws) ws ≡ ws
-    whole [] = refl
-    whole (w ∷ ws) = ap (λ l. w ∷ l) (whole ws)
+part_last [] vs = take_whole vs
 part_last (u ∷ us) vs = part_last us vs
 
 pub same_batches : (us vs : List Update) (from : ℕ) (spans : List Span) (upto : ℕ) → upto ≤ length us → AreJoined from spans upto

@@ -1,7 +1,7 @@
 -- What a commit keeps beside what it shows stays so with each call.
 use Rattle.std.proofs.Common.{◌≡◌, ◌≤◌, ◌<◌, ◌^◌, ℕ, suc, ◌+◌, ◌-◌, true, false, ltb, List, [], ◌∷◌, ◌++◌, Some, inl, inr, refl, sym, subst, ◌∙◌, ap, arith, length, map, take, drop}
 use Rattle.std.specs.Prelude.{slice_get, remove, Result, Ok, Err, OnOk, OnErr, is_err}
-use Rattle.std.proofs.lemmas.Bool.{cases_Bool, cases_lt, lt-ltb, ltb-true, le-ltb as not_ltb}
+use Rattle.std.proofs.lemmas.Bool.{cases_lt, lt-ltb, le-ltb as not_ltb}
 use Rattle.std.proofs.lemmas.List.{take-append-le, drop-append-le, length-append, length-drop, length-take-le, take_all, append-nil}
 use Rattle.writeback_table.specs.Commands.{commands_of}
 use Rattle.output_commit.specs.declared.batches.Batches.{Batches}
@@ -14,7 +14,8 @@ use Rattle.output_commit.specs.Batches.{Batch, commands_in, fits, merged, visibl
 use Rattle.output_commit.specs.Kept.{AreKept, IsBefore, IsBegun, IsCounted, IsPushed, batches_in, begun_in, spans_in}
 use Rattle.output_commit.specs.Spans.{IsIn, batch_in, passed, shown_by, span_len, stands, total}
 use Rattle.output_commit.proofs.Counting.{commands_total, kept_full}
-use Rattle.output_commit.proofs.Seeing.{visible_front, visible_is, visible_merged}
+use Rattle.output_commit.proofs.Merging.{is_merged}
+use Rattle.output_commit.proofs.Seeing.{visible_front, visible_is}
 use Rattle.output_commit.proofs.Spanning.{AreFull, StandsIn, full_append, merged_within, shown_few, shown_next, stands_front, stands_get, stands_in, total_append}
 
 -- ## Places of more batches
@@ -124,8 +125,8 @@ counted_begin b b' span writeback sent done acked applied known v a c is =
       acked_within = c.acked_within;
       applied_at = before_more b b' done applied (span ∷ []) is.last c.applied_at;
       known_at = before_more b b' acked known (span ∷ []) is.last c.known_at;
-      seen = c.seen ∙ sym (visible_merged (fits writeback) (total (begun_in b)) done (batches_in b) (omega arith)) ∙ ap (λ bs. visible bs done) (sym is.batches);
-      known_seen = c.known_seen ∙ sym (visible_merged (fits writeback) (total (begun_in b)) acked (batches_in b) (omega arith)) ∙ ap (λ bs. visible bs acked) (sym is.batches);
+      seen = c.seen ∙ sym ((is_merged (fits writeback) (total (begun_in b)) (batches_in b)).shows done (omega arith)) ∙ ap (λ bs. visible bs done) (sym is.batches);
+      known_seen = c.known_seen ∙ sym ((is_merged (fits writeback) (total (begun_in b)) (batches_in b)).shows acked (omega arith)) ∙ ap (λ bs. visible bs acked) (sym is.batches);
     }
 
 pub sent_merges : (b b' : Batches) (span : Span) (writeback sent done acked : ℕ) (applied known : Place) (v a : ℕ)
@@ -168,26 +169,31 @@ visible_few b n kept =
     let f = kept.few in
     omega arith
 
--- a place that went on by a command is before the next one
+-- a place that goes on by a command is before the next one, and lookups see what the command shows
+one_on : (b : Batches) (n : ℕ) (p q : Place) (s : ℕ) (l : List Span) (r : Span × ℕ) → AreKept b → IsBefore b n p → n < total (begun_in b) → l ≡ begun_in b
+    → IsIn l q → passed l q ≡ passed l p + 1 → stands l (passed l p) ≡ Some r → s ≡ shown_by r.0 r.1
+    → IsBefore b (n + 1) q × (visible (batches_in b) (n + 1) ≡ visible (batches_in b) n + s)
+one_on b n p q s l r kept before less is inside one at shows =
+    let here = subst (λ m. stands m (passed m p) ≡ Some r) is at in (
+      record { within = subst (λ m. IsIn m q) is inside; passed = subst (λ m. passed m q ≡ passed m p + 1) is one ∙ ap (λ m. m + 1) before.passed },
+      visible_next b n r.0 r.1 kept (stands_all b n p r.0 r.1 before less here) ∙ ap (λ k. visible (batches_in b) n + k) (sym shows),
+    )
+
 pub counted_applied : (b : Batches) (sent done acked left : ℕ) (applied known q : Place) (v a s : ℕ) (l : List Span) (r : Span × ℕ)
     → IsCounted b sent done acked left applied known v a → done < sent → l ≡ begun_in b → IsIn l q → passed l q ≡ passed l applied + 1
     → stands l (passed l applied) ≡ Some r → s ≡ shown_by r.0 r.1 → IsCounted b sent (done + 1) acked left q known (v + s) a
 counted_applied b sent done acked left applied known q v a s l r c less is inside one at shows =
-    let n = c.applied_at.passed in
     let all = c.all in
-    let k = c.acked_within in
-    let here = subst (λ m. stands m (passed m applied) ≡ Some r) is at in
-    let next = visible_next b done r.0 r.1 c.kept (stands_all b done applied r.0 r.1 c.applied_at (omega arith) here) in
-    let seen = c.seen in
+    let on = one_on b done applied q s l r c.kept c.applied_at (omega arith) is inside one at shows in
     record {
       kept = c.kept;
       all = c.all;
       last = c.last;
       done_within = omega arith;
-      acked_within = omega arith;
-      applied_at = record { within = subst (λ m. IsIn m q) is inside; passed = subst (λ m. passed m q ≡ passed m applied + 1) is one ∙ ap (λ m. m + 1) n };
+      acked_within = let k = c.acked_within in omega arith;
+      applied_at = on.0;
       known_at = c.known_at;
-      seen = omega arith;
+      seen = ap (λ n. n + s) c.seen ∙ sym on.1;
       known_seen = c.known_seen;
     }
 
@@ -195,12 +201,9 @@ pub counted_known : (b : Batches) (sent done acked left : ℕ) (applied known q 
     → IsCounted b sent done acked left applied known v a → acked < done → l ≡ begun_in b → IsIn l q → passed l q ≡ passed l known + 1
     → stands l (passed l known) ≡ Some r → s ≡ shown_by r.0 r.1 → IsCounted b sent done (acked + 1) left applied q v (a + s)
 counted_known b sent done acked left applied known q v a s l r c less is inside one at shows =
-    let n = c.known_at.passed in
     let all = c.all in
     let d = c.done_within in
-    let here = subst (λ m. stands m (passed m known) ≡ Some r) is at in
-    let next = visible_next b acked r.0 r.1 c.kept (stands_all b acked known r.0 r.1 c.known_at (omega arith) here) in
-    let seen = c.known_seen in
+    let on = one_on b acked known q s l r c.kept c.known_at (omega arith) is inside one at shows in
     record {
       kept = c.kept;
       all = c.all;
@@ -208,9 +211,9 @@ counted_known b sent done acked left applied known q v a s l r c less is inside 
       done_within = c.done_within;
       acked_within = omega arith;
       applied_at = c.applied_at;
-      known_at = record { within = subst (λ m. IsIn m q) is inside; passed = subst (λ m. passed m q ≡ passed m known + 1) is one ∙ ap (λ m. m + 1) n };
+      known_at = on.0;
       seen = c.seen;
-      known_seen = omega arith;
+      known_seen = ap (λ n. n + s) c.known_seen ∙ sym on.1;
     }
 
 -- where the next command stands
@@ -257,9 +260,6 @@ after_send_is c n bs less is merges =
 -- where all commands are sent, nothing happens
 pub none_sent : (c : Commit) → length (commands_in c.batches) ≡ c.sent → (false ≡ ltb c.sent (length (commands_in c.batches))) × (c ≡ after_send c)
 none_sent c same = let f = not_ltb c.sent (length (commands_in c.batches)) (omega arith) in (sym f, sym (rw f refl))
-  where
-    not_ltb : (m n : ℕ) → n ≤ m → ltb m n ≡ false
-    not_ltb m n h = elim (cases_Bool (ltb m n)) [ inl t ↦ let lt = ltb-true m n t in absurd (omega arith) | inr f ↦ f ]
 
 -- where some aren't, one is
 pub some_unsent : (b : Batches) (sent done acked left : ℕ) (applied known : Place) (v a : ℕ)

@@ -1,5 +1,5 @@
 -- What batches keep where one takes up those behind it.
-use Rattle.std.proofs.Common.{◌≡◌, ℕ, ◌+◌, ◌-◌, ◌<◌, ◌≤◌, Bool, true, leb, eqb, List, [], ◌∷◌, ◌++◌, inl, inr, refl, sym, ◌∙◌, ap, arith, length, take, append_assoc}
+use Rattle.std.proofs.Common.{◌≡◌, ℕ, ◌+◌, ◌-◌, ◌≤◌, Bool, true, cond, leb, eqb, List, [], ◌∷◌, ◌++◌, inl, inr, refl, sym, ◌∙◌, ap, subst, arith, length, take, append_assoc}
 use Rattle.std.proofs.lemmas.Bool.{cases_Bool, eqb-true, leb-true}
 use Rattle.std.proofs.lemmas.List.{length-append, take-append-le}
 use Rattle.writeback_table.specs.declared.command.Update.{Update}
@@ -7,47 +7,72 @@ use Rattle.writeback_table.specs.Commands.{commands_of}
 use Rattle.output_commit.specs.Batches.{Batch, commands_in, fits, merged, take_up}
 use Rattle.output_commit.specs.Commit.{AreHeld}
 use Rattle.output_commit.specs.Laws.{IsMerged, changes_in, versions_in}
-use Rattle.output_commit.proofs.Seeing.{length_batch, visible_merged}
+use Rattle.writeback_table.proofs.Ons.{length_batch}
+use Rattle.output_commit.proofs.Seeing.{visible_parts}
 use Rattle.lemmas.proofs.Lists.{take_parts}
 
 abbrev joined : Batch → Batch → Batch
 joined b c = record { updates = b.updates ++ c.updates; versions = b.versions + c.versions }
 
--- ## The changes and the versions
+-- ## What stays
 
-up_changes : (f : List Update → Bool) (b : Batch) (bs : List Batch) → changes_in (take_up f b bs) ≡ b.updates ++ changes_in bs
-up_changes f b [] = refl
-up_changes f b (c ∷ bs) = elim (cases_Bool (f (b.updates ++ c.updates))) [
-  | inl t ↦ rw t (up_changes f (joined b c) bs ∙ append_assoc b.updates c.updates (changes_in bs))
-  | inr t ↦ rw t refl
+same_merged : (n : ℕ) (bs : List Batch) → IsMerged n bs bs
+same_merged n bs = record { changes = refl; versions = refl; stays = λ m h. refl; shows = λ m h. refl; fewer = omega arith; goes_on = λ h. h }
+
+-- the first batch takes up those behind it
+up_merged : (f : List Update → Bool) (b : Batch) (bs : List Batch) → IsMerged 0 (b ∷ bs) (take_up f b bs)
+up_merged f b [] = same_merged 0 (b ∷ [])
+up_merged f b (c ∷ bs) = elim (cases_Bool (f (b.updates ++ c.updates))) [
+  | inl t ↦ rw t (
+      let r = up_merged f (joined b c) bs in
+      let versions = r.versions in
+      let fewer = r.fewer in
+      let x = length-append (commands_of (b.updates ++ c.updates)) (commands_in bs) in
+      let y = length-append (commands_of b.updates) (commands_in (c ∷ bs)) in
+      let z = length-append (commands_of c.updates) (commands_in bs) in
+      let k = length_batch b.updates in let l = length_batch c.updates in let m = length_batch (b.updates ++ c.updates) in
+      let n = length-append b.updates c.updates in
+      record {
+        changes = r.changes ∙ append_assoc b.updates c.updates (changes_in bs);
+        versions = omega arith;
+        stays = λ m h. let none : m ≡ 0 = omega arith in rw none refl;
+        shows = λ m h. let none : m ≡ 0 = omega arith in rw none refl;
+        fewer = omega arith;
+        goes_on = λ h. r.goes_on (omega arith);
+      })
+  | inr t ↦ rw t (same_merged 0 (b ∷ (c ∷ bs)))
 ]
 
-pub merged_changes : (f : List Update → Bool) (n : ℕ) (bs : List Batch) → changes_in (merged f n bs) ≡ changes_in bs
-merged_changes f n [] = refl
-merged_changes f n (b ∷ bs) = elim (cases_Bool (eqb n 0)) [
-  | inl t ↦ rw t (up_changes f b bs)
+-- so does one behind the first
+behind_merged : (b : Batch) (n : ℕ) (bs new : List Batch) → length (commands_of b.updates) ≤ n
+    → IsMerged (n - length (commands_of b.updates)) bs new → IsMerged n (b ∷ bs) (b ∷ new)
+behind_merged b n bs new low r =
+    let cs = commands_of b.updates in
+    let x = length-append cs (commands_in bs) in
+    let y = length-append cs (commands_in new) in
+    let fewer = r.fewer in
+    record {
+      changes = ap (λ l. b.updates ++ l) r.changes;
+      versions = ap (λ k. b.versions + k) r.versions;
+      stays = λ m h. take_parts cs (commands_in new) m ∙ ap (λ l. take m cs ++ l) (r.stays (m - length cs) (omega arith)) ∙ sym (take_parts cs (commands_in bs) m);
+      shows = λ m h. visible_parts b new m ∙ ap (λ k. cond (leb m (length b.updates)) 0 (b.versions + k)) (r.shows (m - length cs) (omega arith))
+          ∙ sym (visible_parts b bs m);
+      fewer = omega arith;
+      goes_on = λ h. let more = r.goes_on (omega arith) in omega arith;
+    }
+
+pub is_merged : (f : List Update → Bool) (n : ℕ) (bs : List Batch) → IsMerged n bs (merged f n bs)
+is_merged f n [] = same_merged n []
+is_merged f n (b ∷ bs) = elim (cases_Bool (eqb n 0)) [
+  | inl t ↦ rw t (subst (λ k. IsMerged k (b ∷ bs) (take_up f b bs)) (sym (eqb-true n 0 t)) (up_merged f b bs))
   | inr t ↦ elim (cases_Bool (leb (length (commands_of b.updates)) n)) [
-    | inl s ↦ rw (t, s) (ap (λ l. b.updates ++ l) (merged_changes f (n - length (commands_of b.updates)) bs))
-    | inr s ↦ rw (t, s) refl
+    | inl s ↦ rw (t, s) (behind_merged b n bs (merged f (n - length (commands_of b.updates)) bs) (leb-true _ _ s)
+        (is_merged f (n - length (commands_of b.updates)) bs))
+    | inr s ↦ rw (t, s) (same_merged n (b ∷ bs))
   ]
 ]
 
-up_versions : (f : List Update → Bool) (b : Batch) (bs : List Batch) → versions_in (take_up f b bs) ≡ b.versions + versions_in bs
-up_versions f b [] = refl
-up_versions f b (c ∷ bs) = elim (cases_Bool (f (b.updates ++ c.updates))) [
-  | inl t ↦ rw t (let r = up_versions f (joined b c) bs in omega arith)
-  | inr t ↦ rw t refl
-]
-
-pub merged_versions : (f : List Update → Bool) (n : ℕ) (bs : List Batch) → versions_in (merged f n bs) ≡ versions_in bs
-merged_versions f n [] = refl
-merged_versions f n (b ∷ bs) = elim (cases_Bool (eqb n 0)) [
-  | inl t ↦ rw t (up_versions f b bs)
-  | inr t ↦ elim (cases_Bool (leb (length (commands_of b.updates)) n)) [
-    | inl s ↦ rw (t, s) (ap (λ m. b.versions + m) (merged_versions f (n - length (commands_of b.updates)) bs))
-    | inr s ↦ rw (t, s) refl
-  ]
-]
+-- ## Batches behind others
 
 pub push_changes : (bs cs : List Batch) → changes_in (bs ++ cs) ≡ changes_in bs ++ changes_in cs
 push_changes [] cs = refl
@@ -57,51 +82,12 @@ pub push_versions : (bs cs : List Batch) → versions_in (bs ++ cs) ≡ versions
 push_versions [] cs = omega arith
 push_versions (b ∷ bs) cs = let r = push_versions bs cs in omega arith
 
--- ## The commands
-
 pub push_commands : (bs cs : List Batch) → commands_in (bs ++ cs) ≡ commands_in bs ++ commands_in cs
 push_commands [] cs = refl
 push_commands (b ∷ bs) cs = ap (λ l. commands_of b.updates ++ l) (push_commands bs cs) ∙ sym (append_assoc (commands_of b.updates) (commands_in bs) (commands_in cs))
 
 pub push_take : (bs cs : List Batch) (m : ℕ) → m ≤ length (commands_in bs) → take m (commands_in (bs ++ cs)) ≡ take m (commands_in bs)
 push_take bs cs m low = ap (take m) (push_commands bs cs) ∙ take-append-le m (commands_in bs) (commands_in cs) low
-
-pub merged_take : (f : List Update → Bool) (n m : ℕ) (bs : List Batch) → m ≤ n → take m (commands_in (merged f n bs)) ≡ take m (commands_in bs)
-merged_take f n m [] low = refl
-merged_take f n m (b ∷ bs) low = elim (cases_Bool (eqb n 0)) [
-  | inl t ↦ rw t (let e = eqb-true n 0 t in let z : m ≡ 0 = omega arith in rw z refl)
-  | inr t ↦ elim (cases_Bool (leb (length (commands_of b.updates)) n)) [
-    | inl s ↦
-        let cs = commands_of b.updates in
-        let rest = merged f (n - length cs) bs in
-        let le = leb-true _ _ s in
-        rw (t, s) (take_parts cs (commands_in rest) m ∙ ap (λ l. take m cs ++ l) (merged_take f (n - length cs) (m - length cs) bs (omega arith)) ∙ sym (take_parts cs (commands_in bs) m))
-    | inr s ↦ rw (t, s) refl
-  ]
-]
-
--- one command more may still be sent
-up_some : (f : List Update → Bool) (b : Batch) (bs : List Batch) → 0 < length (commands_in (take_up f b bs))
-up_some f b [] = let a = length-append (commands_of b.updates) [] in let l = length_batch b.updates in omega arith
-up_some f b (c ∷ bs) = elim (cases_Bool (f (b.updates ++ c.updates))) [
-  | inl t ↦ rw t (up_some f (joined b c) bs)
-  | inr t ↦ rw t (let a = length-append (commands_of b.updates) (commands_in (c ∷ bs)) in let l = length_batch b.updates in omega arith)
-]
-
-pub merged_goes_on : (f : List Update → Bool) (n : ℕ) (bs : List Batch) → n < length (commands_in bs) → n < length (commands_in (merged f n bs))
-merged_goes_on f n [] h = h
-merged_goes_on f n (b ∷ bs) h = elim (cases_Bool (eqb n 0)) [
-  | inl t ↦ rw t (let e = eqb-true n 0 t in let s = up_some f b bs in omega arith)
-  | inr t ↦ elim (cases_Bool (leb (length (commands_of b.updates)) n)) [
-    | inl s ↦
-        let cs = commands_of b.updates in
-        let le = leb-true _ _ s in
-        let x = length-append cs (commands_in bs) in
-        let y = length-append cs (commands_in (merged f (n - length cs) bs)) in
-        rw (t, s) (let r = merged_goes_on f (n - length cs) bs (omega arith) in omega arith)
-    | inr s ↦ rw (t, s) h
-  ]
-]
 
 -- ## What the write-back tables hold
 
@@ -125,41 +111,3 @@ merged_held room n (b ∷ bs) h = elim (cases_Bool (eqb n 0)) [
 pub push_held : (room : ℕ) (bs cs : List Batch) → AreHeld room bs → AreHeld room cs → AreHeld room (bs ++ cs)
 push_held room [] cs first second = second
 push_held room (b ∷ bs) cs first second = (first.0, push_held room bs cs first.1 second)
-
-up_fewer : (f : List Update → Bool) (b : Batch) (bs : List Batch) → length (commands_in (take_up f b bs)) ≤ length (commands_in (b ∷ bs))
-up_fewer f b [] = omega arith
-up_fewer f b (c ∷ bs) = elim (cases_Bool (f (b.updates ++ c.updates))) [
-  | inl t ↦ rw t (
-      let r = up_fewer f (joined b c) bs in
-      let x = length-append (commands_of (b.updates ++ c.updates)) (commands_in bs) in
-      let y = length-append (commands_of b.updates) (commands_in (c ∷ bs)) in
-      let z = length-append (commands_of c.updates) (commands_in bs) in
-      let k = length_batch b.updates in let l = length_batch c.updates in let m = length_batch (b.updates ++ c.updates) in
-      let n = length-append b.updates c.updates in
-      omega arith)
-  | inr t ↦ rw t (omega arith)
-]
-
-merged_fewer : (f : List Update → Bool) (n : ℕ) (bs : List Batch) → length (commands_in (merged f n bs)) ≤ length (commands_in bs)
-merged_fewer f n [] = omega arith
-merged_fewer f n (b ∷ bs) = elim (cases_Bool (eqb n 0)) [
-  | inl t ↦ rw t (up_fewer f b bs)
-  | inr t ↦ elim (cases_Bool (leb (length (commands_of b.updates)) n)) [
-    | inl s ↦
-        let cs = commands_of b.updates in
-        let x = length-append cs (commands_in bs) in
-        let y = length-append cs (commands_in (merged f (n - length cs) bs)) in
-        rw (t, s) (let r = merged_fewer f (n - length cs) bs in omega arith)
-    | inr s ↦ rw (t, s) (omega arith)
-  ]
-]
-
-pub is_merged : (f : List Update → Bool) (n : ℕ) (bs : List Batch) → IsMerged n bs (merged f n bs)
-is_merged f n bs = record {
-  changes = merged_changes f n bs;
-  versions = merged_versions f n bs;
-  stays = λ m h. merged_take f n m bs h;
-  shows = λ m h. visible_merged f n m bs h;
-  fewer = merged_fewer f n bs;
-  goes_on = merged_goes_on f n bs;
-}

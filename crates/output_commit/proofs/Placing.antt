@@ -1,6 +1,6 @@
 -- How a place goes on by a command.
-use Rattle.std.proofs.Common.{◌≡◌, ℕ, ◌+◌, ◌-◌, ◌<◌, ◌≤◌, false, ltb, List, [], ◌∷◌, Some, inl, inr, sym, subst, ◌∙◌, ap, arith, zero, suc, length, take, drop, get_or}
-use Rattle.std.proofs.lemmas.Bool.{cases_Bool, ltb-true, lt-ltb}
+use Rattle.std.proofs.Common.{◌≡◌, ℕ, ◌+◌, ◌-◌, ◌<◌, ◌≤◌, false, ltb, List, [], ◌∷◌, Some, sym, subst, ◌∙◌, ap, arith, zero, suc, length, take, drop, get_or}
+use Rattle.std.proofs.lemmas.Bool.{le-ltb, lt-ltb}
 use Rattle.output_commit.specs.declared.span.Span.{Span}
 use Rattle.output_commit.specs.declared.place.Place.{Place}
 use Rattle.output_commit.specs.Spans.{IsIn, passed, span_len, stands, total}
@@ -27,12 +27,9 @@ stands_here [] i s d h less = absurd (omega arith)
 stands_here (x ∷ xs) zero s d h less = let t = lt-ltb (0 + s) (span_len x) (omega arith) in let e : 0 + s ≡ s = omega arith in rw t (ap (λ k. Some (x, k)) e)
 stands_here (x ∷ xs) (suc i) s d h less =
     let n = span_len x + total (take i xs) + s in
-    let f : ltb n (span_len x) ≡ false = not_ltb n (span_len x) (omega arith) in
+    let f : ltb n (span_len x) ≡ false = le-ltb n (span_len x) (omega arith) in
     let e : n - span_len x ≡ total (take i xs) + s = omega arith in
     rw (f, e) (stands_here xs i s d (omega arith) less)
-  where
-    not_ltb : (a b : ℕ) → b ≤ a → ltb a b ≡ false
-    not_ltb a b h = elim (cases_Bool (ltb a b)) [ inl t ↦ let le = ltb-true a b t in absurd (omega arith) | inr f ↦ f ]
 
 -- behind its last command the next batch begins
 pub next_there : (spans : List Span) (i s : ℕ) (d : Span) → i < length spans → s ≡ span_len (get_or spans i d) → total (take i spans) + s < total spans → suc i < length spans

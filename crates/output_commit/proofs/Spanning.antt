@@ -11,7 +11,8 @@ use Rattle.writeback_table.specs.Commands.{clear_of, commands_of}
 use Rattle.output_commit.specs.declared.span.Span.{Span}
 use Rattle.output_commit.specs.Batches.{Batch, commands_in, merged}
 use Rattle.output_commit.specs.Spans.{AreJoined, batch_in, shown_by, span_len, stands, total}
-use Rattle.output_commit.proofs.Seeing.{length_batch, shown}
+use Rattle.writeback_table.proofs.Ons.{length_batch}
+use Rattle.output_commit.proofs.Seeing.{shown, shown_zero}
 use Rattle.lemmas.proofs.Lists.{get_front}
 
 -- ## Spans within all changes
@@ -118,10 +119,6 @@ stands_front (x ∷ xs) ys n h = elim (cases_Bool (ltb n (span_len x))) [
 
 -- ## What a command makes visible
 
-pub shown_none : (bs : List Batch) → shown bs 0 ≡ 0
-shown_none [] = refl
-shown_none (b ∷ bs) = let t = le-leb 0 (length b.updates) (omega arith) in rw t refl
-
 -- in the first batch
 first_shown : (us : List Update) (x : Span) (bs : List Batch) (n : ℕ) → length (batch_in us x).updates ≡ x.changes → n < span_len x
     → shown (batch_in us x ∷ bs) (n + 1) ≡ shown (batch_in us x ∷ bs) n + shown_by x n
@@ -130,7 +127,7 @@ first_shown us x bs n full lt =
     let w = length (batch_in us x).updates in
     let z : n - length (commands_of (batch_in us x).updates) ≡ 0 = omega arith in
     let y : n + 1 - length (commands_of (batch_in us x).updates) ≡ 0 = omega arith in
-    let nothing = shown_none bs in
+    let nothing = shown_zero bs in
     elim (cases_lt n x.changes) [
       | inl low ↦
           let a = le-leb (n + 1) w (omega arith) in let b = le-leb n w (omega arith) in

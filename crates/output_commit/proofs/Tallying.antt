@@ -1,6 +1,6 @@
 -- Counts of the changes of each object, one change after the other.
 use Rattle.std.proofs.Common.{◌≡◌, ℕ, ◌+◌, ◌<◌, ◌≤◌, true, false, cond, eqb, List, [], ◌∷◌, ◌++◌, inl, inr, refl, sym, subst, ◌∙◌, ap, arith, zero, suc, length, take, drop, get_or, set}
-use Rattle.std.proofs.lemmas.Bool.{cases_Bool, cases_eq, eqb-true, eq-eqb}
+use Rattle.std.proofs.lemmas.Bool.{cases_Bool, cases_eq, eqb-true, eq-eqb, ne_eqb}
 use Rattle.std.proofs.lemmas.List.{get_or-set_same, get_or-set_other, length-set, take_more, take-append-drop}
 use Rattle.writeback_table.specs.declared.command.Update.{Update}
 use Rattle.writeback_table.specs.Batches.{count_of}
@@ -42,15 +42,12 @@ next_tallied counts o n f g low h is step k less =
           let here : get_or (set counts o n) k 0 ≡ n = subst (λ j. get_or (set counts o n) j 0 ≡ n) (sym e) (get_or-set_same counts o n 0 low) in
           omega arith
       | inr d ↦
-          let t = differ o k d in
+          let t = ne_eqb o k (λ e. d (sym e)) in
           let s : g k ≡ f k + 0 = step k ∙ (rw t refl) in
           let there = get_or-set_other counts o k n 0 d in
           let was = h k (omega arith) in
           omega arith
     ]
-  where
-    differ : (a b : ℕ) → (b ≡ a → ⊥) → eqb a b ≡ false
-    differ a b d = elim (cases_Bool (eqb a b)) [ inl t ↦ absurd (d (sym (eqb-true a b t))) | inr f ↦ f ]
 
 -- where an object has its most, one change more of it doesn't fit
 pub full : (before us : List Update) (most i : ℕ) (u : Update) → i < length us → u ≡ get_or us i u

@@ -7,6 +7,6 @@ use gal_io::Bytes;
 pub enum Verdict {
     /// The packet goes no further.
     Drop,
-    /// These bytes leave by this port.
+    /// The bytes leave by the port.
     Send(u8, Bytes),
 }

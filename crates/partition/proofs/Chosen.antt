@@ -1,5 +1,5 @@
 -- What holds of each split that is chosen, and when none is.
-use Rattle.std.proofs.Common.{◌≡◌, ℕ, zero, suc, ◌<◌, ◌≤◌, Bool, true, false, List, [], ◌∷◌, Some, None, inl, inr, refl, ap, subst, arith, length}
+use Rattle.std.proofs.Common.{◌≡◌, ℕ, zero, suc, ◌<◌, ◌≤◌, Bool, true, false, List, [], ◌∷◌, Option, Some, None, inl, inr, refl, ap, subst, arith, length}
 use Rattle.std.proofs.lemmas.Bool.{cases_lt}
 use Rattle.flat_ir.specs.Program.{Program}
 use Rattle.flat_ir.specs.WellFormed.{IsWellFormed}
@@ -11,12 +11,11 @@ use Rattle.resource_limits.specs.declared.limits.Limits.{Limits}
 use Rattle.resource_limits.specs.declared.exceeding.Over.{Over}
 use Rattle.resource_limits.specs.Limits.{AreInRange}
 use Rattle.resource_limits.specs.Counts.{counts_of}
-use Rattle.resource_limits.specs.Kept.{KeepsLimits, first_over}
+use Rattle.resource_limits.specs.Kept.{KeepsLimits, first_excess}
 use Rattle.partition.specs.Choice.{IsKept, IsExceeded, IsFirstKept, IsChosen, shrinking}
 use Rattle.split_model.specs.Bounds.{HasFewStages}
 use Rattle.partition.specs.Tried.{IsTriedKept, IsTriedExceeded}
-use Rattle.partition.proofs.Lawful.{as_many, greatest_legal}
-use Rattle.partition.proofs.Server.{left}
+use Rattle.partition.proofs.Lawful.{left, as_many, greatest_legal}
 use Rattle.partition.proofs.Unique.{same_splits}
 
 -- a chosen split is a greatest one that keeps the limits
@@ -36,18 +35,16 @@ chosen_is_kept f limits true split k = first_is_kept f limits (shrinking (length
 
 -- ## Stages
 
-pub pre_low : (split : List Part) (n i : ℕ) → i < n → stage_or_zero (pre_stage split i) ≤ highest_below split n
-pre_low split zero i lt = absurd (omega (arith, lt))
-pre_low split (suc n) i lt = elim (cases_lt i n) [
-  | inl less ↦ (let h = pre_low split n i less in omega (arith, h))
-  | inr le ↦ (let e : i ≡ n = omega (arith, lt, le) in let h = ap (λ j. stage_or_zero (pre_stage split j)) e in omega (arith, h))
-]
-
-pub post_low : (split : List Part) (n i : ℕ) → i < n → stage_or_zero (post_stage split i) ≤ highest_below split n
-post_low split zero i lt = absurd (omega (arith, lt))
-post_low split (suc n) i lt = elim (cases_lt i n) [
-  | inl less ↦ (let h = post_low split n i less in omega (arith, h))
-  | inr le ↦ (let e : i ≡ n = omega (arith, lt, le) in let h = ap (λ j. stage_or_zero (post_stage split j)) e in omega (arith, h))
+pub stages_low : (split : List Part) (n i : ℕ) → i < n → (stage_or_zero (pre_stage split i) ≤ highest_below split n) × (stage_or_zero (post_stage split i) ≤ highest_below split n)
+stages_low split zero i lt = absurd (omega (arith, lt))
+stages_low split (suc n) i lt = elim (cases_lt i n) [
+  | inl less ↦ (let h = stages_low split n i less in (omega (arith, h.0), omega (arith, h.1)))
+  | inr le ↦ (
+      let e : i ≡ n = omega (arith, lt, le) in
+      let before = ap (λ j. stage_or_zero (pre_stage split j)) e in
+      let after = ap (λ j. stage_or_zero (post_stage split j)) e in
+      (omega (arith, before), omega (arith, after))
+      )
 ]
 
 past : (split : List Part) (i : ℕ) → length split ≤ i → part_at split i ≡ left
@@ -55,17 +52,19 @@ past [] i le = refl
 past (x ∷ xs) zero le = absurd (omega (arith, le))
 past (x ∷ xs) (suc i) le = past xs i (omega (arith, le))
 
-pub low_stages : (f : Program) (limits : Limits) (split : List Part) → length split ≡ length f.code → AreInRange limits → KeepsLimits f split limits → HasFewStages split
-low_stages f limits split count ranges keeps = record {
-  pre = λ i stage is. elim (cases_lt i (length f.code)) [
-    | inl lt ↦ (let h = pre_low split (length f.code) i lt in let s = ap stage_or_zero is in let k = keeps.stages in let r = ranges.1 in omega (arith, h, s, k, r))
-    | inr le ↦ (let e : pre_stage split i ≡ None = ap (λ (p : Part). p.pre) (past split i (omega (arith, le, count))) in cc)
-  ];
-  post = λ i stage is. elim (cases_lt i (length f.code)) [
-    | inl lt ↦ (let h = post_low split (length f.code) i lt in let s = ap stage_or_zero is in let k = keeps.stages in let r = ranges.1 in omega (arith, h, s, k, r))
-    | inr le ↦ (let e : post_stage split i ≡ None = ap (λ (p : Part). stage_after p.slow) (past split i (omega (arith, le, count))) in cc)
-  ];
+-- a split that keeps limits of the range that a file can give has few stages
+pub few_stages_within_limits : (f : Program) (limits : Limits) (split : List Part) → length split ≡ length f.code → AreInRange limits → KeepsLimits f split limits → HasFewStages split
+few_stages_within_limits f limits split count ranges keeps = record {
+  pre = λ i. few (λ p. p.pre) refl i (λ lt. (stages_low split (length f.code) i lt).0);
+  post = λ i. few (λ p. stage_after p.slow) refl i (λ lt. (stages_low split (length f.code) i lt).1);
 }
+  where
+    few : (own : Part → Option ℕ) → own left ≡ None → (i : ℕ) → (i < length f.code → stage_or_zero (own (part_at split i)) ≤ highest_below split (length f.code))
+        → (stage : ℕ) → own (part_at split i) ≡ Some stage → stage ≤ 4096
+    few own none i low stage is = elim (cases_lt i (length f.code)) [
+      | inl lt ↦ (let h = low lt in let s = ap stage_or_zero is in let k = keeps.stages in let r = ranges.1 in omega (arith, h, s, k, r))
+      | inr le ↦ (let e = ap own (past split i (omega (arith, le, count))) in cc)
+    ]
 
 -- what every chosen split has
 pub record IsSound (f : Program) (limits : Limits) (split : List Part) : Type 0 where
@@ -79,7 +78,7 @@ sound f limits shrink split formed ranges chosen =
     record {
       legal = greatest_legal f some.number some.all split formed some.kept.greatest;
       keeps = some.kept.keeps;
-      low = low_stages f limits split (as_many f some.number some.all split some.kept.greatest) ranges some.kept.keeps;
+      low = few_stages_within_limits f limits split (as_many f some.number some.all split some.kept.greatest) ranges some.kept.keeps;
     }
 
 -- ## Exactly where
@@ -88,8 +87,8 @@ module _ (f : Program) (limits : Limits) (k : ℕ) (all : Bool) (formed : IsWell
   pub kept_not_exceeded : (split : List Part) (over : Over) → IsTriedKept f limits k all split → IsExceeded f limits k all over → ⊥
   kept_not_exceeded split over kept exceeded =
       let e : exceeded.split ≡ split = same_splits f k all exceeded.split split formed exceeded.greatest kept.kept.greatest in
-      let s : first_over (counts_of f split limits.writeback) limits ≡ Some over =
-      subst (λ (s : List Part). first_over (counts_of f s limits.writeback) limits ≡ Some over) e exceeded.exceeds in
+      let s : first_excess (counts_of f split limits.writeback) limits ≡ Some over =
+      subst (λ (s : List Part). first_excess (counts_of f s limits.writeback) limits ≡ Some over) e exceeded.exceeds in
       let n = kept.none in
       cc
 

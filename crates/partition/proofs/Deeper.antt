@@ -9,7 +9,7 @@ use Rattle.split_model.specs.Counts.{stage_or_zero}
 use Rattle.resource_limits.specs.declared.limits.Limits.{Limits}
 use Rattle.resource_limits.specs.Kept.{KeepsLimits}
 use Rattle.partition.specs.Deeper.{is_deeper}
-use Rattle.partition.proofs.Chosen.{pre_low, post_low}
+use Rattle.partition.proofs.Chosen.{stages_low}
 
 part_deeper : (most : ℕ) (parts : List Part) → list_any (is_deeper most) parts ≡ true → (i : ℕ) × ((i < length parts) × (is_deeper most (part_at parts i) ≡ true))
 part_deeper most [] h = absurd (let k : false ≡ true = h in cc)
@@ -25,7 +25,8 @@ deeper_not_kept f limits split count deep keeps =
     let i = g.0 in
     let lt : i < length f.code = (let l = g.1.0 in omega (arith, l, count)) in
     let k = keeps.stages in
+    let h = stages_low split (length f.code) i lt in
     elim (or_cases (nat_lt limits.stages (stage_or_zero (pre_stage split i))) (nat_lt limits.stages (stage_or_zero (post_stage split i))) g.1.1) [
-      | inl t ↦ (let l = ltb-true limits.stages (stage_or_zero (pre_stage split i)) t in let h = pre_low split (length f.code) i lt in omega (arith, l, h, k))
-      | inr t ↦ (let l = ltb-true limits.stages (stage_or_zero (post_stage split i)) t in let h = post_low split (length f.code) i lt in omega (arith, l, h, k))
+      | inl t ↦ (let l = ltb-true limits.stages (stage_or_zero (pre_stage split i)) t in omega (arith, l, h.0, k))
+      | inr t ↦ (let l = ltb-true limits.stages (stage_or_zero (post_stage split i)) t in omega (arith, l, h.1, k))
     ]

@@ -1,10 +1,10 @@
 -- What is left to the server has a header of two bytes, and takes nothing else of the switch.
-use Rattle.std.proofs.Common.{◌≡◌, ◌↔◌, ℕ, zero, suc, ◌+◌, ◌/◌, ◌<◌, ◌≤◌, Bool, true, false, ◌&&◌, ◌||◌, ◌==◌, not, List, [], ◌∷◌, ◌++◌, Option, Some, None, inl, inr, ◌⊎◌, refl, sym, ap, ◌∙◌, subst, arith, length, map, is_some}
+use Rattle.std.proofs.Common.{◌≡◌, ◌↔◌, ℕ, zero, suc, ◌+◌, ◌/◌, ◌<◌, ◌≤◌, Bool, true, false, ◌&&◌, ◌||◌, ◌==◌, not, List, [], ◌∷◌, ◌++◌, Option, Some, None, inl, inr, refl, sym, ap, ◌∙◌, subst, arith, length, map, is_some}
 use Rattle.std.specs.Prelude.{slice_index_or, All, if◌then◌else◌, nat_lt}
 use Rattle.std.specs.List.{filter}
 use Rattle.std.proofs.lemmas.List.{append-nil}
 use Rattle.std.proofs.lemmas.List.Elements.{All-nil, All-cons, All-append, filter-append}
-use Rattle.std.proofs.lemmas.Bool.{cases_Bool, cases_eq, eqb-true, and_from, or_left, or_right, and_parts, false_from_ne_true, ltb-true}
+use Rattle.std.proofs.lemmas.Bool.{cases_Bool, cases_eq, eqb-true, and_from, or_cases, or_left, or_right, and_parts, false_from_ne_true, ltb-true}
 use Rattle.state_store.specs.declared.object.ObjectDecl.{ObjectDecl}
 use Rattle.state_store.specs.Kinds.{is_table, is_constant}
 use Rattle.flat_ir.specs.declared.program.ValueId.{ValueId}
@@ -24,11 +24,11 @@ use Rattle.resource_limits.specs.declared.limits.Limits.{Limits}
 use Rattle.resource_limits.specs.Counts.{first_numbers}
 use Rattle.resource_limits.specs.Kept.{KeepsLimits}
 use Rattle.partition.specs.Choice.{shrinking}
-use Rattle.partition.proofs.Lawful.{and_no, pre_at, carried_at, post_at}
-use Rattle.partition.proofs.Server.{left, IsBlank, no_pre, no_carried, no_post, no_stages, none_below, unseen}
+use Rattle.partition.proofs.Lawful.{left, and_no, pre_at, carried_at, post_at}
+use Rattle.partition.proofs.Server.{IsBlank, no_pre, no_carried, no_post, no_stages, none_below, unseen}
 use Rattle.flat_ir.proofs.Exact.{same_itself, value_same}
 use Rattle.lemmas.proofs.Lists.{replicate_false}
-use Rattle.lemmas.proofs.Tests.{and_second}
+use Rattle.lemmas.proofs.Tests.{and_second, same_tests}
 
 -- ## The greatest split on no instruction is that one
 
@@ -112,44 +112,22 @@ bits_first : (f : Program) (test : ValueId → Bool) (v : ValueId) (vs : List Va
     → bits_of f (filter test (v ∷ vs)) ≡ (if test v then width_of_value f v else 0) + bits_of f (filter test vs)
 bits_first f test v vs = elim (cases_Bool (test v)) [ inl y ↦ rw y (omega arith) | inr n ↦ rw n (omega arith) ]
 
-if_either : (a b c : Bool) (n : ℕ) → (a ≡ true → (b ≡ true) ⊎ (c ≡ true)) → (if a then n else 0) ≤ (if b then n else 0) + (if c then n else 0)
-if_either false b c n h = omega arith
-if_either true true c n h = omega arith
-if_either true false true n h = omega arith
-if_either true false false n h = elim (h refl) [ inl e ↦ cc | inr e ↦ cc ]
+if_one : (a b c : Bool) (n : ℕ) → a ≡ (b || c) → (b ≡ true → c ≡ true → ⊥) → (if a then n else 0) ≡ (if b then n else 0) + (if c then n else 0)
+if_one a true true n e apart = absurd (apart refl refl)
+if_one a true false n e apart = rw e (omega arith)
+if_one a false c n e apart = rw e (omega arith)
 
--- what passes a test passes one of two others
-either_bits : (f : Program) (p q r : ValueId → Bool) (vs : List ValueId) → ((v : ValueId) → p v ≡ true → (q v ≡ true) ⊎ (r v ≡ true))
-    → bits_of f (filter p vs) ≤ bits_of f (filter q vs) + bits_of f (filter r vs)
-either_bits f p q r [] h = omega arith
-either_bits f p q r (v ∷ vs) h = omega (
+-- what passes a test passes just one of two others
+bits_of_two : (f : Program) (p q r : ValueId → Bool) (vs : List ValueId) → ((v : ValueId) → p v ≡ (q v || r v)) → ((v : ValueId) → q v ≡ true → r v ≡ true → ⊥)
+    → bits_of f (filter p vs) ≡ bits_of f (filter q vs) + bits_of f (filter r vs)
+bits_of_two f p q r [] h apart = omega arith
+bits_of_two f p q r (v ∷ vs) h apart = omega (
   arith,
-  either_bits f p q r vs h,
+  bits_of_two f p q r vs h apart,
   bits_first f p v vs,
   bits_first f q v vs,
   bits_first f r v vs,
-  if_either (p v) (q v) (r v) (width_of_value f v) (h v),
-)
-
-if_both : (a b c : Bool) (n : ℕ) → (b ≡ true → a ≡ true) → (c ≡ true → a ≡ true) → (b ≡ true → c ≡ true → ⊥)
-    → (if b then n else 0) + (if c then n else 0) ≤ (if a then n else 0)
-if_both a true true n first second apart = absurd (apart refl refl)
-if_both a true false n first second apart = rw (first refl) (omega arith)
-if_both a false true n first second apart = rw (second refl) (omega arith)
-if_both a false false n first second apart = omega arith
-
--- what passes one of two tests that exclude each other passes a third one
-both_bits : (f : Program) (p q r : ValueId → Bool) (vs : List ValueId) → ((v : ValueId) → q v ≡ true → p v ≡ true)
-    → ((v : ValueId) → r v ≡ true → p v ≡ true) → ((v : ValueId) → q v ≡ true → r v ≡ true → ⊥)
-    → bits_of f (filter q vs) + bits_of f (filter r vs) ≤ bits_of f (filter p vs)
-both_bits f p q r [] first second apart = omega arith
-both_bits f p q r (v ∷ vs) first second apart = omega (
-  arith,
-  both_bits f p q r vs first second apart,
-  bits_first f p v vs,
-  bits_first f q v vs,
-  bits_first f r v vs,
-  if_both (p v) (q v) (r v) (width_of_value f v) (first v) (second v) (apart v),
+  if_one (p v) (q v) (r v) (width_of_value f v) (h v) (apart v),
 )
 
 -- ## A value stands once among all of a program
@@ -220,11 +198,6 @@ none_left : (test : ValueId → Bool) (vs : List ValueId) → ((v : ValueId) →
 none_left test [] h = refl
 none_left test (v ∷ vs) h = rw (h v) (none_left test vs h)
 
-either : (a b : Bool) → (a || (b || false)) ≡ true → (a ≡ true) ⊎ (b ≡ true)
-either true b h = inl refl
-either false true h = inr refl
-either false false h = cc
-
 or_first : (a b : Bool) → b ≡ false → (a || b) ≡ true → a ≡ true
 or_first true b n h = refl
 or_first false b n h = cc
@@ -241,57 +214,49 @@ module _ (split : List Part) (of : IsBlank split) (f : Program) (formed : IsWell
   unread v = none_below split of (λ i. is_post split i && is_among v (operands (step_at f i).work)) (length f.code)
       (λ i. rw (no_post split of i) refl)
 
-  two_down : (v : ValueId) → crosses_down f split v ≡ true → (is_value v f.send ≡ true) ⊎ (is_value v f.port ≡ true)
-  two_down v h =
-      let named = is_named f v && not (is_post split v.instruction) in
-      let read = not (is_at_hand f split (step_at f v.instruction).work) && is_read_by f (is_post split) v in
-      let some = and_second named (is_among v (f.send ∷ f.port ∷ []) || read) h in
-      let none : read ≡ false = and_no (not (is_at_hand f split (step_at f v.instruction).work)) (is_read_by f (is_post split) v) (λ x. unread v) in
-      either (is_value v f.send) (is_value v f.port) (or_first (is_among v (f.send ∷ f.port ∷ [])) read none some)
-
-  at_most_nine : bits_of f (down_values f split) ≤ 9
-  at_most_nine =
-      let a = either_bits f (crosses_down f split) (λ (v : ValueId). is_value v f.send) (λ (v : ValueId). is_value v f.port) (values_of f) two_down in
-      let b = named_bits f f.send formed.send.named in
-      let c = named_bits f f.port formed.port.named in
-      omega (arith, a, b, c, formed.send.wide, formed.port.wide)
-
-  goes_down : (v w : ValueId) → is_named f w ≡ true → is_among w (f.send ∷ f.port ∷ []) ≡ true → is_value v w ≡ true → crosses_down f split v ≡ true
-  goes_down v w named among is =
-      let same : w ≡ v = sym (value_same v w is) in
-      subst (λ (x : ValueId). crosses_down f split x ≡ true) same
-      (and_from (is_named f w && not (is_post split w.instruction)) _
-      (and_from (is_named f w) (not (is_post split w.instruction)) named (not_is (is_post split w.instruction) (no_post split of w.instruction)))
-      (or_left (is_among w (f.send ∷ f.port ∷ [])) _ among))
-    where
-      not_is : (b : Bool) → b ≡ false → not b ≡ true
-      not_is true h = cc
-      not_is false h = refl
-
   not_both : (v : ValueId) → is_value v f.send ≡ true → is_value v f.port ≡ true → ⊥
   not_both v s p =
       let same : f.send ≡ f.port = sym (value_same v f.send s) ∙ value_same v f.port p in
       let w = ap (λ (x : ValueId). width_of_value f x) same in
       omega (arith, w, formed.send.wide, formed.port.wide)
 
-  at_least_nine : 9 ≤ bits_of f (down_values f split)
-  at_least_nine =
-      let first = or_left (is_value f.send f.send) (is_value f.send f.port || false) (same_itself f.send) in
-      let second = or_right (is_value f.port f.send) (is_value f.port f.port || false) (or_left (is_value f.port f.port) false (same_itself f.port)) in
-      let a = both_bits f (crosses_down f split) (λ (v : ValueId). is_value v f.send) (λ (v : ValueId). is_value v f.port) (values_of f)
-      (λ v h. goes_down v f.send formed.send.named first h) (λ v h. goes_down v f.port formed.port.named second h) not_both in
+  -- what goes down is whether the packet is sent, and its port
+  goes_down : (v w : ValueId) → is_named f w ≡ true → is_among w (f.send ∷ f.port ∷ []) ≡ true → is_value v w ≡ true → crosses_down f split v ≡ true
+  goes_down v w named among is =
+      let same : w ≡ v = sym (value_same v w is) in
+      subst (λ (x : ValueId). crosses_down f split x ≡ true) same
+      (and_from (is_named f w && not (is_post split w.instruction)) _ (and_from (is_named f w) (not (is_post split w.instruction)) named (ap not (no_post split of w.instruction)))
+      (or_left (is_among w (f.send ∷ f.port ∷ [])) _ among))
+
+  two_down : (v : ValueId) → crosses_down f split v ≡ (is_value v f.send || is_value v f.port)
+  two_down v = same_tests (crosses_down f split v) (is_value v f.send || is_value v f.port)
+      (λ h.
+      let named = is_named f v && not (is_post split v.instruction) in
+      let read = not (is_at_hand f split (step_at f v.instruction).work) && is_read_by f (is_post split) v in
+      let none : read ≡ false = and_no (not (is_at_hand f split (step_at f v.instruction).work)) (is_read_by f (is_post split) v) (λ x. unread v) in
+      drop_last (is_value v f.send) (is_value v f.port) (or_first (is_among v (f.send ∷ f.port ∷ [])) read none (and_second named (is_among v (f.send ∷ f.port ∷ []) || read) h)))
+      (λ h. elim (or_cases (is_value v f.send) (is_value v f.port) h) [
+        | inl s ↦ goes_down v f.send formed.send.named (or_left (is_value f.send f.send) (is_value f.send f.port || false) (same_itself f.send)) s
+        | inr p ↦ goes_down v f.port formed.port.named (or_right (is_value f.port f.send) (is_value f.port f.port || false) (or_left (is_value f.port f.port) false (same_itself f.port))) p
+      ])
+    where
+      drop_last : (a b : Bool) → (a || (b || false)) ≡ true → (a || b) ≡ true
+      drop_last true b h = refl
+      drop_last false true h = refl
+      drop_last false false h = h
+
+  nine_bits : bits_of f (down_values f split) ≡ 9
+  nine_bits =
+      let sum = bits_of_two f (crosses_down f split) (λ (v : ValueId). is_value v f.send) (λ (v : ValueId). is_value v f.port) (values_of f) two_down not_both in
       let b = named_bits f f.send formed.send.named in
       let c = named_bits f f.port formed.port.named in
-      omega (arith, a, b, c, formed.send.wide, formed.port.wide)
+      omega (arith, sum, b, c, formed.send.wide, formed.port.wide)
 
   two_bytes : transfer_bytes f split ≡ 2
   two_bytes =
       let u : layout_bytes (up_layout f split) ≡ 0 = ap (λ (vs : List ValueId). layout_bytes (map (crossing f) vs)) nothing_up in
-      let d : layout_bytes (down_layout f split) ≡ 2 = low_bytes (bits_of f (down_values f split)) at_most_nine at_least_nine in
+      let d : layout_bytes (down_layout f split) ≡ 2 = ap (λ n. (n + 7) / 8) nine_bits in
       omega (arith, u, d)
-    where
-      low_bytes : (n : ℕ) → n ≤ 9 → 9 ≤ n → (n + 7) / 8 ≡ 2
-      low_bytes n h l = omega (arith, h, l)
 
   blank_keeps : (limits : Limits) → 2 ≤ limits.transfer_bytes → KeepsLimits f split limits
   blank_keeps limits room =

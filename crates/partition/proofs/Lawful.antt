@@ -36,7 +36,7 @@ and_no false b h = refl
 
 -- ## Marks and stages of a split
 
-abbrev left : Part
+abbrev pub left : Part
 left = record { pre = None; slow = Server }
 
 mark_at : (g : Part → Bool) → g left ≡ false → (split : List Part) (i : ℕ) → slice_index_or (map g split) i false ≡ g (part_at split i)
@@ -133,7 +133,7 @@ well_placed f stage marks stages marked numbered staged i lt (Some own) is =
 -- ## What is closed breaks no rule
 
 -- nothing at all is closed for postprocessing
-none_closed : (f : Program) (carried post : List Bool) → ((i : ℕ) → IsMarked post i → ⊥) → IsPostClosed f carried post
+pub none_closed : (f : Program) (carried post : List Bool) → ((i : ℕ) → IsMarked post i → ⊥) → IsPostClosed f carried post
 none_closed f carried post none = record {
   apart = λ i h. absurd (none i h);
   kinds = λ i h. absurd (none i h);

@@ -21,7 +21,7 @@ use Rattle.resource_limits.specs.declared.counting.Counts.{Counts}
 use Rattle.resource_limits.specs.declared.exceeding.Over.{Over}
 use Rattle.resource_limits.specs.declared.exceeding.LimitName.TheVariants.{Accesses, Stages, TableBits, Writeback, TransferBytes}
 use Rattle.resource_limits.specs.Counts.{first_numbers, counts_of}
-use Rattle.resource_limits.specs.Kept.{Keeps, KeepsLimits, first_over, of_objects, of_all, exceeds}
+use Rattle.resource_limits.specs.Kept.{Keeps, KeepsLimits, first_excess, of_objects, of_all, exceeds}
 use Rattle.partition.specs.Choice.{IsKept}
 use Rattle.partition.specs.Tried.{IsTooMuch}
 use Rattle.partition.proofs.Lawful.{pre_at, post_at, pre_stage_at, post_stage_at}
@@ -198,8 +198,8 @@ alone_last x y none over found = elim (cases_Bool (exceeds y)) [
 ]
 
 of_headers : (c : Counts) (bytes : ℕ) (l : Limits) (over : Over)
-    → first_over (record { accesses = c.accesses; stages = c.stages; table_bits = c.table_bits; writes = c.writes; transfer_bytes = bytes }) l ≡ None
-    → first_over c l ≡ Some over → over.limit ≡ TransferBytes
+    → first_excess (record { accesses = c.accesses; stages = c.stages; table_bits = c.table_bits; writes = c.writes; transfer_bytes = bytes }) l ≡ None
+    → first_excess c l ≡ Some over → over.limit ≡ TransferBytes
 of_headers c bytes l over none some =
     let x : Over = of_all TransferBytes l.transfer_bytes bytes in
     let y : Over = of_all TransferBytes l.transfer_bytes c.transfer_bytes in

@@ -1,20 +1,16 @@
 -- The split that leaves all to the server.
-use Rattle.std.proofs.Common.{◌≡◌, ℕ, zero, suc, Bool, false, ◌&&◌, List, ◌∷◌, None, refl, sym, ap, ◌∙◌, subst, arith, length, replicate, map, is_some}
+use Rattle.std.proofs.Common.{◌≡◌, ℕ, zero, suc, Bool, false, ◌&&◌, List, ◌∷◌, refl, sym, ap, ◌∙◌, subst, arith, length, replicate, map, is_some}
 use Rattle.std.proofs.lemmas.List.{length-map, length-replicate}
 use Rattle.flat_ir.specs.Program.{Program, step_at}
-use Rattle.flat_ir.specs.Sets.{IsMarked, IsPreClosed, IsCarriedClosed, IsPostClosed}
+use Rattle.flat_ir.specs.Sets.{IsMarked, IsPreClosed, IsCarriedClosed}
 use Rattle.flat_ir.specs.Stages.{IsStaged}
 use Rattle.split_model.specs.declared.split.Part.{Part}
-use Rattle.split_model.specs.declared.split.Slow.TheVariants.{Server}
 use Rattle.split_model.specs.Split.{part_at, pre_stage, post_stage, is_pre, is_carried, is_post, is_carried_up, stage_after, any_below}
 use Rattle.split_model.specs.Shown.{looks_at, is_shown}
 use Rattle.split_model.specs.Counts.{stage_or_zero, highest_below, stages}
 use Rattle.split_model.specs.Legal.{IsLegal}
 use Rattle.split_model.specs.Greatest.{pre_marks, carried_marks, post_marks, pre_stages, post_stages, IsGreatestSplit}
-use Rattle.partition.proofs.Lawful.{and_no, closed_legal, pre_at, carried_at, post_at, pre_stage_at, post_stage_at}
-
-abbrev pub left : Part
-left = record { pre = None; slow = Server }
+use Rattle.partition.proofs.Lawful.{left, and_no, none_closed, closed_legal, pre_at, carried_at, post_at, pre_stage_at, post_stage_at}
 
 -- each instruction is the server's
 abbrev pub IsBlank : List Part → Type 0
@@ -80,14 +76,6 @@ module _ (split : List Part) (of : IsBlank split) where
       operands = λ i j one m at r. absurd (carried_out i m);
     }
 
-    post_closed : IsPostClosed f (carried_marks split) (post_marks split)
-    post_closed = record {
-      apart = λ i m. absurd (post_out i m);
-      kinds = λ i m. absurd (post_out i m);
-      readers = λ u j one m at r free. absurd (post_out j m);
-      guards = λ i m g. post_out i m;
-    }
-
     staged : (members : List Bool) (depths : List ℕ) → ((i : ℕ) → IsMarked members i → ⊥) → IsStaged f members depths
     staged members depths none = record {
       given = λ i one m at h. absurd (none i m);
@@ -100,7 +88,7 @@ module _ (split : List Part) (of : IsBlank split) where
       number = 0;
       pre = pre_closed;
       carried = carried_closed;
-      post = post_closed;
+      post = none_closed f (carried_marks split) (post_marks split) post_out;
       pre_staged = staged (pre_marks split) (pre_stages split) pre_out;
       post_staged = staged (post_marks split) (post_stages split) post_out;
     })

@@ -6,7 +6,7 @@ use Rattle.split_model.specs.Greatest.{IsGreatestSplit}
 use Rattle.resource_limits.specs.declared.limits.Limits.{Limits}
 use Rattle.resource_limits.specs.declared.exceeding.Over.{Over}
 use Rattle.resource_limits.specs.Counts.{counts_of}
-use Rattle.resource_limits.specs.Kept.{KeepsLimits, first_over}
+use Rattle.resource_limits.specs.Kept.{KeepsLimits, first_excess}
 
 -- the greatest split on the first k instructions, which keeps the limits
 pub record IsKept (f : Program) (limits : Limits) (k : ℕ) (all : Bool) (split : List Part) : Type 0 where
@@ -17,7 +17,7 @@ pub record IsKept (f : Program) (limits : Limits) (k : ℕ) (all : Bool) (split 
 pub record IsExceeded (f : Program) (limits : Limits) (k : ℕ) (all : Bool) (over : Over) : Type 0 where
   pub split : List Part
   pub greatest : IsGreatestSplit f k all split
-  pub exceeds : first_over (counts_of f split limits.writeback) limits ≡ Some over
+  pub exceeds : first_excess (counts_of f split limits.writeback) limits ≡ Some over
 
 -- what shrinking tries, from n instructions down to none, each with and without postprocessing
 abbrev pub shrinking : ℕ → List (ℕ × Bool)

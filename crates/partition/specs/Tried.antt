@@ -6,7 +6,7 @@ use Rattle.resource_limits.specs.declared.limits.Limits.{Limits}
 use Rattle.resource_limits.specs.declared.exceeding.Over.{Over}
 use Rattle.resource_limits.specs.declared.exceeding.LimitName.TheVariants.{TransferBytes}
 use Rattle.resource_limits.specs.Counts.{counts_of}
-use Rattle.resource_limits.specs.Kept.{KeepsLimits, first_over}
+use Rattle.resource_limits.specs.Kept.{KeepsLimits, first_excess}
 use Rattle.partition.specs.declared.trying.Tried.{Tried}
 use Rattle.partition.specs.declared.trying.Tried.TheVariants.{Kept, Exceeding}
 use Rattle.partition.specs.declared.choosing.Outcome.{Outcome}
@@ -16,7 +16,7 @@ use Rattle.partition.specs.Choice.{IsKept, IsExceeded, IsFirstKept, shrinking}
 -- a split that keeps the limits, so that there is no first limit that it exceeds
 pub record IsTriedKept (f : Program) (limits : Limits) (k : ℕ) (all : Bool) (split : List Part) : Type 0 where
   pub kept : IsKept f limits k all split
-  pub none : first_over (counts_of f split limits.writeback) limits ≡ None
+  pub none : first_excess (counts_of f split limits.writeback) limits ≡ None
 
 -- a first limit that is exceeded, so that the split doesn't keep all of them
 pub record IsTriedExceeded (f : Program) (limits : Limits) (k : ℕ) (all : Bool) (over : Over) : Type 0 where

@@ -22,7 +22,7 @@ pub(crate) struct Basis {
 }
 
 impl Basis {
-    /// That of a program. It takes one step an operand and a block.
+    /// What the search knows of a program at first. Finding it takes one step an operand and a block.
     pub(crate) fn of(alloc: Global, f: &Flat) -> Result<Basis, NoMemory>
         requires { IsBounded (program_of f.now) }
         ensures { IfOk result (λ basis. IsBasis f.now basis) }

@@ -8,7 +8,7 @@ ghost use Rattle.resource_limits.specs.Limits.{AreInRange};
 ghost use Rattle.resource_limits.specs.Kept.{KeepsLimits};
 ghost use Rattle.resource_limits.specs.declared.exceeding.Over.{Over};
 ghost use Rattle.partition.specs.Choice.{IsChosen, IsRefused, IsKept, IsExceeded};
-ghost use Rattle.partition.specs.declared.choosing.PartError.TheVariants.{NoMemory as without_memory};
+ghost use Rattle.partition.specs.declared.choosing.PartitionError.TheVariants.{NoMemory as without_memory};
 ghost use Rattle.partition.specs.Causes.{IsCause};
 ghost use Rattle.partition.specs.Tried.{IsFound, IsLeft, IsStep};
 ghost use Rattle.partition.specs.Front.{IsFront};
@@ -29,7 +29,7 @@ use thiserror::Error;
 
 /// Why there is no split.
 #[derive(Debug, Drop, Error)]
-pub enum PartError {
+pub enum PartitionError {
     /// The greatest split exceeds this limit first.
     #[error("a limit is exceeded")]
     Exceeds(Over),
@@ -37,11 +37,11 @@ pub enum PartError {
     NoMemory,
 }
 
-impl From<NoMemory> for PartError {
+impl From<NoMemory> for PartitionError {
     ghost from_gives = { λ _ e. e ≡ without_memory };
 
     fn from(_: NoMemory) -> Self {
-        PartError::NoMemory
+        PartitionError::NoMemory
     }
 }
 
@@ -207,7 +207,12 @@ fn shrunk(alloc: Global, f: &Flat, basis: &Basis, limits: &Limits) -> Result<Spl
 /// The split that the limits allow: the greatest one of all instructions, which is refused where it exceeds a limit, or
 /// by shrinking the first that keeps the limits of those on all instructions, on all but the last, and so on, each with
 /// postprocessing and then without it. The last of these has all on the server, so shrinking is never refused.
-pub fn partition(alloc: Global, f: &Flat, limits: &Limits, shrink: bool) -> Result<Split, PartError>
+pub fn partition(
+    alloc: Global,
+    f: &Flat,
+    limits: &Limits,
+    shrink: bool,
+) -> Result<Split, PartitionError>
     requires bounded { IsBounded (program_of f.now) }
     requires in_range { AreInRange limits.now }
     ensures chosen { IfOk result (λ split. IsChosen (program_of f.now) limits.now shrink split) }
@@ -228,6 +233,6 @@ pub fn partition(alloc: Global, f: &Flat, limits: &Limits, shrink: bool) -> Resu
     let front = Front::new(alloc, f, f.code.len())?;
     match try_split(alloc, f, &basis, limits, &front, true)? {
         Tried::Kept(split) => Ok(split),
-        Tried::Exceeding(over) => Err(PartError::Exceeds(over)),
+        Tried::Exceeding(over) => Err(PartitionError::Exceeds(over)),
     }
 }

@@ -25,7 +25,7 @@ pub(crate) struct Front {
 }
 
 impl Front {
-    /// Those among the first `count` instructions. It takes one step per operand.
+    /// The front of the first `count` instructions. Finding it takes one step an operand.
     pub(crate) fn new(alloc: Global, f: &Flat, count: usize) -> Result<Front, NoMemory>
         requires { IsBounded (program_of f.now) }
         ensures front { IfOk result (λ front. IsFront (program_of f.now) front) }

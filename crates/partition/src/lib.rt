@@ -7,5 +7,5 @@ mod front;
 mod greatest;
 mod trying;
 
-pub use choosing::{PartError, partition};
+pub use choosing::{PartitionError, partition};
 pub use greatest::{all_on_server, greatest_split};

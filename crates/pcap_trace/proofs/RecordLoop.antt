@@ -9,7 +9,6 @@ use Rattle.packet_fields.specs.Several.{AreBytes}
 use Rattle.pcap_trace.specs.declared.header.Header.{Header}
 use Rattle.pcap_trace.specs.declared.records.Record.{Record}
 use Rattle.pcap_trace.specs.declared.records.RecordHeader.{RecordHeader}
-use Rattle.pcap_trace.specs.declared.refusal.PcapError.TheVariants as errors
 use Rattle.pcap_trace.specs.Format.{IsCapture, IsPcap, header, number, pcap_bytes, record_bytes, record_header}
 use Rattle.pcap_trace.specs.Header.{IsHeader, capture_of}
 use Rattle.pcap_trace.specs.Reading.{HasFields, IsWhole, record_with}

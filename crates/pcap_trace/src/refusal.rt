@@ -7,7 +7,7 @@ use thiserror::Error;
 /// Why bytes are no capture that is taken: the first of these causes that holds. Places count from 0.
 #[derive(Clone, Copy, Debug, PartialEq, Eq, Error)]
 pub enum PcapError {
-    /// They don't begin with the 24 bytes of a header of version 2.4, in either byte order.
+    /// The bytes don't begin with the 24 bytes of a header of version 2.4, in either byte order.
     #[error("header at 0")]
     Header,
     /// The link type isn't Ethernet's.

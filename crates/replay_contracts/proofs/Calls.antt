@@ -8,8 +8,7 @@ use Rattle.switch_ir.specs.Code.{Code}
 use Rattle.switch_ir.specs.Port.{PortState}
 use Rattle.switch_ir.specs.Tables.{Told}
 use Rattle.switch_ir.specs.declared.journal.Entry.{Entry}
-use Rattle.replay_state.specs.Journal.{Call, CalledUp, CalledStageUp, CalledCommand, CalledDown, CalledStageDown}
-use Rattle.replay_state.specs.Journal.{GoingUp, GoingDown}
+use Rattle.replay_state.specs.Journal.{Call, CalledUp, CalledCommand, CalledDown}
 use Rattle.replay_contracts.specs.Called.{WasCalled, WasMade, calls_in, entry_of, is_of_replay, journal_of, told_then, told_through}
 
 -- what one call leaves
@@ -40,18 +39,12 @@ leaves_tables call old new same counts loaded told journal faults = record {
 }
 
 pub made_leaves : (call : Call) (old new : PortState) → WasMade call old new → Leaves call old new
-made_leaves (CalledUp false n packet GoingUp) old new h = absurd h.ends
 made_leaves (CalledUp false n packet answer) old new h = leaves_tables (CalledUp false n packet answer) old new
     (λ t. refl) refl h.kept.code h.kept.told h.journal h.faults
-made_leaves (CalledUp true n packet GoingUp) old new h = leaves_tables (CalledUp true n packet GoingUp) old new (λ t. refl) refl h.1.kept.code h.1.kept.told h.1.journal h.1.faults
-made_leaves (CalledStageUp n GoingUp) old new h = leaves_tables (CalledStageUp n GoingUp) old new (λ t. refl) refl h.1.kept.code h.1.kept.told h.1.journal h.1.faults
 made_leaves (CalledCommand c) old new h =
     record { loaded = h.code; told = h.told; journal = one_entry old.journal new.journal (entry_of (CalledCommand c)) refl h.journal; faults = h.faults }
-made_leaves (CalledDown false n frame GoingDown) old new h = absurd h.ends
 made_leaves (CalledDown false n frame answer) old new h = leaves_tables (CalledDown false n frame answer) old new
     (λ t. refl) refl h.kept.code h.kept.told h.journal h.faults
-made_leaves (CalledDown true n frame GoingDown) old new h = leaves_tables (CalledDown true n frame GoingDown) old new (λ t. refl) refl h.1.kept.code h.1.kept.told h.1.journal h.1.faults
-made_leaves (CalledStageDown n GoingDown) old new h = leaves_tables (CalledStageDown n GoingDown) old new (λ t. refl) refl h.1.kept.code h.1.kept.told h.1.journal h.1.faults
 made_leaves call old new h = leaves_tables call old new (λ t. refl) refl h.1.kept.code h.1.kept.told h.1.journal h.1.faults
 
 -- what several leave, one after the other

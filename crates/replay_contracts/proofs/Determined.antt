@@ -1,30 +1,28 @@
 -- The journal determines the calls.
 use Rattle.std.proofs.Common.{◌≡◌, ℕ, true, false, List, [], ◌∷◌, refl, sym, ◌∙◌, ap}
-use Rattle.std.specs.Prelude.{⊤}
+use Rattle.std.specs.Prelude.{⊤, Result, Ok, Err}
 use Rattle.std.specs.List.{AllByRecursion as Each}
 use Rattle.writeback_table.specs.declared.command.Command.TheVariants.{On}
 use Rattle.switch_ir.specs.declared.journal.Entry.{Entry}
 use Rattle.switch_ir.specs.declared.journal.Entry.TheVariants as entry
 use Rattle.switch_ir.specs.declared.port.UpEnd.{UpEnd}
-use Rattle.switch_ir.specs.declared.port.UpEnd.TheVariants as up
 use Rattle.switch_ir.specs.declared.port.DownEnd.{DownEnd}
-use Rattle.switch_ir.specs.declared.port.DownEnd.TheVariants as down
+use Rattle.switch_ir.specs.declared.port.PortError.{PortError}
 use Rattle.replay_state.specs.Program.{SplitProgram}
-use Rattle.replay_state.specs.Journal.{Call, CalledUp, CalledStageUp, CalledCommand, CalledDown, CalledStageDown, UpAnswer, Finished, SentUp, GoingUp, DownAnswer, Released, GoingDown}
+use Rattle.replay_state.specs.Journal.{Call, CalledUp, CalledStageUp, CalledCommand, CalledDown, CalledStageDown, UpAnswer, GoingUp, DownAnswer, GoingDown}
 use Rattle.replay_state.specs.Journal.{DownFramesAre, IsNumbered}
-use Rattle.split_answers.specs.Through.{down_end_of, end_of}
+use Rattle.split_answers.specs.Through.{answer_of, down_answer_of, down_end_of, end_of}
 use Rattle.replay_contracts.specs.Called.{entry_of, journal_of}
 
 -- ---- the call of an entry; of one that is none of a replay, any
 
-abbrev answer_in : UpEnd → UpAnswer
-answer_in (up.Finished y) = Finished y
-answer_in (up.Up frame) = SentUp frame
-answer_in end = GoingUp
+abbrev answer_in : Result UpEnd PortError → UpAnswer
+answer_in (Ok end) = answer_of end
+answer_in (Err error) = GoingUp
 
-abbrev down_answer_in : DownEnd → DownAnswer
-down_answer_in (down.Verdict y) = Released y
-down_answer_in end = GoingDown
+abbrev down_answer_in : Result DownEnd PortError → DownAnswer
+down_answer_in (Ok end) = down_answer_of end
+down_answer_in (Err error) = GoingDown
 
 abbrev call_of : (List ℕ → ℕ) → Entry → Call
 call_of number (entry.Up n port packet answer) = CalledUp false n (record { port = port; bytes = packet }) (answer_in answer)
@@ -36,11 +34,11 @@ call_of number (entry.StageDown n answer) = CalledStageDown n (down_answer_in an
 call_of number (entry.Command c end) = CalledCommand c
 call_of number entry = CalledCommand On
 
-up_back : (answer : UpAnswer) → answer_in (end_of answer) ≡ answer
+up_back : (answer : UpAnswer) → answer_of (end_of answer) ≡ answer
 up_back GoingUp = refl
 up_back answer = refl
 
-down_back : (answer : DownAnswer) → down_answer_in (down_end_of answer) ≡ answer
+down_back : (answer : DownAnswer) → down_answer_of (down_end_of answer) ≡ answer
 down_back GoingDown = refl
 down_back answer = refl
 

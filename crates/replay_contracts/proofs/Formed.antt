@@ -10,9 +10,9 @@ use Rattle.replay_state.specs.Journal.{Call, CalledUp, CalledStageUp, FramesAre,
 use Rattle.replay_state.specs.Program.{packet_at}
 use Rattle.split_answers.specs.Through.{end_of}
 use Rattle.replay_contracts.specs.Called.{IsFormed}
-use Rattle.replay_contracts.specs.Given.{Given, code_for, whole}
+use Rattle.replay_contracts.specs.Inputs.{Inputs, code_for, whole}
 
-module _ (x : Given) where
+module _ (x : Inputs) where
   -- the frame has the layout of those that go up, and the number of its packet
   abbrev pub FormedFrame : ℕ → List ℕ → Type 0
   FormedFrame n frame = IsFrame 1 (code_for x).up frame × IsNumbered (whole x) n frame

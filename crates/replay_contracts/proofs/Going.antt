@@ -23,14 +23,14 @@ use Rattle.output_commit.specs.Batches.{commands_in}
 use Rattle.replay_state.specs.declared.pass.Pass.{Pass}
 use Rattle.replay_state.specs.State.{State, applied_commands}
 use Rattle.replay_state.specs.Step.{applies, step}
-use Rattle.replay_state.specs.Told.{IsTied}
+use Rattle.replay_state.specs.Tied.{IsTied}
 use Rattle.split_answers.specs.Over.{AreAnswersOver, IsAnswerOver, IsGiven}
 use Rattle.split_answers.specs.Through.{IsThrough}
 use Rattle.split_answers.specs.UnderWay.{KnowTheirOwn, SeeTheirOwn}
 use Rattle.replay_contracts.specs.Called.{HasCalls, WasCalled, WasMade, command_in, commands_among, entry_of, journal_of, told_through}
 use Rattle.split_answers.proofs.Laws.{a_told_command_goes_through}
 use Rattle.replay_contracts.proofs.Calls.{called_leave}
-use Rattle.replay_contracts.specs.Given.{Given, setup_for, whole, code_for}
+use Rattle.replay_contracts.specs.Inputs.{Inputs, setup_for, whole, code_for}
 use Rattle.replay_contracts.specs.Replay.{IsReplay, IsTold, answered}
 
 -- ---- the commands among questions
@@ -150,7 +150,7 @@ few_calls setup s packets calls one w e asks =
 
 -- ---- one event more
 
-module _ (x : Given) (events : List Event) (event : Event) (calls one : List Call) (st : State) (old new : PortState)
+module _ (x : Inputs) (events : List Event) (event : Event) (calls one : List Call) (st : State) (old new : PortState)
     (h : IsReplay x events calls st old)
     (asks_so : map question_of one ≡ asked (setup_for x) (whole x) x.packets (calls ++ one) st event)
     (called : WasCalled (code_for x) one old new) where

@@ -12,7 +12,7 @@ use Rattle.flat_ir.specs.Blocks.{nothing}
 use Rattle.switch_ir.specs.Code.{Code}
 use Rattle.switch_ir.specs.Meaning.{down_given}
 use Rattle.switch_ir.specs.Port.{PortState, OfItsParts, IsHandedDown, IsNothing}
-use Rattle.switch_ir.specs.Staged.{EndsBy, EndsDownBy, post_staging, pre_staging}
+use Rattle.switch_ir.specs.Staged.{EndsBy, EndsDownBy, post_staging, pre_staging, staging}
 use Rattle.switch_ir.specs.Tables.{Told}
 use Rattle.switch_ir.specs.UnderWay.{EndsWith, HasEntered, HasGoneOn, PassState}
 use Rattle.switch_ir.specs.declared.port.DownEnd.TheVariants as down
@@ -27,12 +27,12 @@ use Rattle.replay_state.specs.Program.{SplitProgram, packet_at}
 use Rattle.replay_state.specs.declared.pass.Pass.{Pass}
 use Rattle.replay_state.specs.State.{State, applied_commands, seen, store_at}
 use Rattle.replay_state.specs.Step.{applies}
-use Rattle.replay_state.specs.Told.{EndsRight, IsRight}
+use Rattle.replay_state.specs.Tied.{EndsRight, IsRight}
 use Rattle.replay_state.specs.Views.{KeepViews}
 use Rattle.split_answers.specs.Through.{IsThrough, end_of}
-use Rattle.split_answers.specs.UnderWay.{AreShown, KnowsItsOwn, KnowsOver, KnowTheirOwn, Views, passes_of, staging}
+use Rattle.split_answers.specs.UnderWay.{AreShown, KnowsItsOwn, KnowsOver, KnowTheirOwn, Views, passes_of}
 use Rattle.replay_contracts.specs.Called.{WasCalled}
-use Rattle.replay_contracts.specs.Given.{Given, IsReady, code_for, setup_for, whole}
+use Rattle.replay_contracts.specs.Inputs.{Inputs, IsReady, code_for, setup_for, whole}
 use Rattle.replay_contracts.proofs.Asked.{asked_stage_up, asked_stage_down}
 use Rattle.replay_contracts.proofs.OnSwitch.{OnList}
 use Rattle.replay_contracts.proofs.PassingOn.{Kept, Rests, around}
@@ -70,7 +70,7 @@ asked_at_stage setup s packets calls st event j t e = rw t (ap (asks setup s pac
 
 -- ## Over told tables
 
-module _ (x : Given) (ready : IsReady x) (calls one : List Call) (st : State) (old : PortState) (before : Told) (is_told : old.told ≡ Some before)
+module _ (x : Inputs) (ready : IsReady x) (calls one : List Call) (st : State) (old : PortState) (before : Told) (is_told : old.told ≡ Some before)
     (places : HavePlaces st)
     (through : IsThrough (code_for x) (applied_commands st) before) (knows : KnowTheirOwn x.program x.split x.writeback x.packets calls st old.passes)
     (views : KeepViews (setup_for x) st) (carried : Carried (HasGoneUp calls) st) where

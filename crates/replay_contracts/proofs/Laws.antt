@@ -14,9 +14,10 @@ use Rattle.replay_state.specs.Tables.{HasNewestTables, LookupsShow}
 use Rattle.replay_state.specs.Views.{KeepViews}
 use Rattle.run_model.specs.declared.event.Event.{Event}
 use Rattle.run_model.specs.declared.run.Run.{Run}
+use Rattle.switch_ir.specs.Staged.{staging}
 use Rattle.split_answers.proofs.Laws.{a_switch_that_tells_its_tables_tells_right, frames_do_what_packets_do, quiet_tables_are_the_stores, split_programs_have_their_laws, told_rows_are_the_visible_stores, told_tables_are_those_of_the_commands, told_tables_start}
 use Rattle.split_answers.specs.Through.{HasTables}
-use Rattle.split_answers.specs.UnderWay.{AreOnSwitch, staging}
+use Rattle.split_answers.specs.UnderWay.{AreOnSwitch}
 use Rattle.state_store.specs.Kept.{IsKept}
 use Rattle.state_store.specs.Store.{start_store, object_at, rows_of}
 use Rattle.switch_ir.specs.Port.{PortState}
@@ -41,13 +42,13 @@ use Rattle.replay_contracts.proofs.Picking.{picks_next, some_too, state_append}
 use Rattle.replay_contracts.proofs.Reporting.{parts_same, seen_of, some_where}
 use Rattle.replay_contracts.proofs.Turns.{turn_all, turn_on}
 use Rattle.replay_contracts.specs.Called.{IsFormed, WasCalled, journal_of}
-use Rattle.replay_contracts.specs.Given.{Given, IsReady, code_for, setup_for, whole, whole_runs}
+use Rattle.replay_contracts.specs.Inputs.{Inputs, IsReady, code_for, setup_for, whole, whole_runs}
 use Rattle.replay_contracts.specs.Promise.{Promises, Reports, state_for}
 use Rattle.replay_contracts.specs.Replay.{HasDrained, HasPicked, IsLoaded, IsReplay, answered}
 use Rattle.lemmas.proofs.Lists.{each_append}
 
 -- A port that was loaded is a replay of no events.
-pub a_replay_begins : (x : Given) (port : PortState) → IsReady x → IsLoaded x port
+pub a_replay_begins : (x : Inputs) (port : PortState) → IsReady x → IsLoaded x port
     → IsReplay x [] [] (first_state (start_store x.program.objects)) port
 a_replay_begins x port ready loaded =
     let first = first_state (start_store x.program.objects) in
@@ -68,7 +69,7 @@ a_replay_begins x port ready loaded =
     }
 
 -- The calls that an event asks lead from one replay to the next, over any port.
-pub a_replay_goes_on : (x : Given) (events : List Event) (event : Event) (calls one : List Call) (st : State)
+pub a_replay_goes_on : (x : Inputs) (events : List Event) (event : Event) (calls one : List Call) (st : State)
     (old new : PortState)
     → IsReady x → IsReplay x events calls st old
     → map question_of one ≡ asked (setup_for x) (whole x) x.packets (calls ++ one) st event
@@ -131,7 +132,7 @@ a_replay_goes_on x events event calls one st old new ready h asks called =
     }
 
 -- What drain picks one after the other, over any port.
-pub a_drain_goes_on-begins : (x : Given) (events : List Event) (calls : List Call) (st : State) (port : PortState)
+pub a_drain_goes_on-begins : (x : Inputs) (events : List Event) (calls : List Call) (st : State) (port : PortState)
     → IsReplay x events calls st port → HasPicked x events [] calls st port
 a_drain_goes_on-begins x events calls st port h = record {
   replay = subst (λ es. IsReplay x es calls st port) (sym (append-nil events)) h;
@@ -139,7 +140,7 @@ a_drain_goes_on-begins x events calls st port h = record {
   told = λ tables is. tt;
 }
 
-pub a_drain_goes_on-more : (x : Given) (events more : List Event) (event : Event) (calls one : List Call) (st next : State)
+pub a_drain_goes_on-more : (x : Inputs) (events more : List Event) (event : Event) (calls one : List Call) (st next : State)
     (old new : PortState)
     → HasPicked x events more calls st old → next_event (setup_for x) st ≡ Some event
     → is_some new.told ≡ is_some old.told
@@ -159,7 +160,7 @@ a_drain_goes_on-more x events more event calls one st next old new h event_is to
     }
 
 -- Where drain picks no event more, over any port, the run is drained, by events within the bound.
-pub a_drain_ends : (x : Given) (events more : List Event) (calls : List Call) (st : State) (port : PortState)
+pub a_drain_ends : (x : Inputs) (events more : List Event) (calls : List Call) (st : State) (port : PortState)
     → IsReady x → HasPicked x events more calls st port → next_event (setup_for x) st ≡ None
     → HasDrained x events more calls st port
 a_drain_ends x events more calls st port ready h none =
@@ -183,7 +184,7 @@ a_drain_ends x events more calls st port ready h none =
     }
 
 -- Over a port that tells its tables, what is told of a replay is the run of its events.
-pub a_told_replay_reports_the_run : (x : Given) (events : List Event) (calls : List Call) (st : State) (old new : PortState) (run : Run)
+pub a_told_replay_reports_the_run : (x : Inputs) (events : List Event) (calls : List Call) (st : State) (old new : PortState) (run : Run)
     (commands : ℕ) (tables : Told)
     → IsReady x → IsReplay x events calls st old → Reports x st old new run commands → old.told ≡ Some tables
     → run ≡ job_run (setup_for x) (whole_runs x) events
@@ -205,7 +206,7 @@ a_told_replay_reports_the_run x events calls st old new run commands tables read
     with_parts l = record (run_of (setup_for x) st) { switch = l }
 
 -- Each run of whole packets keeps its promises.
-pub a_run_keeps_its_promises : (x : Given) (events : List Event) → IsReady x
+pub a_run_keeps_its_promises : (x : Inputs) (events : List Event) → IsReady x
     → Promises x events (job_run (setup_for x) (whole_runs x) events)
 a_run_keeps_its_promises x events ready =
     let setup = setup_for x in
@@ -228,7 +229,7 @@ a_run_keeps_its_promises x events ready =
     }
 
 -- Where nothing is on its way, the switch has the tables of the server.
-pub a_quiet_switch_has_the_servers_tables : (x : Given) (events : List Event) (calls : List Call) (st : State) (port : PortState) (tables : Told)
+pub a_quiet_switch_has_the_servers_tables : (x : Inputs) (events : List Event) (calls : List Call) (st : State) (port : PortState) (tables : Told)
     → IsReady x → IsReplay x events calls st port → port.told ≡ Some tables → IsTrue (is_quiet st)
     → HasTables x.program x.split x.writeback st.store tables
 a_quiet_switch_has_the_servers_tables x events calls st port tables ready h is quiet =
@@ -241,7 +242,7 @@ a_quiet_switch_has_the_servers_tables x events calls st port tables ready h is q
     quiet_tables_are_the_stores x.program x.split x.writeback st.store (applied_commands st) tables ready.split told.through newest.bit newest.each
 
 -- Whatever a port answers, the frame that a packet went up in is one of the code's layout, with the packet's number.
-pub frames_have_their_forms : (x : Given) (events : List Event) (calls : List Call) (st : State) (port : PortState) (n : ℕ)
+pub frames_have_their_forms : (x : Inputs) (events : List Event) (calls : List Call) (st : State) (port : PortState) (n : ℕ)
     (frame : List ℕ)
     → IsReplay x events calls st port → up_answer calls n ≡ Some (SentUp frame)
     → IsFrame 1 (code_for x).up frame × IsNumbered (whole x) n frame
@@ -250,7 +251,7 @@ frames_have_their_forms x events calls st port n frame h is =
 
 -- The journal of a port determines the calls of a replay, and so its state: the clauses of a replayer speak of one
 -- state.
-pub a_journal_determines_its_replay : (x : Given) (events : List Event) (calls others : List Call) (st other : State) (port : PortState)
+pub a_journal_determines_its_replay : (x : Inputs) (events : List Event) (calls others : List Call) (st other : State) (port : PortState)
     → IsReady x → IsReplay x events calls st port → IsReplay x events others other port
     → (calls ≡ others) × (st ≡ other)
 a_journal_determines_its_replay x events calls others st other port ready h k =

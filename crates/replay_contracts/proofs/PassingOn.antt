@@ -1,6 +1,6 @@
 -- What each event does to the passes under way on a switch, and what it leaves of the state that they rest on.
 use Rattle.std.proofs.Common.{◌≡◌, ◌<◌, ℕ, zero, suc, Bool, true, false, eqb, leb, List, [], ◌∷◌, ◌++◌, Option, Some, None, inl, inr, length, map, set, refl, sym, ap, ◌∙◌, subst, arith}
-use Rattle.std.specs.Prelude.{⊤, ◌==◌, nat_le, slice_get, remove, if◌then◌else◌, IfSome}
+use Rattle.std.specs.Prelude.{Ok, ⊤, ◌==◌, nat_le, slice_get, remove, if◌then◌else◌, IfSome}
 use Rattle.std.proofs.Math.ListN.{get_or-append}
 use Rattle.std.proofs.lemmas.Bool.{cases_Bool, eqb-false, leb-false, ltb-true, ltb-false, true≢false, false≢true}
 use Rattle.std.proofs.lemmas.Option.{same_Some, slice_get_within}
@@ -12,7 +12,7 @@ use Rattle.run_model.specs.declared.event.Event.{Event}
 use Rattle.run_model.specs.declared.event.Event.TheVariants.{Admit, Stage, Serve, Send, Apply, Ack, Hold, Down}
 use Rattle.switch_ir.specs.Code.{Code}
 use Rattle.switch_ir.specs.Port.{PortState, BeginsUp, StagesUp, BeginsDown, StagesDown, OfItsParts, IsHandedDown, IsNothing}
-use Rattle.switch_ir.specs.Staged.{post_staging, pre_staging}
+use Rattle.switch_ir.specs.Staged.{post_staging, pre_staging, staging}
 use Rattle.switch_ir.specs.Tables.{Told}
 use Rattle.switch_ir.specs.UnderWay.{Passes, PassState, UnderWay, HasEntered, HasGoneOn, OthersStay}
 use Rattle.writeback_table.specs.declared.command.Command.{Command}
@@ -28,7 +28,7 @@ use Rattle.replay_state.specs.declared.pass.Pass.{Pass}
 use Rattle.replay_state.specs.State.{Progress, State, bit_behind, seen, store_at}
 use Rattle.replay_state.specs.Step.{applies, came, came_in, came_out, ended, entered, happens, pass_of, came_down, ran, served, staged, step, tick, let_go, with_changes}
 use Rattle.split_answers.specs.Through.{down_end_of, end_of}
-use Rattle.split_answers.specs.UnderWay.{highest_of, passes_of, staging}
+use Rattle.split_answers.specs.UnderWay.{highest_of, passes_of}
 use Rattle.replay_contracts.specs.Called.{KeepsCalls, WasCalled, WasMade}
 use Rattle.replay_contracts.proofs.Asked.{asked_up, asked_stage_up, asked_down, asked_stage_down, asked_command, none_asked}
 use Rattle.replay_state.proofs.AtOnce.{ended_passes, go_passes, served_passes}
@@ -53,19 +53,19 @@ record Left (pre : Bool) (n : ℕ) (u w : UnderWay) (ends : Bool) (IsNew : PassS
   gone : ends ≡ true → passes_of pre w n ≡ None
   new : ends ≡ false → (own : PassState) × (passes_of pre w n ≡ Some own) × IsNew own
 
-begun_up : (code : Code) (n : ℕ) (packet : Packet) (answer : UpAnswer) (old new : PortState) → old.code ≡ Some code → BeginsUp (end_of answer) n packet.port packet.bytes old new
+begun_up : (code : Code) (n : ℕ) (packet : Packet) (answer : UpAnswer) (old new : PortState) → old.code ≡ Some code → BeginsUp (Ok (end_of answer)) n packet.port packet.bytes old new
     → Left true n old.passes new.passes (is_up_end answer) (HasEntered (pre_staging code) IsNothing packet old.told)
 begun_up code n packet GoingUp old new loaded h =
     record { others = others_up n old.passes new.passes h.post h.others; gone = λ g. absurd (false≢true g); new = λ g. h.pass code loaded }
 begun_up code n packet answer old new loaded h = record { others = others_up n old.passes new.passes h.post h.others; gone = λ g. h.pass code loaded; new = λ g. absurd (true≢false g) }
 
-gone_up : (code : Code) (n : ℕ) (answer : UpAnswer) (own : PassState) (old new : PortState) → old.code ≡ Some code → old.passes.pre n ≡ Some own → StagesUp (end_of answer) n old new
+gone_up : (code : Code) (n : ℕ) (answer : UpAnswer) (own : PassState) (old new : PortState) → old.code ≡ Some code → old.passes.pre n ≡ Some own → StagesUp (Ok (end_of answer)) n old new
     → Left true n old.passes new.passes (is_up_end answer) (HasGoneOn (pre_staging code) old.told own)
 gone_up code n GoingUp own old new loaded there h =
     record { others = others_up n old.passes new.passes h.post h.others; gone = λ g. absurd (false≢true g); new = λ g. h.pass code own loaded there }
 gone_up code n answer own old new loaded there h = record { others = others_up n old.passes new.passes h.post h.others; gone = λ g. h.pass code own loaded there; new = λ g. absurd (true≢false g) }
 
-gone_down : (code : Code) (n : ℕ) (answer : DownAnswer) (own : PassState) (old new : PortState) → old.code ≡ Some code → old.passes.post n ≡ Some own → StagesDown (down_end_of answer) n old new
+gone_down : (code : Code) (n : ℕ) (answer : DownAnswer) (own : PassState) (old new : PortState) → old.code ≡ Some code → old.passes.post n ≡ Some own → StagesDown (Ok (down_end_of answer)) n old new
     → Left false n old.passes new.passes (is_down_end answer) (HasGoneOn (post_staging code) old.told own)
 gone_down code n (Released y) own old new loaded there h = record { others = others_down n old.passes new.passes h.pre h.others; gone = λ g. h.pass code own loaded there; new = λ g. absurd (true≢false g) }
 gone_down code n GoingDown own old new loaded there h =
@@ -76,7 +76,7 @@ abbrev HasBegunDown : Code → Option Told → List ℕ → PassState → Type 0
 HasBegunDown code tables frame own = OfItsParts code frame (λ number packet values. HasEntered (post_staging code) (IsHandedDown code values packet) packet tables own)
 
 begun_down : (code : Code) (frame : List ℕ) (framed : IsFrame 2 code.down frame) (answer : DownAnswer) (old new : PortState) → old.code ≡ Some code
-    → BeginsDown (down_end_of answer) frame old new
+    → BeginsDown (Ok (down_end_of answer)) frame old new
     → Left false framed.number old.passes new.passes (is_down_end answer) (HasBegunDown code old.told frame)
 begun_down code frame framed (Released y) old new loaded h = record {
   others = others_down framed.number old.passes new.passes h.pre (h.others code loaded framed.number framed.port framed.values framed.packet framed.is);

@@ -11,7 +11,7 @@ use Rattle.replay_state.specs.Run.{seen_store}
 use Rattle.output_commit.specs.Batches.{commands_in}
 use Rattle.replay_state.specs.State.{State, applied_commands}
 use Rattle.replay_state.specs.Tables.{LookupsShow}
-use Rattle.replay_contracts.specs.Given.{Given, setup_for}
+use Rattle.replay_contracts.specs.Inputs.{Inputs, setup_for}
 use Rattle.replay_contracts.specs.Promise.{told_parts}
 use Rattle.split_answers.specs.UnderWay.{AreShown}
 use Rattle.split_answers.proofs.Tells.{seen_first}
@@ -26,7 +26,7 @@ module _ (test : ℕ → Bool) (tables : Told) (store : Store) (rows : (o : ℕ)
   parts_same n [] = refl
   parts_same n (o ∷ os) = one_part n o os (test n) refl (parts_same (suc n) os)
 
-pub seen_of : (x : Given) (st : State) → LookupsShow (setup_for x) st (seen_store st)
+pub seen_of : (x : Inputs) (st : State) → LookupsShow (setup_for x) st (seen_store st)
     → AreShown x.program x.split x.writeback (applied_commands st) (seen_store st)
 seen_of x st shows o rep = seen_first o (first_pair x.program.objects x.writeback o) (commands_in st.batches) st.done ∙ shows o rep
 

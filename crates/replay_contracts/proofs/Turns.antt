@@ -8,13 +8,13 @@ use Rattle.flat_ir.specs.Blocks.{Reading}
 use Rattle.transfer_header.specs.Frames.{IsFrame}
 use Rattle.switch_ir.specs.Code.{Code}
 use Rattle.switch_ir.specs.Port.{OfItsParts, IsHandedDown, IsNothing}
-use Rattle.switch_ir.specs.Staged.{Staging, post_staging, pre_staging}
+use Rattle.switch_ir.specs.Staged.{Staging, post_staging, pre_staging, staging}
 use Rattle.switch_ir.specs.Tables.{Told}
 use Rattle.switch_ir.specs.UnderWay.{PassState, ToldPass, UnderWay, EntersTold, HasEntered, HasGoneOn, StagesTold}
 use Rattle.replay_state.specs.Answers.{Setup}
 use Rattle.replay_state.specs.Program.{packet_at}
 use Rattle.replay_state.specs.declared.pass.Pass.{Pass}
-use Rattle.split_answers.specs.UnderWay.{IsOnSwitch, highest_of, passes_of, staging}
+use Rattle.split_answers.specs.UnderWay.{IsOnSwitch, highest_of, passes_of}
 use Rattle.replay_contracts.proofs.OnSwitch.{OnList, Once, Others, at_own, ended_on, entered_on, moved_on, same_on, was_elsewhere}
 use Rattle.lemmas.proofs.Lists.{get_before_pushed, get_set_other, get_set_same}
 

@@ -1,5 +1,5 @@
 -- What calls of a switch leave in its journal and in the tables that it tells.
-use Rattle.std.specs.Prelude.{◌≡◌, ◌≤◌, ⊤, Bool, true, false, List, [], ◌∷◌, ◌++◌, Some, map}
+use Rattle.std.specs.Prelude.{◌≡◌, ◌≤◌, ⊤, Bool, true, false, List, [], ◌∷◌, ◌++◌, Some, Ok, map}
 use Rattle.std.specs.List.{filter}
 use Rattle.packet_fields.specs.declared.packet.Packet.{Packet}
 use Rattle.writeback_table.specs.declared.command.Command.{Command}
@@ -10,7 +10,6 @@ use Rattle.switch_ir.specs.Port.{HasNoUpPass, HasUpPass, HasNoDownPassOf, HasDow
 use Rattle.switch_ir.specs.Tables.{Told, told_after}
 use Rattle.switch_ir.specs.declared.journal.Entry.{Entry}
 use Rattle.switch_ir.specs.declared.journal.Entry.TheVariants as entry
-use Rattle.switch_ir.specs.declared.port.CommandEnd.TheVariants as command
 use Rattle.replay_state.specs.Journal.{Call, CalledUp, CalledStageUp, CalledCommand, CalledDown, CalledStageDown}
 use Rattle.replay_state.specs.Program.{packet_at}
 use Rattle.split_answers.specs.Over.{IsGiven}
@@ -20,13 +19,13 @@ use Rattle.split_answers.specs.Through.{down_end_of, end_of}
 
 -- the entry of a call
 abbrev pub entry_of : Call → Entry
-entry_of (CalledUp false n packet answer) = entry.Up n packet.port packet.bytes (end_of answer)
-entry_of (CalledUp true n packet answer) = entry.BeginUp n packet.port packet.bytes (end_of answer)
-entry_of (CalledStageUp n answer) = entry.StageUp n (end_of answer)
-entry_of (CalledCommand c) = entry.Command c command.Done
-entry_of (CalledDown false n frame answer) = entry.Down frame (down_end_of answer)
-entry_of (CalledDown true n frame answer) = entry.BeginDown frame (down_end_of answer)
-entry_of (CalledStageDown n answer) = entry.StageDown n (down_end_of answer)
+entry_of (CalledUp false n packet answer) = entry.Up n packet.port packet.bytes (Ok (end_of answer))
+entry_of (CalledUp true n packet answer) = entry.BeginUp n packet.port packet.bytes (Ok (end_of answer))
+entry_of (CalledStageUp n answer) = entry.StageUp n (Ok (end_of answer))
+entry_of (CalledCommand c) = entry.Command c (Ok tt)
+entry_of (CalledDown false n frame answer) = entry.Down frame (Ok (down_end_of answer))
+entry_of (CalledDown true n frame answer) = entry.BeginDown frame (Ok (down_end_of answer))
+entry_of (CalledStageDown n answer) = entry.StageDown n (Ok (down_end_of answer))
 
 abbrev pub journal_of : List Call → List Entry
 journal_of calls = map entry_of calls
@@ -88,15 +87,15 @@ pub record KeepsCalls (old new : PortState) : Type 0 where
 
 -- the port was called so, and the call didn't fail
 abbrev pub WasMade : Call → PortState → PortState → Type 0
-WasMade (CalledUp false n packet answer) old new = PassesUp (end_of answer) n packet.port packet.bytes old new
+WasMade (CalledUp false n packet answer) old new = PassesUp (Ok (end_of answer)) n packet.port packet.bytes old new
 WasMade (CalledUp true n packet answer) old new =
-    HasNoUpPass old n × BeginsUp (end_of answer) n packet.port packet.bytes old new
-WasMade (CalledStageUp n answer) old new = HasUpPass old n × StagesUp (end_of answer) n old new
-WasMade (CalledCommand c) old new = Commands command.Done c old new
-WasMade (CalledDown false n frame answer) old new = PassesDown (down_end_of answer) frame old new
+    HasNoUpPass old n × BeginsUp (Ok (end_of answer)) n packet.port packet.bytes old new
+WasMade (CalledStageUp n answer) old new = HasUpPass old n × StagesUp (Ok (end_of answer)) n old new
+WasMade (CalledCommand c) old new = Commands (Ok tt) c old new
+WasMade (CalledDown false n frame answer) old new = PassesDown (Ok (down_end_of answer)) frame old new
 WasMade (CalledDown true n frame answer) old new =
-    HasNoDownPassOf old frame × BeginsDown (down_end_of answer) frame old new
-WasMade (CalledStageDown n answer) old new = HasDownPass old n × StagesDown (down_end_of answer) n old new
+    HasNoDownPassOf old frame × BeginsDown (Ok (down_end_of answer)) frame old new
+WasMade (CalledStageDown n answer) old new = HasDownPass old n × StagesDown (Ok (down_end_of answer)) n old new
 
 -- the port was called so, one after the other, and for nothing else but room and rows
 abbrev pub WasCalled : Code → List Call → PortState → PortState → Type 0

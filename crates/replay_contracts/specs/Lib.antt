@@ -1,4 +1,4 @@
-pub mod Given
+pub mod Inputs
 pub mod Called
 pub mod Replay
 pub mod Promise

@@ -18,7 +18,7 @@ use Rattle.replay_state.specs.State.{State}
 use Rattle.replay_state.specs.Step.{applies, state_of}
 use Rattle.replay_state.specs.Views.{KeepViews}
 use Rattle.replay_contracts.specs.Called.{KeepsCalls}
-use Rattle.replay_contracts.specs.Given.{Given, whole, setup_for, whole_runs, meaning_for}
+use Rattle.replay_contracts.specs.Inputs.{Inputs, whole, setup_for, whole_runs, meaning_for}
 
 -- the rows of the replicated objects, from number n on, that lookups see
 abbrev pub told_parts : (ℕ → Bool) → Told → ℕ → List ObjectDecl → List ObjectRows
@@ -28,7 +28,7 @@ told_parts test told n (object ∷ objects) =
     if test n then (record { object = n; rows = visible_rows told.bit (pair_at told.pairs n) }) ∷ behind else behind
 
 -- What is told of a state, with the rows that the port shows, and how many commands there were.
-pub record Reports (x : Given) (st : State) (old new : PortState) (run : Run) (commands : ℕ) : Type 0 where
+pub record Reports (x : Inputs) (st : State) (old new : PortState) (run : Run) (commands : ℕ) : Type 0 where
   pub is : run ≡ record (run_of (setup_for x) st) { switch = run.switch }
   pub count : commands ≡ length (commands_in st.batches)
   pub kept : KeepsCalls old new
@@ -36,11 +36,11 @@ pub record Reports (x : Given) (st : State) (old new : PortState) (run : Run) (c
       → run.switch ≡ told_parts (whole x).replicated tables 0 (whole x).objects
 
 -- the state of whole packets after these events
-abbrev pub state_for : Given → List Event → State
+abbrev pub state_for : Inputs → List Event → State
 state_for x events = state_of (setup_for x) (whole_runs x) events
 
 -- What a run by these events promises: it is that of whole packets, which run one after the other in its order.
-pub record Promises (x : Given) (events : List Event) (run : Run) : Type 0 where
+pub record Promises (x : Inputs) (events : List Event) (run : Run) : Type 0 where
   pub is : run ≡ job_run (setup_for x) (whole_runs x) events
   pub serialises : Serialises (meaning_for x) run
   -- where nothing is left on its way, every admitted packet was released with its verdict

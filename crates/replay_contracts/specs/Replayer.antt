@@ -1,7 +1,7 @@
 -- A replayer as contracts see it, and what its calls do. Each clause speaks of every list of calls and every state that
 -- are a replay of its events over its port.
 use Rattle.std.specs.Prelude.{◌≡◌, ◌⊎◌, ◌≤◌, ◌+◌, ℕ, Bool, true, false, List, [], ◌∷◌, ◌++◌, length}
-use Rattle.std.specs.Prelude.{Option, Some, None, is_some}
+use Rattle.std.specs.Prelude.{Option, Some, None, Ok, is_some}
 use Rattle.gal_io.specs.Count.{IsCountedIf}
 use Rattle.flat_ir.specs.Program.{program_of}
 use Rattle.state_store.specs.Store.{start_store}
@@ -10,7 +10,8 @@ use Rattle.run_model.specs.Serialises.{IsDrained}
 use Rattle.switch_ir.specs.Port.{PortState, IsAsBefore, Loads}
 use Rattle.switch_ir.specs.Tables.{Told}
 use Rattle.switch_ir.specs.declared.journal.Entry.{Entry}
-use Rattle.switch_ir.specs.declared.port.PortEnd.TheVariants.{Done}
+use Rattle.switch_ir.specs.declared.port.PortError.{PortError}
+use Rattle.switch_ir.specs.declared.port.PortError.TheVariants as port_errors
 use Rattle.replay_state.specs.Drain.{drain_bound, is_quiet, plan_events}
 use Rattle.replay_state.specs.Journal.{Call, EndOnce}
 use Rattle.replay_state.specs.Program.{manner_of}
@@ -25,12 +26,12 @@ use Rattle.replay_contracts.specs.declared.job.ReplayError.{ReplayError}
 use Rattle.replay_contracts.specs.declared.job.ReplayError.TheVariants as errors
 use Rattle.replay_contracts.specs.declared.job.Stepped.{Stepped}
 use Rattle.replay_contracts.specs.declared.job.Stepped.TheVariants.{Did, Idle}
-use Rattle.replay_contracts.specs.Given.{Given, IsReady, code_for, meaning_for, setup_for, whole_runs}
+use Rattle.replay_contracts.specs.Inputs.{Inputs, IsReady, code_for, meaning_for, setup_for, whole_runs}
 use Rattle.replay_contracts.specs.Promise.{Promises, Reports, state_for}
 use Rattle.replay_contracts.specs.Replay.{HasDrained, HasPicked, IsReplay, answered}
 
 pub record Replayer : Type 0 where
-  pub given : Given
+  pub given : Inputs
   -- the events that it performed, idle ones too, and how many of them were steps
   pub events : List Event
   pub steps : ℕ
@@ -38,8 +39,8 @@ pub record Replayer : Type 0 where
   pub failed : Option ReplayError
 
 -- a job's passes take one event each, or one for each stage in a fine run, and batches take up those behind them
-abbrev pub given_of : Job → Given
-given_of job = record {
+abbrev pub inputs_of : Job → Inputs
+inputs_of job = record {
   program = program_of job.flat;
   split = job.split;
   writeback = job.writeback;
@@ -63,7 +64,7 @@ pub record StaysTold (old new : PortState) : Type 0 where
   pub faults : new.faults ≡ old.faults
 
 -- without any event yet
-pub record IsNew (x : Given) (port : PortState) (r : Replayer) : Type 0 where
+pub record IsNew (x : Inputs) (port : PortState) (r : Replayer) : Type 0 where
   pub given : r.given ≡ x
   pub events : r.events ≡ []
   pub steps : r.steps ≡ 0
@@ -95,7 +96,7 @@ pub record HasStepped (old : Replayer) (event : Event) (stepped : Stepped) (new 
 -- What a drained run promises, by the state at its end: one call has ended each pass. Over a port that tells its tables
 -- it keeps its promises, every packet of the trace was released with its verdict, and the switch has the tables of the
 -- server.
-pub record HasSettled (x : Given) (events : List Event) (calls : List Call) (last : State) (port : PortState)
+pub record HasSettled (x : Inputs) (events : List Event) (calls : List Call) (last : State) (port : PortState)
     : Type 0 where
   pub once : EndOnce calls last
   pub promises : (tables : Told) → port.told ≡ Some tables → Promises x events (run_of (setup_for x) last)
@@ -132,6 +133,11 @@ pub record HasReported (old : Replayer) (replayed : Replayed) (new : Replayer) :
   pub promises : (tables : Told) → old.port.told ≡ Some tables → Promises old.given old.events replayed.run
 
 -- ## Errors
+
+-- the error with which a call of the port ends a replay
+abbrev pub error_of : PortError → ReplayError
+error_of port_errors.Failed = errors.PortFault
+error_of port_errors.NoMemory = errors.NoMemory
 
 -- whether a call of the port failed
 abbrev pub is_port_fault : ReplayError → Bool
@@ -173,20 +179,20 @@ pub record HasNotBegun (error : ReplayError) (old new : PortState) : Type 0 wher
 
 -- it breaks behind that: the port was loaded with the code of what is replayed, which it keeps, and may have been
 -- called more
-pub record HasBrokenOff (x : Given) (error : ReplayError) (old new : PortState) : Type 0 where
+pub record HasBrokenOff (x : Inputs) (error : ReplayError) (old new : PortState) : Type 0 where
   pub begun : PortState
-  pub loads : Loads Done (code_for x) old begun
+  pub loads : Loads (Ok tt) (code_for x) old begun
   pub fails : Fails error begun new
 
 -- what an error leaves of the port of a replay, from its start on
-abbrev pub HasBroken : Given → ReplayError → PortState → PortState → Type 0
+abbrev pub HasBroken : Inputs → ReplayError → PortState → PortState → Type 0
 HasBroken x error old new = HasNotBegun error old new ⊎ HasBrokenOff x error old new
 
 -- ## A whole replay
 
 -- What comes of a replay over any port, as the port is then: it tells of the state to which the port's calls lead by the
 -- events of the plan. One call has ended each pass that has ended, so that each packet is released once.
-pub record IsReported (x : Given) (events : List Event) (drain : Bool) (replayed : Replayed) (port : PortState)
+pub record IsReported (x : Inputs) (events : List Event) (drain : Bool) (replayed : Replayed) (port : PortState)
     : Type 0 where
   pub calls : List Call
   pub last : State
@@ -197,7 +203,7 @@ pub record IsReported (x : Given) (events : List Event) (drain : Bool) (replayed
 
 -- What comes of it over a port that tells its tables: it keeps the promises of the plan's run, and where nothing is
 -- left on its way, the switch has the tables of the server.
-pub record IsRunOf (x : Given) (events : List Event) (drain : Bool) (replayed : Replayed) (port : PortState)
+pub record IsRunOf (x : Inputs) (events : List Event) (drain : Bool) (replayed : Replayed) (port : PortState)
     : Type 0 where
   pub promises : Promises x (plan_events (setup_for x) (whole_runs x) events drain) replayed.run
   pub tables : (let last = state_for x (plan_events (setup_for x) (whole_runs x) events drain) in

@@ -6,6 +6,7 @@ use packet_fields::Packets;
 use run_model::{Events, Run};
 use split_model::Split;
 use std::alloc::{AllocError, AllocFailed};
+use switch_ir::PortError;
 
 /// A split program, the packets of a trace, and a schedule.
 #[derive(Debug, Drop)]
@@ -42,8 +43,22 @@ pub enum ReplayError {
 #[derive(Clone, Copy, Debug, PartialEq, Eq)]
 pub enum Stepped {
     Did,
-    /// It couldn't apply: it was counted, and nothing else changed.
+    /// The event couldn't apply: it was counted, and nothing else changed.
     Idle,
+}
+
+impl From<PortError> for ReplayError {
+    ghost use Rattle.std.specs.Prelude.{◌≡◌};
+    ghost use Rattle.replay_contracts.specs.Replayer.{error_of};
+
+    ghost from_gives = { λ cause error. error ≡ error_of cause };
+
+    fn from(cause: PortError) -> Self {
+        match cause {
+            PortError::Failed => ReplayError::PortFault,
+            PortError::NoMemory => ReplayError::NoMemory,
+        }
+    }
 }
 
 impl From<NoMemory> for ReplayError {

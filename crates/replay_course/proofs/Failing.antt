@@ -1,30 +1,28 @@
 -- What an error leaves of a port.
 use Rattle.std.proofs.Common.{◌≡◌, ℕ, Bool, true, false, List, [], ◌∷◌, ◌++◌, inl, inr, refl, sym, ap, subst, ◌∙◌, arith}
-use Rattle.std.specs.Prelude.{is_some}
+use Rattle.std.specs.Prelude.{is_some, Result, Ok, Err}
 use Rattle.std.proofs.lemmas.List.{append_assoc, append-nil}
 use Rattle.std.proofs.lemmas.List.Elements.{filter-append}
 use Rattle.gal_io.specs.Count.{IsCountedIf, count_after}
 use Rattle.packet_fields.specs.declared.packet.Packet.{Packet}
-use Rattle.writeback_table.specs.declared.command.Command.{Command}
 use Rattle.run_model.specs.declared.event.Event.{Event}
 use Rattle.switch_ir.specs.Code.{Code}
-use Rattle.switch_ir.specs.Port.{PortState, Commands, Keeps, Loads, StagesDown, StagesUp}
-use Rattle.switch_ir.specs.Port.{down_entry, down_failed, noted_down, noted_up, up_entry, up_failed}
+use Rattle.switch_ir.specs.Port.{PortState, Loads, has_failed}
 use Rattle.switch_ir.specs.declared.journal.Entry.{Entry}
 use Rattle.switch_ir.specs.declared.journal.Entry.TheVariants as entry
-use Rattle.switch_ir.specs.declared.port.CommandEnd.TheVariants as command
 use Rattle.switch_ir.specs.declared.port.DownEnd.{DownEnd}
-use Rattle.switch_ir.specs.declared.port.PortEnd.TheVariants as port
+use Rattle.switch_ir.specs.declared.port.PortError.{PortError}
+use Rattle.switch_ir.specs.declared.port.PortError.TheVariants as port
 use Rattle.switch_ir.specs.declared.port.UpEnd.{UpEnd}
 use Rattle.replay_state.specs.Journal.{Call}
 use Rattle.replay_contracts.specs.Called.{HasCalls, KeepsCalls, calls_in, is_of_replay, journal_of}
-use Rattle.replay_contracts.specs.Given.{Given, code_for}
-use Rattle.replay_contracts.specs.Replayer.{Fails, HasBroken, StaysTold, is_port_fault}
+use Rattle.replay_contracts.specs.Inputs.{Inputs, code_for}
+use Rattle.replay_contracts.specs.Replayer.{Fails, HasBroken, StaysTold, error_of, is_port_fault}
 use Rattle.replay_contracts.specs.declared.job.ReplayError.{ReplayError}
 use Rattle.replay_contracts.specs.declared.job.ReplayError.TheVariants as errors
 use Rattle.replay_course.specs.declared.course.Course.{Course}
 use Rattle.replay_course.specs.Going.{TakesDown, TakesUp}
-use Rattle.replay_course.specs.UnderWay.{HasGone, IsDraining, IsOnItsWay, IsUnderWay}
+use Rattle.replay_course.specs.UnderWay.{HasReplayedFrom, IsDraining, HasReplayedSome, HasReplayed}
 use Rattle.replay_course.proofs.Calling.{keeps_all, kept_stays}
 use Rattle.replay_course.proofs.Going.{counts_behind}
 use Rattle.replay_contracts.proofs.Asked.{none_asked}
@@ -67,14 +65,14 @@ goes_by code calls more old new before after stays = record {
   stays = stays;
 }
 
-pub goes_gone : (x : Given) (events : List Event) (c after : Course) (first port : PortState) → IsUnderWay x [] c first
-    → HasGone x events after first port → GoesOn first port
+pub goes_gone : (x : Inputs) (events : List Event) (c after : Course) (first port : PortState) → HasReplayed x [] c first
+    → HasReplayedFrom x events after first port → GoesOn first port
 goes_gone x events c after first port start gone =
     goes_by (code_for x) [] gone.under_way.calls first port
     (subst (λ cs. HasCalls (code_for x) cs first) (none_asked start.calls start.replay.answered.asked) start.replay.called)
     gone.under_way.replay.called gone.stays
 
-pub goes_draining : (x : Given) (count : ℕ) (c mid : Course) (first port : PortState) → IsOnItsWay x c first
+pub goes_draining : (x : Inputs) (count : ℕ) (c mid : Course) (first port : PortState) → HasReplayedSome x c first
     → IsDraining x count c first mid port → GoesOn first port
 goes_draining x count c mid first port way draining =
     let before = way.under_way in
@@ -103,8 +101,13 @@ fails_behind e first old new goes fails = record {
   fault = fails.fault ∙ ap (count_after (is_port_fault e)) goes.stays.faults;
 }
 
+-- it counts as the call of the port that it comes from
+pub counts_as : (A : Type 0) (cause : PortError) → is_port_fault (error_of cause) ≡ has_failed {A = A} (Err cause)
+counts_as A port.Failed = refl
+counts_as A port.NoMemory = refl
+
 -- a call that keeps code and tables, and adds these entries
-fails_with : (e : ReplayError) (failed : Bool) (entries : List Entry) (old new : PortState) → is_port_fault e ≡ failed → new.code ≡ old.code
+pub fails_with : (e : ReplayError) (failed : Bool) (entries : List Entry) (old new : PortState) → is_port_fault e ≡ failed → new.code ≡ old.code
     → new.told ≡ old.told → new.journal ≡ old.journal ++ entries → IsCountedIf failed old.faults new.faults → Fails e old new
 fails_with e failed entries old new same code told journal counted = record {
   code = code;
@@ -113,51 +116,24 @@ fails_with e failed entries old new same code told journal counted = record {
   fault = subst (λ b. IsCountedIf b old.faults new.faults) (sym same) counted;
 }
 
-fails_by : (e : ReplayError) (failed : Bool) (entries : List Entry) (old new : PortState) → is_port_fault e ≡ failed → Keeps old new
-    → new.journal ≡ old.journal ++ entries → IsCountedIf failed old.faults new.faults → Fails e old new
-fails_by e failed entries old new same kept journal counted = fails_with e failed entries old new same kept.code kept.told journal counted
-
-pub fails_up : (e : ReplayError) (fine : Bool) (end : UpEnd) (number : ℕ) (packet : Packet) (old new : PortState) → is_port_fault e ≡ up_failed end
-    → TakesUp fine end number packet old new → Fails e old new
+pub fails_up : (e : ReplayError) (fine : Bool) (end : Result UpEnd PortError) (number : ℕ) (packet : Packet) (old new : PortState)
+    → is_port_fault e ≡ has_failed end → TakesUp fine end number packet old new → Fails e old new
 fails_up e false end number packet old new same passes =
-    fails_by e (up_failed end) (up_entry number packet.port packet.bytes end) old new same passes.kept passes.journal passes.faults
+    fails_with e (has_failed end) _ old new same passes.kept.code passes.kept.told passes.journal passes.faults
 fails_up e true end number packet old new same begins =
-    fails_with e (up_failed end) (noted_up (λ answer. entry.BeginUp number packet.port packet.bytes answer) end) old new same
-    begins.1.kept.code begins.1.kept.told begins.1.journal begins.1.faults
+    fails_with e (has_failed end) _ old new same begins.1.kept.code begins.1.kept.told begins.1.journal begins.1.faults
 
-pub fails_stage_up : (e : ReplayError) (end : UpEnd) (number : ℕ) (old new : PortState) → is_port_fault e ≡ up_failed end
-    → StagesUp end number old new → Fails e old new
-fails_stage_up e end number old new same stages =
-    fails_with e (up_failed end) (noted_up (λ answer. entry.StageUp number answer) end) old new same stages.kept.code stages.kept.told stages.journal stages.faults
-
-pub fails_down : (e : ReplayError) (fine : Bool) (end : DownEnd) (frame : List ℕ) (old new : PortState) → is_port_fault e ≡ down_failed end
-    → TakesDown fine end frame old new → Fails e old new
+pub fails_down : (e : ReplayError) (fine : Bool) (end : Result DownEnd PortError) (frame : List ℕ) (old new : PortState)
+    → is_port_fault e ≡ has_failed end → TakesDown fine end frame old new → Fails e old new
 fails_down e false end frame old new same passes =
-    fails_by e (down_failed end) (down_entry frame end) old new same passes.kept passes.journal passes.faults
+    fails_with e (has_failed end) _ old new same passes.kept.code passes.kept.told passes.journal passes.faults
 fails_down e true end frame old new same begins =
-    fails_with e (down_failed end) (noted_down (λ answer. entry.BeginDown frame answer) end) old new same
-    begins.1.kept.code begins.1.kept.told begins.1.journal begins.1.faults
-
-pub fails_stage_down : (e : ReplayError) (end : DownEnd) (number : ℕ) (old new : PortState) → is_port_fault e ≡ down_failed end
-    → StagesDown end number old new → Fails e old new
-fails_stage_down e end number old new same stages =
-    fails_with e (down_failed end) (noted_down (λ answer. entry.StageDown number answer) end) old new same stages.kept.code stages.kept.told stages.journal stages.faults
-
-pub fails_command : (c : Command) (old new : PortState) → Commands command.Failed c old new → Fails errors.PortFault old new
-fails_command c old new commands = record {
-  code = commands.code;
-  told = ap is_some commands.told;
-  journal = (
-    entry.Command c command.Failed ∷ [],
-    ap calls_in commands.journal ∙ filter-append is_of_replay old.journal (entry.Command c command.Failed ∷ []),
-  );
-  fault = commands.faults;
-}
+    fails_with e (has_failed end) _ old new same begins.1.kept.code begins.1.kept.told begins.1.journal begins.1.faults
 
 -- ## The start
 
 -- there was no memory before the port was called
-pub not_begun : (x : Given) (first : PortState) → HasBroken x errors.NoMemory first first
+pub not_begun : (x : Inputs) (first : PortState) → HasBroken x errors.NoMemory first first
 not_begun x first = inl (record {
   port = record {
     kept = record { code = refl; told = refl; passes = refl; spare = omega arith };
@@ -166,8 +142,15 @@ not_begun x first = inl (record {
   fault = refl;
 })
 
+-- the load failed, or found no memory
+pub not_loaded : (x : Inputs) (cause : PortError) (code : Code) (first new : PortState) → Loads (Err cause) code first new → HasBroken x (error_of cause) first new
+not_loaded x cause code first new loads = inl (record {
+  port = loads.state;
+  fault = subst (λ b. IsCountedIf b first.faults new.faults) (sym (counts_as (Unit {0}) cause)) loads.faults;
+})
+
 -- there was none behind the load
-pub broken_off : (x : Given) (first begun : PortState) → Loads port.Done (code_for x) first begun → HasBroken x errors.NoMemory first begun
+pub broken_off : (x : Inputs) (first begun : PortState) → Loads (Ok tt) (code_for x) first begun → HasBroken x errors.NoMemory first begun
 broken_off x first begun loads = inr (record {
   begun = begun;
   loads = loads;
@@ -175,7 +158,7 @@ broken_off x first begun loads = inr (record {
 })
 
 -- what an error leaves behind the calls of a replay, it leaves behind the load
-pub broken_behind : (x : Given) (e : ReplayError) (calls : List Call) (first begun old new : PortState) → Loads port.Done (code_for x) first begun
+pub broken_behind : (x : Inputs) (e : ReplayError) (calls : List Call) (first begun old new : PortState) → Loads (Ok tt) (code_for x) first begun
     → HasCalls (code_for x) calls old → StaysTold begun old → Fails e old new → HasBroken x e first new
 broken_behind x e calls first begun old new loads called stays fails =
     let more = fails.journal.0 in

@@ -1,6 +1,6 @@
--- The start of a replay, and the events of a schedule one after the other.
+-- How a replay begins, and how each event of its schedule takes it on.
 use Rattle.std.proofs.Common.{◌≡◌, ◌<◌, ◌≤◌, ◌+◌, ◌*◌, ◌^◌, ◌-◌, ℕ, List, [], ◌∷◌, ◌++◌, Option, Some, None, refl, sym, ap, subst, ◌∙◌, arith, length}
-use Rattle.std.specs.Prelude.{is_some}
+use Rattle.std.specs.Prelude.{is_some, Ok}
 use Rattle.std.specs.List.{AllByRecursion as Each}
 use Rattle.std.proofs.Math.Nat.{mul-le-mul}
 use Rattle.std.proofs.lemmas.Option.{none-some, same_Some}
@@ -14,19 +14,18 @@ use Rattle.split_answers.specs.Whole.{IsSplit}
 use Rattle.switch_ir.specs.Code.{Code}
 use Rattle.switch_ir.specs.Port.{PortState, Loads, StartsTold}
 use Rattle.switch_ir.specs.Tables.{IsStart, Told}
-use Rattle.switch_ir.specs.declared.port.PortEnd.TheVariants as port
 use Rattle.replay_state.specs.Journal.{Call}
 use Rattle.replay_state.specs.Program.{SplitProgram, manner_of}
 use Rattle.replay_state.specs.State.{first_state}
 use Rattle.replay_contracts.specs.Called.{calls_in}
-use Rattle.replay_contracts.specs.Given.{Given, code_for, setup_for, whole}
+use Rattle.replay_contracts.specs.Inputs.{Inputs, code_for, setup_for, whole}
 use Rattle.replay_contracts.specs.Replayer.{is_port_fault}
 use Rattle.replay_contracts.specs.declared.job.ReplayError.{ReplayError}
 use Rattle.replay_contracts.specs.declared.job.Stepped.{Stepped}
 use Rattle.replay_course.specs.declared.course.Course.{Course}
-use Rattle.replay_course.specs.Going.{HasTurned, IsPrepared, IsSound, MayCall, most_commands, unapplied}
+use Rattle.replay_course.specs.Going.{HasAdvanced, IsPrepared, IsSound, MayCall, most_commands, unapplied}
 use Rattle.replay_course.specs.Shown.{IsShown}
-use Rattle.replay_course.specs.UnderWay.{HasGone}
+use Rattle.replay_course.specs.UnderWay.{HasReplayedFrom}
 use Rattle.replay_course.proofs.Calling.{stays_more}
 use Rattle.replay_contracts.proofs.Laws.{a_replay_begins, a_replay_goes_on}
 use Rattle.replay_course.proofs.Room.{may_call}
@@ -34,8 +33,8 @@ use Rattle.std.proofs.lemmas.List.{length_push}
 
 -- ## One event more
 
-pub gone_on : (x : Given) (events : List Event) (event : Event) (stepped : Stepped) (c after : Course) (first old new : PortState)
-    → HasGone x events c first old → HasTurned x event stepped c old after new → HasGone x (events ++ event ∷ []) after first new
+pub gone_on : (x : Inputs) (events : List Event) (event : Event) (stepped : Stepped) (c after : Course) (first old new : PortState)
+    → HasReplayedFrom x events c first old → HasAdvanced x event stepped c old after new → HasReplayedFrom x (events ++ event ∷ []) after first new
 gone_on x events event stepped c after first old new gone turned =
     let u = gone.under_way in
     let t = turned.turns events u.calls u.st u.replay u.shown in record {
@@ -50,10 +49,10 @@ gone_on x events event stepped c after first old new gone turned =
       stays = stays_more first old new gone.stays turned.stays;
     }
 
-pub room_by : (x : Given) (events : List Event) (c : Course) (first port : PortState) → HasGone x events c first port → MayCall x c port
+pub room_by : (x : Inputs) (events : List Event) (c : Course) (first port : PortState) → HasReplayedFrom x events c first port → MayCall x c port
 room_by x events c first port gone = let u = gone.under_way in may_call x events u.calls u.st c port u.replay u.shown u.going
 
--- what an error counts behind calls of which none failed, it counts over all of them
+-- An error counts as many faults since a first moment as since a later one, if no call failed in between.
 pub counts_behind : (e : ReplayError) (first old new : ℕ) → old ≡ first → IsCountedIf (is_port_fault e) old new
     → IsCountedIf (is_port_fault e) first new
 counts_behind e first old new same counts = counts ∙ ap (count_after (is_port_fault e)) same
@@ -63,7 +62,7 @@ counts_behind e first old new same counts = counts ∙ ap (count_after (is_port_
 few_packets : (n k : ℕ) → n * k < 2 ^ 32 → 2 ≤ k → n ≤ 2 ^ 32
 few_packets n k few two = let same : n ≤ n = omega arith in let twice = mul-le-mul same two in omega arith
 
-pub is_prepared : (x : Given) → IsSplit x.program x.split x.writeback → HasFewStages x.split → Each IsArrival x.packets → x.manner ≡ manner_of x.manner.fine
+pub is_prepared : (x : Inputs) → IsSplit x.program x.split x.writeback → HasFewStages x.split → Each IsArrival x.packets → x.manner ≡ manner_of x.manner.fine
     → length x.packets * most_commands x < 2 ^ 32 → IsPrepared x
 is_prepared x split stages arrivals manner few = record {
   stages = stages;
@@ -80,12 +79,12 @@ starts_with : (code : Code) (old new : Option Told) (told : Told) → StartsTold
 starts_with code None new told starts is = absurd (none-some told (sym starts ∙ is))
 starts_with code (Some before) new told starts is = subst (IsStart code) (same_Some _ _ (sym starts.1 ∙ is)) starts.2
 
-pub started : (x : Given) (c : Course) (server : Server) (old new : PortState) (p q : ℕ) → IsPrepared x → Loads port.Done (code_for x) old new
+pub started : (x : Inputs) (c : Course) (server : Server) (old new : PortState) (p q : ℕ) → IsPrepared x → Loads (Ok tt) (code_for x) old new
     → p ≡ (setup_for x).pre_stages → q ≡ (setup_for x).post_stages
     → server ≡ record { program = x.program; split = x.split; store = start_store x.program.objects; version = 0; evaluated = 0 }
     → ((s : SplitProgram) (calls : List Call) → IsShown s calls (first_state server.store) c)
-    → ((y : Given) → server.program ≡ y.program → server.split ≡ y.split → x.writeback ≡ y.writeback → p ≡ (setup_for y).pre_stages
-    → q ≡ (setup_for y).post_stages → IsSound y c) → unapplied c ≡ 0 → HasGone x [] c old new
+    → ((y : Inputs) → server.program ≡ y.program → server.split ≡ y.split → x.writeback ≡ y.writeback → p ≡ (setup_for y).pre_stages
+    → q ≡ (setup_for y).post_stages → IsSound y c) → unapplied c ≡ 0 → HasReplayedFrom x [] c old new
 started x c server old new p q plain loads pre post is shown sound none = record {
   under_way = record {
     calls = [];

@@ -17,7 +17,7 @@ use Rattle.replay_state.specs.Drain.{is_drained}
 use Rattle.replay_state.specs.Journal.{Call}
 use Rattle.replay_state.specs.Run.{run_of}
 use Rattle.replay_state.specs.State.{State, fate_of, seen}
-use Rattle.replay_contracts.specs.Given.{Given, setup_for, whole}
+use Rattle.replay_contracts.specs.Inputs.{Inputs, setup_for, whole}
 use Rattle.replay_contracts.specs.Called.{KeepsCalls}
 use Rattle.replay_contracts.specs.Promise.{Reports}
 use Rattle.replay_contracts.specs.Replay.{IsReplay, IsTold}
@@ -30,7 +30,7 @@ use Rattle.replay_course.specs.Telling.{ShowsParts, is_done, told_run}
 use Rattle.std.proofs.lemmas.List.{length-map}
 use Rattle.replay_course.proofs.Draining.{map_length}
 
-module _ (x : Given) (calls : List Call) (st : State) (c : Course) (h : IsShown (whole x) calls st c) where
+module _ (x : Inputs) (calls : List Call) (st : State) (c : Course) (h : IsShown (whole x) calls st c) where
   done_is : is_done (length x.packets) c ≡ is_drained (setup_for x) st
   done_is =
       let up = map_length _ c.up.items st.up h.up in
@@ -66,7 +66,7 @@ module _ (x : Given) (calls : List Call) (st : State) (c : Course) (h : IsShown 
         switch = parts;
       }
 
-pub reported : (x : Given) (calls : List Call) (st : State) (c : Course) (old new : PortState) (parts : List ObjectRows) (run : Run) (number : ℕ) → IsShown (whole x) calls st c
+pub reported : (x : Inputs) (calls : List Call) (st : State) (c : Course) (old new : PortState) (parts : List ObjectRows) (run : Run) (number : ℕ) → IsShown (whole x) calls st c
     → ShowsParts x old new parts → run ≡ told_run x c parts → number ≡ length (commands c.commit) → Reports x st old new run number
 reported x calls st c old new parts run number h shows is count =
     let same : run.switch ≡ parts = ap (λ (r : Run). r.switch) is in
@@ -82,7 +82,7 @@ reported x calls st c old new parts run number h shows is count =
 
 -- ## A port behind what was told of it
 
-pub kept_replay : (x : Given) (events : List Event) (calls : List Call) (st : State) (old new : PortState) → IsReplay x events calls st old
+pub kept_replay : (x : Inputs) (events : List Event) (calls : List Call) (st : State) (old new : PortState) → IsReplay x events calls st old
     → KeepsCalls old new → IsReplay x events calls st new
 kept_replay x events calls st old new replay kept = record {
   answered = replay.answered;
@@ -93,7 +93,7 @@ kept_replay x events calls st old new replay kept = record {
 }
 
 -- what was told behind calls for rows is told of the port as it is then
-pub reports_there : (x : Given) (st : State) (old new : PortState) (run : Run) (commands : ℕ) → Reports x st old new run commands
+pub reports_there : (x : Inputs) (st : State) (old new : PortState) (run : Run) (commands : ℕ) → Reports x st old new run commands
     → Reports x st new new run commands
 reports_there x st old new run commands reports = record {
   is = reports.is;
@@ -102,7 +102,7 @@ reports_there x st old new run commands reports = record {
   rows = λ tables is. reports.rows tables (sym reports.kept.told ∙ is);
 }
 
-abbrev pub ReportsOf : Given → Course → PortState → PortState → Replayed → Type 0
+abbrev pub ReportsOf : Inputs → Course → PortState → PortState → Replayed → Type 0
 ReportsOf x c old new replayed = (calls : List Call) (st : State) → IsShown (whole x) calls st c
     → Reports x st old new replayed.run replayed.commands
 
@@ -115,8 +115,8 @@ some_of (Some told) some = (told, refl)
 less_by : (n k : ℕ) → n * k < 2 ^ 32 → 2 ≤ k → n < 2 ^ 32
 less_by n k few two = let same : n ≤ n = omega arith in let twice = mul-le-mul same two in omega arith
 
-pub few_packets : (x : Given) → IsPrepared x → length x.packets < 2 ^ 32
+pub few_packets : (x : Inputs) → IsPrepared x → length x.packets < 2 ^ 32
 few_packets x plain = less_by _ _ plain.few (omega arith)
 
-pub few_fates : (x : Given) (c : Course) → IsPrepared x → IsSound x c → length c.fates.items < 2 ^ 32
+pub few_fates : (x : Inputs) (c : Course) → IsPrepared x → IsSound x c → length c.fates.items < 2 ^ 32
 few_fates x c plain sound = let few = few_packets x plain in let within = sound.within.admitted in omega arith

@@ -26,17 +26,17 @@ use Rattle.replay_contracts.proofs.Laws.{frames_have_their_forms}
 use Rattle.replay_state.proofs.Laws.{lookups_see_one_version, whole_runs_are_sound-sound}
 use Rattle.split_answers.proofs.Laws.{a_told_command_finds_room, frames_do_what_packets_do, split_programs_have_their_laws}
 use Rattle.transfer_header.proofs.Laws.{frames_are_told_by_place-parts}
-use Rattle.replay_contracts.specs.Given.{Given, IsReady, code_for, setup_for, whole, whole_runs}
+use Rattle.replay_contracts.specs.Inputs.{Inputs, IsReady, code_for, setup_for, whole, whole_runs}
 use Rattle.replay_contracts.specs.Replay.{IsReplay}
 use Rattle.replay_course.specs.declared.course.Course.{Course}
-use Rattle.replay_course.specs.Going.{IsGoing, MayCall, ready_next, unless_waits}
+use Rattle.replay_course.specs.Going.{CanGoOn, MayCall, ready_next, unless_waits}
 use Rattle.replay_course.specs.Shown.{IsShown}
 use Rattle.replay_course.proofs.Lists.{get_member}
 use Rattle.replay_course.proofs.Showing.{down_at}
 use Rattle.replay_course.proofs.Turning.{have_gone, have_places, next_at, next_named}
 use Rattle.lemmas.proofs.Lists.{get_past}
 
-pub is_split_program : (x : Given) → IsReady x → IsSplitProgram (whole x) x.packets
+pub is_split_program : (x : Inputs) → IsReady x → IsSplitProgram (whole x) x.packets
 is_split_program x ready = split_programs_have_their_laws x.program x.split x.writeback x.packets ready.split ready.arrivals
 
 -- ## What need not wait
@@ -57,7 +57,7 @@ none_by : {X : Type 0} (o : Option X) → ((x : X) → o ≡ Some x → ⊥) →
 none_by None h = refl
 none_by (Some x) h = absurd (h x refl)
 
-module _ (x : Given) (events : List Event) (calls : List Call) (st : State) (c : Course) (port : PortState) (replay : IsReplay x events calls st port) (shown : IsShown (whole x) calls st c) (going : IsGoing x c port) where
+module _ (x : Inputs) (events : List Event) (calls : List Call) (st : State) (c : Course) (port : PortState) (replay : IsReplay x events calls st port) (shown : IsShown (whole x) calls st c) (going : CanGoOn x c port) where
   finds_room : (command : Command) → ready_next c ≡ Some command → HasRoomFor port command
   finds_room command ready = by_told port.told refl
     where

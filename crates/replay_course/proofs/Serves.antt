@@ -21,12 +21,12 @@ use Rattle.server_runtime.specs.Serving.{Server, IsServed, IsUpdateIn, evaluated
 use Rattle.server_runtime.specs.Views.{server_of}
 use Rattle.switch_ir.specs.Port.{PortState, IsUpdateOf}
 use Rattle.split_answers.specs.Whole.{IsSplit}
-use Rattle.replay_contracts.specs.Given.{Given, code_for, setup_for, whole}
+use Rattle.replay_contracts.specs.Inputs.{Inputs, code_for, setup_for, whole}
 use Rattle.replay_contracts.specs.Replayer.{stepped_by}
 use Rattle.replay_contracts.specs.declared.job.Stepped.TheVariants.{Did}
 use Rattle.replay_course.specs.Fates as fates_of
 use Rattle.replay_course.specs.declared.course.Course.{Course}
-use Rattle.replay_course.specs.Going.{HasTurned, IsGoing, IsSound, MadeRoom, most_commands, unapplied}
+use Rattle.replay_course.specs.Going.{HasAdvanced, CanGoOn, IsSound, MadeRoom, most_commands, unapplied}
 use Rattle.std.proofs.lemmas.List.Edits.{length-remove}
 use Rattle.replay_course.proofs.Lists.{each_remove}
 use Rattle.replay_course.proofs.Costs.{commands_served, one_more_times, spare_served, still_within, undecided_served}
@@ -40,13 +40,13 @@ use Rattle.lemmas.proofs.Numbers.{le_trans, same_within}
 
 -- ## A batch
 
-each_told : (x : Given) (updates : List Update) → Each (IsUpdateIn x.program x.split) updates → Each (IsUpdateOf (code_for x)) updates
+each_told : (x : Inputs) (updates : List Update) → Each (IsUpdateIn x.program x.split) updates → Each (IsUpdateOf (code_for x)) updates
 each_told x updates fit = each_weaker _ _ (λ update. replicated_objects_are_declared-updates x.program x.split x.writeback update) updates fit
 
 -- ## What is served
 
 -- the same of the program that the server has
-of_program : (x : Given) (before after : Server) (frame : List ℕ) (s : Served) → before.program ≡ x.program
+of_program : (x : Inputs) (before after : Server) (frame : List ℕ) (s : Served) → before.program ≡ x.program
     → before.split ≡ x.split → IsServed before frame s after
     → IsServed (record before { program = x.program; split = x.split }) frame s (record after { program = x.program; split = x.split })
 of_program x before after frame s p q is = record {
@@ -64,11 +64,11 @@ of_program x before after frame s p q is = record {
   evaluated = is.evaluated ∙ (λ i. evaluated_steps (p i) (q i));
 }
 
-pub served_by : (x : Given) (c : Course) (server : Runtime) (frame : List ℕ) (s : Served) → IsSound x c → IsServed (server_of c.server) frame s (server_of server)
+pub served_by : (x : Inputs) (c : Course) (server : Runtime) (frame : List ℕ) (s : Served) → IsSound x c → IsServed (server_of c.server) frame s (server_of server)
     → IsServed (record (server_of c.server) { program = x.program; split = x.split }) frame s (record (server_of server) { program = x.program; split = x.split })
 served_by x c server frame s sound is = of_program x (server_of c.server) (server_of server) frame s sound.program sound.split is
 
-serve_sound : (x : Given) (c after : Course) (j n : ℕ) (frame : List ℕ) (s : Served) (fate : Fate) → IsSound x c
+serve_sound : (x : Inputs) (c after : Course) (j n : ℕ) (frame : List ℕ) (s : Served) (fate : Fate) → IsSound x c
     → slice_get c.up.items j ≡ Some (n, frame) → IsServed (server_of c.server) frame s (server_of after.server)
     → after ≡ record c { up = after.up; server = after.server; commit = after.commit; fates = after.fates; events = c.events + 1 }
     → after.up.items ≡ remove c.up.items j
@@ -114,14 +114,14 @@ serve_sound x c after j n frame s fate h here served is up commit fates =
       };
     })
 
-pub serve_turned : (x : Given) (c after : Course) (old new : PortState) (j n : ℕ) (frame : List ℕ) (s : Served) → IsGoing x c old
+pub serve_turned : (x : Inputs) (c after : Course) (old new : PortState) (j n : ℕ) (frame : List ℕ) (s : Served) → CanGoOn x c old
     → slice_get c.up.items j ≡ Some (n, frame) → IsServed (server_of c.server) frame s (server_of after.server)
     → MadeRoom (unapplied c + length (commands_in (batch_of s.updates))) old new
     → after ≡ record c { up = after.up; server = after.server; commit = after.commit; fates = after.fates; events = c.events + 1 }
     → after.up.items ≡ remove c.up.items j
     → after.commit ≡ with_output c.commit (record { number = n; need = s.version; frame = s.down }) s.updates
     → after.fates.items ≡ slice_set c.fates.items n (fates_of.decided (c.events + 1) s.version (slice_get c.fates.items n))
-    → HasTurned x (event.Serve j) Did c old after new
+    → HasAdvanced x (event.Serve j) Did c old after new
 serve_turned x c after old new j n frame s going here served made is up commit fates =
     let h = going.sound in
     let done = served_by x c after.server frame s h served in
@@ -152,17 +152,17 @@ count_within (suc n) test = let h = count_within n test in by_test (test n) h
     by_test false h = omega arith
 
 -- a program within bounds has few writes
-pub few_writes : (x : Given) → IsSplit x.program x.split x.writeback → (whole x).writes ≤ 4096
+pub few_writes : (x : Inputs) → IsSplit x.program x.split x.writeback → (whole x).writes ≤ 4096
 few_writes x is =
     let h = count_within (length x.program.code) (λ i. is_followed x.program x.split (step_at x.program i).work) in
     le_trans _ _ _ h is.bounded.few
 
-pub few_updates : (x : Given) (c : Course) (port : PortState) (frame : List ℕ) (s : Served) (server : Runtime) → IsGoing x c port
+pub few_updates : (x : Inputs) (c : Course) (port : PortState) (frame : List ℕ) (s : Served) (server : Runtime) → CanGoOn x c port
     → IsServed (server_of c.server) frame s (server_of server) → length s.updates ≤ 4096
 few_updates x c port frame s server going is = le_trans _ _ _ (served_by x c server frame s going.sound is).few (few_writes x going.prepared.ready.split)
 
 -- the frame is one of those that went up
-pub framed_up : (x : Given) (c : Course) (port : PortState) (j n : ℕ) (frame : List ℕ) → IsGoing x c port
+pub framed_up : (x : Inputs) (c : Course) (port : PortState) (j n : ℕ) (frame : List ℕ) → CanGoOn x c port
     → slice_get c.up.items j ≡ Some (n, frame) → IsFrame 1 (up_layout (server_of c.server).program (server_of c.server).split) frame
 framed_up x c port j n frame going here =
     let framed = each_got (FramedUp x) c.up.items j (n, frame) going.sound.up here in
@@ -174,7 +174,7 @@ few_versions version u n k h few two =
     let same : n ≤ n = omega arith in let twice = mul-le-mul same two in omega arith
 
 -- there are versions left
-pub versions_left : (x : Given) (c : Course) (port : PortState) → IsGoing x c port → c.server.version < 2 ^ 32 - 1
+pub versions_left : (x : Inputs) (c : Course) (port : PortState) → CanGoOn x c port → c.server.version < 2 ^ 32 - 1
 versions_left x c port going = few_versions _ _ _ (most_commands x) going.sound.within.versions going.prepared.few (omega arith)
 
 few_commands : (n b p up rest k total : ℕ) → n + (p + up + rest) * k ≤ total → 0 < up → b ≤ k → total < 2 ^ 32 → n + b < 2 ^ 32
@@ -185,7 +185,7 @@ few_commands n b p up rest k total h some few all =
     omega arith
 
 -- and room for the commands of a batch
-pub commands_left : (x : Given) (c : Course) (port : PortState) (j n : ℕ) (frame : List ℕ) (s : Served) (server : Runtime) → IsGoing x c port
+pub commands_left : (x : Inputs) (c : Course) (port : PortState) (j n : ℕ) (frame : List ℕ) (s : Served) (server : Runtime) → CanGoOn x c port
     → slice_get c.up.items j ≡ Some (n, frame) → IsServed (server_of c.server) frame s (server_of server)
     → length (commands c.commit) + length (commands_in (batch_of s.updates)) < 2 ^ 32
 commands_left x c port j n frame s server going here is =

@@ -14,7 +14,7 @@ use Rattle.run_model.specs.declared.fate.Fate.{Fate}
 use Rattle.server_runtime.specs.Views.{server_of}
 use Rattle.switch_ir.specs.Port.{IsUpdateOf}
 use Rattle.replay_state.specs.declared.pass.Pass.{Pass}
-use Rattle.replay_contracts.specs.Given.{Given, code_for, setup_for}
+use Rattle.replay_contracts.specs.Inputs.{Inputs, code_for, setup_for}
 use Rattle.replay_course.specs.declared.course.Course.{Course}
 use Rattle.replay_course.specs.Going.{IsSound, IsWithin, TakesOneMore, most_commands, undecided}
 use Rattle.replay_course.proofs.Counting.{before_server, push_at_most, push_behind}
@@ -25,13 +25,13 @@ use Rattle.lemmas.proofs.Numbers.{same_within}
 use Rattle.std.proofs.lemmas.List.{length_push}
 
 -- the frames of a course have the layouts of their ways
-abbrev pub FramedUp : Given → ℕ × List ℕ → Type 0
+abbrev pub FramedUp : Inputs → ℕ × List ℕ → Type 0
 FramedUp x item = IsFrame 1 (up_layout x.program x.split) item.1
 
-abbrev pub FramedDown : Given → ℕ × List ℕ → Type 0
+abbrev pub FramedDown : Inputs → ℕ × List ℕ → Type 0
 FramedDown x item = IsFrame 2 (down_layout x.program x.split) item.1
 
-abbrev pub FramedHeld : Given → Output → Type 0
+abbrev pub FramedHeld : Inputs → Output → Type 0
 FramedHeld x o = IsFrame 2 (down_layout x.program x.split) o.frame
 
 abbrev pub Needs : ℕ → Output → Type 0
@@ -44,7 +44,7 @@ HasLeft pass = 0 < pass.left
 -- ## Counts
 
 -- where no more packets aren't decided, and the server stays
-pub fewer_within : (x : Given) (c after : Course) → IsWithin x c → length after.fates.items ≤ length x.packets
+pub fewer_within : (x : Inputs) (c after : Course) → IsWithin x c → length after.fates.items ≤ length x.packets
     → undecided x after ≤ undecided x c → after.server.version ≡ c.server.version
     → length (commands after.commit) ≤ length (commands c.commit) → after.idle ≤ after.events → IsWithin x after
 fewer_within x c after h admitted less version fewer idle = record {
@@ -54,7 +54,7 @@ fewer_within x c after h admitted less version fewer idle = record {
   commands = commands_fall _ _ _ _ fewer (commands_after _ _ _ _ _ less h.commands);
 }
 
-pub within_by : (x : Given) (c after : Course) → IsWithin x c → before_server after.passes ≤ before_server c.passes
+pub within_by : (x : Inputs) (c after : Course) → IsWithin x c → before_server after.passes ≤ before_server c.passes
     → length after.up.items ≡ length c.up.items → length after.fates.items ≡ length c.fates.items → after.server.version ≡ c.server.version
     → length (commands after.commit) ≤ length (commands c.commit) → after.idle ≤ after.events → IsWithin x after
 within_by x c after h passes up fates version fewer idle =
@@ -62,7 +62,7 @@ within_by x c after h passes up fates version fewer idle =
     (fewer_undecided _ _ _ _ _ _ _ passes up fates) version fewer idle
 
 -- where one packet more isn't decided, for which there is room
-pub more_within : (x : Given) (c after : Course) → IsWithin x c → TakesOneMore x c → length after.fates.items ≡ length c.fates.items
+pub more_within : (x : Inputs) (c after : Course) → IsWithin x c → TakesOneMore x c → length after.fates.items ≡ length c.fates.items
     → undecided x after ≤ suc (undecided x c) → after ≡ record after { server = c.server; commit = c.commit; events = c.events; idle = c.idle } → IsWithin x after
 more_within x c after h room fates less is = record {
   idle = subst (λ (z : Course). z.idle ≤ z.events) (sym is) h.idle;
@@ -73,7 +73,7 @@ more_within x c after h room fates less is = record {
 }
 
 -- where a packet counts no more among those that aren't decided, there is room for it
-pub makes_room : (x : Given) (c after : Course) → IsWithin x c → suc (undecided x after) ≤ undecided x c
+pub makes_room : (x : Inputs) (c after : Course) → IsWithin x c → suc (undecided x after) ≤ undecided x c
     → after ≡ record after { server = c.server; commit = c.commit } → TakesOneMore x after
 makes_room x c after h less is = record {
   versions = subst (λ (z : Course). z.server.version + suc (undecided x after) ≤ length x.packets) (sym is) (versions_stay _ _ _ _ less h.versions);
@@ -83,7 +83,7 @@ makes_room x c after h less is = record {
 
 -- ## Before any event
 
-pub first_sound : (x : Given) (c : Course) → (server_of c.server).program ≡ x.program → (server_of c.server).split ≡ x.split
+pub first_sound : (x : Inputs) (c : Course) → (server_of c.server).program ≡ x.program → (server_of c.server).split ≡ x.split
     → c.pre_stages ≡ (setup_for x).pre_stages → c.post_stages ≡ (setup_for x).post_stages → c.passes ≡ []
     → c.up.items ≡ [] → c.server.version ≡ 0 → c.commit ≡ first x.writeback → c.down.items ≡ [] → c.fates.items ≡ [] → c.events ≡ 0 → c.idle ≡ 0 → IsSound x c
 first_sound x c program split pre post passes up version commit down fates events idle = record {
@@ -123,7 +123,7 @@ pub record GoesOn (k k' : Commit) : Type 0 where
   pub fewer : length (commands k') ≤ length (commands k)
 
 -- where the server stays, and the outputs that wait
-pub moved_sound : (x : Given) (c after : Course) → IsSound x c
+pub moved_sound : (x : Inputs) (c after : Course) → IsSound x c
     → after ≡ record after { pre_stages = c.pre_stages; post_stages = c.post_stages; server = c.server } → GoesOn c.commit after.commit
     → Each HasLeft after.passes → Each (FramedUp x) after.up.items → Each (FramedDown x) after.down.items → IsWithin x after → IsSound x after
 moved_sound x c after h is on left up down within = subst (IsSound x) (sym is) (record {
@@ -203,21 +203,21 @@ next_on k h = elim (cases_Bool (ltb k.done k.sent)) [
 ]
 
 -- a call of the commands alone
-pub commands_sound : (x : Given) (c after : Course) (k : Commit) → IsSound x c → GoesOn c.commit k → after.commit ≡ k
+pub commands_sound : (x : Inputs) (c after : Course) (k : Commit) → IsSound x c → GoesOn c.commit k → after.commit ≡ k
     → after ≡ record c { commit = after.commit; events = after.events; idle = after.idle } → after.idle ≤ after.events → IsSound x after
 commands_sound x c after k h on commit is idle =
     let later : Course = record c { commit = k; events = after.events; idle = after.idle } in
     subst (IsSound x) (sym (is ∙ (λ i. record c { commit = commit i; events = after.events; idle = after.idle })))
     (moved_sound x c later h refl on h.left h.up h.down (within_by x c later h.within (omega arith) refl refl refl on.fewer idle))
 
-pub idle_sound : (x : Given) (c after : Course) → IsSound x c → after ≡ record c { events = c.events + 1; idle = c.idle + 1 } → IsSound x after
+pub idle_sound : (x : Inputs) (c after : Course) → IsSound x c → after ≡ record c { events = c.events + 1; idle = c.idle + 1 } → IsSound x after
 idle_sound x c after h is =
     let later : Course = record c { events = c.events + 1; idle = c.idle + 1 } in
     subst (IsSound x) (sym is) (commands_sound x c later c.commit h (still c.commit h.order) refl refl (let i = h.within.idle in omega arith))
 
 -- ## Outputs that go
 
-pub hold_sound : (x : Given) (c after : Course) (j : ℕ) (output : Output) → IsSound x c → slice_get c.commit.held j ≡ Some output
+pub hold_sound : (x : Inputs) (c after : Course) (j : ℕ) (output : Output) → IsSound x c → slice_get c.commit.held j ≡ Some output
     → after ≡ record c { commit = record c.commit { held = remove c.commit.held j }; down = after.down; events = c.events + 1 }
     → after.down.items ≡ c.down.items ++ (output.number, output.frame) ∷ [] → IsSound x after
 hold_sound x c after j output h here is down = subst (IsSound x) (sym is) (record {
@@ -246,7 +246,7 @@ hold_sound x c after j output h here is down = subst (IsSound x) (sym is) (recor
 -- ## Packets that arrive
 
 -- where the commands stay too
-carried_sound : (x : Given) (c after : Course) → IsSound x c
+carried_sound : (x : Inputs) (c after : Course) → IsSound x c
     → after ≡ record after { pre_stages = c.pre_stages; post_stages = c.post_stages; server = c.server; commit = c.commit }
     → Each HasLeft after.passes → Each (FramedUp x) after.up.items → Each (FramedDown x) after.down.items → IsWithin x after → IsSound x after
 carried_sound x c after h is left up down within =
@@ -254,7 +254,7 @@ carried_sound x c after h is left up down within =
     subst (IsSound x) (sym is) (moved_sound x c later h refl (still c.commit h.order) left up down (subst (IsWithin x) is within))
 
 -- one is admitted, and is among no others yet
-pub admit_sound : (x : Given) (c after : Course) (fate : Fate) → IsSound x c → length c.fates.items < length x.packets
+pub admit_sound : (x : Inputs) (c after : Course) (fate : Fate) → IsSound x c → length c.fates.items < length x.packets
     → after ≡ record c { fates = after.fates; events = c.events + 1 } → after.fates.items ≡ c.fates.items ++ fate ∷ []
     → IsSound x after × TakesOneMore x after
 admit_sound x c after fate h less is fates =
@@ -268,7 +268,7 @@ admit_sound x c after fate h less is fates =
     )
 
 -- the switch finishes it, or it is released
-pub fate_sound : (x : Given) (c after : Course) (n : ℕ) (fate : Fate) → IsSound x c → after ≡ record c { fates = after.fates }
+pub fate_sound : (x : Inputs) (c after : Course) (n : ℕ) (fate : Fate) → IsSound x c → after ≡ record c { fates = after.fates }
     → after.fates.items ≡ slice_set c.fates.items n fate → IsSound x after
 fate_sound x c after n fate h is fates =
     let later : Course = record c { fates = after.fates } in
@@ -276,7 +276,7 @@ fate_sound x c after n fate h is fates =
     (within_by x c later h.within (omega arith) refl (ap length fates ∙ length_slice_set c.fates.items n fate) refl (omega arith) h.within.idle))
 
 -- it goes up
-pub send_up_sound : (x : Given) (c after : Course) (n : ℕ) (frame : List ℕ) (fate : Fate) → IsSound x c → TakesOneMore x c
+pub send_up_sound : (x : Inputs) (c after : Course) (n : ℕ) (frame : List ℕ) (fate : Fate) → IsSound x c → TakesOneMore x c
     → IsFrame 1 (up_layout x.program x.split) frame → after ≡ record c { up = after.up; fates = after.fates }
     → after.up.items ≡ c.up.items ++ (n, frame) ∷ [] → after.fates.items ≡ slice_set c.fates.items n fate → IsSound x after
 send_up_sound x c after n frame fate h room framed is up fates =
@@ -288,7 +288,7 @@ send_up_sound x c after n frame fate h room framed is up fates =
     (more_within x c later h.within room f (one_more_undecided _ _ _ _ _ _ _ (omega arith) f) refl))
 
 -- its pass goes last among those under way
-pub going_sound : (x : Given) (c after : Course) (pass : Pass) → IsSound x c → TakesOneMore x c → 0 < pass.left
+pub going_sound : (x : Inputs) (c after : Course) (pass : Pass) → IsSound x c → TakesOneMore x c → 0 < pass.left
     → after ≡ record c { passes = c.passes ++ pass ∷ [] } → IsSound x after
 going_sound x c after pass h room left is =
     let later : Course = record c { passes = c.passes ++ pass ∷ [] } in
@@ -298,7 +298,7 @@ going_sound x c after pass h room left is =
 
 -- ## Packets that come down
 
-pub behind_sound : (x : Given) (c after : Course) (pass : Pass) → IsSound x c → pass.pre ≡ false → 0 < pass.left
+pub behind_sound : (x : Inputs) (c after : Course) (pass : Pass) → IsSound x c → pass.pre ≡ false → 0 < pass.left
     → after ≡ record c { passes = c.passes ++ pass ∷ [] } → IsSound x after
 behind_sound x c after pass h kind left is =
     let later : Course = record c { passes = c.passes ++ pass ∷ [] } in
@@ -308,7 +308,7 @@ behind_sound x c after pass h kind left is =
 
 -- ## A pass or a frame is taken out of its list
 
-pub taken_sound : (x : Given) (c after : Course) → IsSound x c → after ≡ record c { passes = after.passes; down = after.down; events = c.events + 1 }
+pub taken_sound : (x : Inputs) (c after : Course) → IsSound x c → after ≡ record c { passes = after.passes; down = after.down; events = c.events + 1 }
     → Each HasLeft after.passes → before_server after.passes ≤ before_server c.passes → Each (FramedDown x) after.down.items → IsSound x after
 taken_sound x c after h is left count down =
     let later : Course = record c { passes = after.passes; down = after.down; events = c.events + 1 } in

@@ -23,39 +23,40 @@ use Rattle.replay_state.specs.State.{Progress, State, fate_of}
 use Rattle.replay_state.specs.Step.{applies, ended, happens, idled, step, tick}
 use Rattle.split_answers.specs.Over.{IsGiven}
 use Rattle.replay_contracts.specs.Called.{KeepsCalls, WasMade}
-use Rattle.replay_contracts.specs.Given.{Given, code_for, setup_for, whole}
+use Rattle.replay_contracts.specs.Inputs.{Inputs, code_for, setup_for, whole}
 use Rattle.replay_contracts.specs.Replay.{IsReplay, answered}
 use Rattle.replay_contracts.specs.Replayer.{stepped_by}
 use Rattle.replay_contracts.specs.declared.job.Stepped.{Stepped}
 use Rattle.replay_contracts.specs.declared.job.Stepped.TheVariants.{Did, Idle}
 use Rattle.replay_course.specs.declared.course.Course.{Course}
-use Rattle.replay_course.specs.Going.{HasTurned, IsGoing, IsPrepared, IsSound, came_to, unapplied}
+use Rattle.replay_course.specs.Going.{HasAdvanced, CanGoOn, IsPrepared, IsSound, came_to, unapplied}
 use Rattle.replay_course.specs.Shown.{IsShown}
-use Rattle.replay_course.proofs.Calling.{called_once, keeps_all, kept_stays, made, made_stays}
+use Rattle.replay_course.proofs.Calling.{called_once, keeps_all, kept_stays, made_stays}
+use Rattle.replay_contracts.proofs.Calls.{made_leaves}
 use Rattle.replay_course.proofs.Lists.{member_kept}
 use Rattle.replay_course.proofs.Named.{commands_named}
 use Rattle.lemmas.proofs.Lists.{each_got}
 
 -- ## What stands in a replay
 
-pub have_places : (x : Given) (events : List Event) (calls : List Call) (st : State) → IsAnswered (setup_for x) (whole x) x.packets events calls st → HavePlaces st
+pub have_places : (x : Inputs) (events : List Event) (calls : List Call) (st : State) → IsAnswered (setup_for x) (whole x) x.packets events calls st → HavePlaces st
 have_places x events calls st h = subst HavePlaces (sym h.run) (packets_are_where_they_are_told (setup_for x) (journal (whole x) calls) events)
 
-pub have_gone : (x : Given) (events : List Event) (calls : List Call) (st : State) → IsAnswered (setup_for x) (whole x) x.packets events calls st → Carried (HasGoneUp calls) st
+pub have_gone : (x : Inputs) (events : List Event) (calls : List Call) (st : State) → IsAnswered (setup_for x) (whole x) x.packets events calls st → Carried (HasGoneUp calls) st
 have_gone x = went_up (setup_for x) (whole x) x.packets
 
 -- what fits is what the commit holds to
-pub fits_same : (x : Given) (c : Course) → IsPrepared x → IsSound x c → (setup_for x).fits ≡ fits c.commit.writeback
+pub fits_same : (x : Inputs) (c : Course) → IsPrepared x → IsSound x c → (setup_for x).fits ≡ fits c.commit.writeback
 fits_same x c prepared sound = ap (λ m. (setup_of (whole x) x.packets m).fits) prepared.manner ∙ ap fits (sym sound.writeback)
 
 -- ## Events that call for no packet and no command
 
-pub quiet_turned : (x : Given) (ev : Event) (stepped : Stepped) (c after : Course) (old new : PortState) → IsGoing x c old → KeepsCalls old new
+pub quiet_turned : (x : Inputs) (ev : Event) (stepped : Stepped) (c after : Course) (old new : PortState) → CanGoOn x c old → KeepsCalls old new
     → IsSound x after → unapplied after ≤ new.spare → after.events ≡ c.events + 1
     → ((calls : List Call) (st : State) → IsShown (whole x) calls st c → (applies (setup_for x) st ev ≡ true → asks (setup_for x) (whole x) x.packets calls st ev ≡ []))
     → ((events : List Event) (calls : List Call) (st : State) → IsReplay x events calls st old → IsShown (whole x) calls st c
     → (stepped ≡ stepped_by (applies (setup_for x) st ev)) × IsShown (whole x) calls (step (setup_for x) (answered x calls) st ev) after)
-    → HasTurned x ev stepped c old after new
+    → HasAdvanced x ev stepped c old after new
 quiet_turned x ev stepped c after old new going kept sound spare counted asks_none shows = record {
   stays = kept_stays old new kept;
   counted = counted;
@@ -76,16 +77,16 @@ quiet_turned x ev stepped c after old new going kept sound spare counted asks_no
         → asked (setup_for x) (whole x) x.packets calls st ev ≡ []
     nothing calls st h = elim (cases_Bool (applies (setup_for x) st ev)) [ inl t ↦ rw t (h t) | inr f ↦ rw f refl ]
 
-pub no_ask : (x : Given) (ev : Event) (calls : List Call) (st : State) → applies (setup_for x) st ev ≡ false → applies (setup_for x) st ev ≡ true
+pub no_ask : (x : Inputs) (ev : Event) (calls : List Call) (st : State) → applies (setup_for x) st ev ≡ false → applies (setup_for x) st ev ≡ true
     → asks (setup_for x) (whole x) x.packets calls st ev ≡ []
 no_ask x ev calls st f t = let bad = sym f ∙ t in cc
 
 -- an event that can't apply
-pub idle_turned : (x : Given) (ev : Event) (stepped : Stepped) (c after : Course) (port : PortState) → IsGoing x c port → stepped ≡ Idle
+pub idle_turned : (x : Inputs) (ev : Event) (stepped : Stepped) (c after : Course) (port : PortState) → CanGoOn x c port → stepped ≡ Idle
     → IsSound x after → unapplied after ≡ unapplied c → after.events ≡ c.events + 1
     → ((calls : List Call) (st : State) → IsShown (whole x) calls st c → applies (setup_for x) st ev ≡ false)
     → ((calls : List Call) (st : State) → applies (setup_for x) st ev ≡ false → IsShown (whole x) calls st c → IsShown (whole x) calls (step (setup_for x) (answered x calls) st ev) after)
-    → HasTurned x ev stepped c port after port
+    → HasAdvanced x ev stepped c port after port
 idle_turned x ev stepped c after port going idle sound same counted never shows =
     quiet_turned x ev stepped c after port port going (keeps_all port) sound (subst (λ n. n ≤ port.spare) (sym same) going.spare) counted
     (λ calls st h. no_ask x ev calls st (never calls st h))
@@ -97,31 +98,31 @@ fates_count s calls st c h = ap length h.fates ∙ length-map st.progress fate_o
 -- ## Events that call the switch once
 
 -- what the state does by the call, and what the course shows then
-pub record Leads (x : Given) (ev : Event) (calls : List Call) (call : Call) (st : State) (after : Course) : Type 0 where
+pub record Leads (x : Inputs) (ev : Event) (calls : List Call) (call : Call) (st : State) (after : Course) : Type 0 where
   pub may : applies (setup_for x) st ev ≡ true
   pub asks_so : question_of call ∷ [] ≡ asks (setup_for x) (whole x) x.packets (calls ++ call ∷ []) st ev
   pub shown : IsShown (whole x) (calls ++ call ∷ []) (happens (setup_for x) (answered x (calls ++ call ∷ [])) (tick st) ev) after
 
-asked_once : (x : Given) (ev : Event) (calls : List Call) (call : Call) (st : State) (after : Course) → Leads x ev calls call st after
+asked_once : (x : Inputs) (ev : Event) (calls : List Call) (call : Call) (st : State) (after : Course) → Leads x ev calls call st after
     → map question_of (call ∷ []) ≡ asked (setup_for x) (whole x) x.packets (calls ++ call ∷ []) st ev
 asked_once x ev calls call st after leads =
     leads.asks_so ∙ ap (λ (b : Bool). if b then asks (setup_for x) (whole x) x.packets (calls ++ call ∷ []) st ev else []) (sym leads.may)
 
-pub stepped_once : (x : Given) (ev : Event) (calls : List Call) (st : State) → applies (setup_for x) st ev ≡ true
+pub stepped_once : (x : Inputs) (ev : Event) (calls : List Call) (st : State) → applies (setup_for x) st ev ≡ true
     → step (setup_for x) (answered x calls) st ev ≡ happens (setup_for x) (answered x calls) (tick st) ev
 stepped_once x ev calls st may = ap (λ (b : Bool). if b then happens (setup_for x) (answered x calls) (tick st) ev else idled (tick st)) may
 
-pub call_turned : (x : Given) (ev : Event) (c after : Course) (old new : PortState) (call : Call) → IsGoing x c old
+pub call_turned : (x : Inputs) (ev : Event) (c after : Course) (old new : PortState) (call : Call) → CanGoOn x c old
     → IsGiven (code_for x) call → WasMade call old new → IsSound x after → unapplied after ≤ new.spare → after.events ≡ c.events + 1
     → ((events : List Event) (calls : List Call) (st : State) → IsReplay x events calls st old → IsShown (whole x) calls st c → Leads x ev calls call st after)
-    → HasTurned x ev Did c old after new
+    → HasAdvanced x ev Did c old after new
 call_turned x ev c after old new call going given was sound spare counted leads = record {
   stays = made_stays call old new was;
   counted = counted;
   going = record {
     prepared = going.prepared;
     sound = sound;
-    loaded = (made call old new was).code ∙ going.loaded;
+    loaded = (made_leaves call old new was).loaded ∙ going.loaded;
     spare = spare;
   };
   turns = λ events calls st replay h.
@@ -136,7 +137,7 @@ call_turned x ev c after old new call going given was sound spare counted leads 
 }
 
 -- where packets are behind an event
-pub placed_after : (x : Given) (ev : Event) (events : List Event) (calls : List Call) (call : Call) (st : State) → applies (setup_for x) st ev ≡ true
+pub placed_after : (x : Inputs) (ev : Event) (events : List Event) (calls : List Call) (call : Call) (st : State) → applies (setup_for x) st ev ≡ true
     → question_of call ∷ [] ≡ asks (setup_for x) (whole x) x.packets (calls ++ call ∷ []) st ev
     → IsAnswered (setup_for x) (whole x) x.packets events calls st
     → HavePlaces (happens (setup_for x) (answered x (calls ++ call ∷ [])) (tick st) ev)
@@ -175,13 +176,13 @@ pub stage_down_call : (n : ℕ) (answer : DownAnswer) → IsDownCall n answer (C
 stage_down_call n answer = for_own n (down_end answer)
 
 -- no call before it ended that pass
-pub answers_up : (x : Given) (events : List Event) (calls : List Call) (st : State) (n : ℕ) (answer : UpAnswer) (call : Call) (o : Option Progress)
+pub answers_up : (x : Inputs) (events : List Event) (calls : List Call) (st : State) (n : ℕ) (answer : UpAnswer) (call : Call) (o : Option Progress)
     → IsAnswered (setup_for x) (whole x) x.packets events calls st → slice_get st.progress n ≡ o → has_passed o ≡ false → IsUpCall n answer call
     → up_answer (calls ++ call ∷ []) n ≡ up_end answer
 answers_up x events calls st n answer call o answered_so at none is =
     fresh_up calls (call ∷ []) n ((end_once (setup_for x) (whole x) x.packets events calls st answered_so).up n ∙ ap (λ p. one_if (has_passed p)) at ∙ ap one_if none) ∙ is
 
-pub answers_down : (x : Given) (events : List Event) (calls : List Call) (st : State) (n : ℕ) (answer : DownAnswer) (call : Call) (o : Option Progress)
+pub answers_down : (x : Inputs) (events : List Event) (calls : List Call) (st : State) (n : ℕ) (answer : DownAnswer) (call : Call) (o : Option Progress)
     → IsAnswered (setup_for x) (whole x) x.packets events calls st → slice_get st.progress n ≡ o → has_come_down o ≡ false → IsDownCall n answer call
     → down_answer (calls ++ call ∷ []) n ≡ down_end answer
 answers_down x events calls st n answer call o answered_so at none is =
@@ -211,7 +212,7 @@ carried_down P st j h = record {
 
 -- ## Commands
 
-pub apply_turned : (x : Given) (c after : Course) (old new : PortState) (command : Command) → IsGoing x c old
+pub apply_turned : (x : Inputs) (c after : Course) (old new : PortState) (command : Command) → CanGoOn x c old
     → IsCommandOf (code_for x) command → WasMade (CalledCommand command) old new → suc new.spare ≡ old.spare
     → IsSound x after → unapplied c ≡ 1 + unapplied after → after.events ≡ c.events + 1
     → ((s : SplitProgram) (setup : Setup) (calls : List Call) (st : State) → IsShown s calls st c → true ≡ applies setup st event.Apply)
@@ -219,7 +220,7 @@ pub apply_turned : (x : Given) (c after : Course) (old new : PortState) (command
     → asks_command (Some command) ≡ asked setup s packets calls st event.Apply)
     → ((s : SplitProgram) (setup : Setup) (a : Answers) (calls : List Call) (st : State) → IsShown s calls st c
     → IsShown s (calls ++ CalledCommand command ∷ []) (step setup a st event.Apply) after)
-    → HasTurned x event.Apply Did c old after new
+    → HasAdvanced x event.Apply Did c old after new
 apply_turned x c after old new command going named was spare sound one_less counted applied asks_so shows =
     call_turned x event.Apply c after old new (CalledCommand command) going named was sound (let before = going.spare in omega arith) counted
     (λ events calls st replay h.
@@ -239,24 +240,24 @@ next_at k command e = elim (cases_Bool (ltb k.done k.sent)) [
   | inr f ↦ let none : next k ≡ None = (rw f refl) in absurd (none-some _ (sym none ∙ sym e))
 ]
 
-pub next_named : (x : Given) (c : Course) (command : Command) → IsSound x c → Some command ≡ next c.commit → IsCommandOf (code_for x) command
+pub next_named : (x : Inputs) (c : Course) (command : Command) → IsSound x c → Some command ≡ next c.commit → IsCommandOf (code_for x) command
 next_named x c command sound here =
     each_got (IsCommandOf (code_for x)) (commands c.commit) c.commit.done command (commands_named (code_for x) c.commit.batches sound.updates) (next_at c.commit command here)
 
 -- the same of an event by its name
-pub at_event : (x : Given) (named ev : Event) (stepped : Stepped) (c after : Course) (old new : PortState) → named ≡ ev
-    → HasTurned x ev stepped c old after new → HasTurned x named stepped c old after new
-at_event x named ev stepped c after old new is h = subst (λ e. HasTurned x e stepped c old after new) (sym is) h
+pub at_event : (x : Inputs) (named ev : Event) (stepped : Stepped) (c after : Course) (old new : PortState) → named ≡ ev
+    → HasAdvanced x ev stepped c old after new → HasAdvanced x named stepped c old after new
+at_event x named ev stepped c after old new is h = subst (λ e. HasAdvanced x e stepped c old after new) (sym is) h
 
 -- where no command is to be applied
-pub no_command_turned : (x : Given) (c after : Course) (port : PortState) → IsGoing x c port
+pub no_command_turned : (x : Inputs) (c after : Course) (port : PortState) → CanGoOn x c port
     → ((s : SplitProgram) (setup : Setup) (calls : List Call) (st : State) → IsShown s calls st c → false ≡ applies setup st event.Apply)
     → ((s : SplitProgram) (setup : Setup) (packets : List Packet) (calls : List Call) (st : State) → IsShown s calls st c
     → [] ≡ asked setup s packets calls st event.Apply)
     → ((s : SplitProgram) (setup : Setup) (a : Answers) (calls : List Call) (st : State) → IsShown s calls st c
     → IsShown s (calls ++ []) (step setup a st event.Apply) after)
-    → ((y : Given) → IsSound y c → IsSound y after) → unapplied c ≡ 0 + unapplied after → after.events ≡ c.events + 1
-    → HasTurned x event.Apply Idle c port after port
+    → ((y : Inputs) → IsSound y c → IsSound y after) → unapplied c ≡ 0 + unapplied after → after.events ≡ c.events + 1
+    → HasAdvanced x event.Apply Idle c port after port
 no_command_turned x c after port going never asks_none shows sound same counted =
     let less : unapplied after ≡ unapplied c = omega arith in
     idle_turned x event.Apply Idle c after port going refl (sound x going.sound) less counted

@@ -7,7 +7,7 @@ use Rattle.output_commit.specs.Commit.{Commit, IsInOrder, acknowledged, commands
 use Rattle.output_commit.specs.Batches.{fits}
 use Rattle.output_commit.specs.declared.output.Output.{Output}
 use Rattle.output_commit.specs.declared.output.Release.TheVariants as release
-use Rattle.replay_contracts.specs.Given.{Given}
+use Rattle.replay_contracts.specs.Inputs.{Inputs}
 use Rattle.replay_course.specs.declared.course.Course.{Course}
 use Rattle.replay_state.specs.declared.pass.Pass.{Pass}
 use Rattle.replay_course.specs.Going.{IsSound, unless_waits}
@@ -45,7 +45,7 @@ none_left k = omega arith
 
 -- ## Outputs that go
 
-pub goes_sound : (x : Given) (c after : Course) (j n : ℕ) (f : List ℕ) → IsSound x c
+pub goes_sound : (x : Inputs) (c after : Course) (j n : ℕ) (f : List ℕ) → IsSound x c
     → after ≡ record c { commit = after.commit; down = after.down; events = c.events + 1 }
     → after.commit ≡ after_release c.commit j (slice_get c.commit.held j) → release.Frame n f ≡ answer c.commit (slice_get c.commit.held j)
     → after.down.items ≡ c.down.items ++ (n, f) ∷ [] → IsSound x after

@@ -1,6 +1,6 @@
 -- What stands in a course between its events, whatever its switch answered, and what an event does to it and to its port.
 use Rattle.std.specs.Prelude.{◌≡◌, ◌≤◌, ◌<◌, ◌+◌, ◌-◌, ◌*◌, ◌^◌, ℕ, List, ◌++◌, Option, Some, None, length, map}
-use Rattle.std.specs.Prelude.{Bool, true, false, ⊤, [], ◌∷◌, suc, count_by, slice_get, if◌then◌else◌}
+use Rattle.std.specs.Prelude.{Bool, true, false, ⊤, [], ◌∷◌, suc, count_by, slice_get, if◌then◌else◌, Result}
 use Rattle.std.specs.List.{AllByRecursion as Each}
 use Rattle.packet_fields.specs.declared.packet.Packet.{Packet}
 use Rattle.split_model.specs.Bounds.{HasFewStages}
@@ -15,14 +15,14 @@ use Rattle.switch_ir.specs.declared.port.UpEnd.{UpEnd}
 use Rattle.switch_ir.specs.declared.port.UpEnd.TheVariants as up
 use Rattle.switch_ir.specs.declared.port.DownEnd.{DownEnd}
 use Rattle.switch_ir.specs.declared.port.DownEnd.TheVariants as down
-use Rattle.switch_ir.specs.Port.{BeginsDown, BeginsUp, PassesDown, PassesUp, down_failed, up_failed}
+use Rattle.switch_ir.specs.declared.port.PortError.{PortError}
+use Rattle.switch_ir.specs.Port.{BeginsDown, BeginsUp, PassesDown, PassesUp}
 use Rattle.switch_ir.specs.Port.{PortState, HasNoDownPassOf, HasNoUpPass, HasRoomFor, IsUpdateOf, WaitsForNone}
-use Rattle.split_answers.specs.Through.{down_end_of, end_of}
 use Rattle.split_answers.specs.UnderWay.{IsOnSwitch}
 use Rattle.transfer_header.specs.Told.{number_in}
 use Rattle.writeback_table.specs.declared.command.Command.{Command}
 use Rattle.replay_state.specs.Carried.{Carried}
-use Rattle.replay_state.specs.Journal.{Call, DownAnswer, HasGoneUp, UpAnswer, asked, question_of}
+use Rattle.replay_state.specs.Journal.{Call, HasGoneUp, asked, question_of}
 use Rattle.replay_state.specs.Places.{HavePlaces, IsHeld}
 use Rattle.replay_state.specs.Program.{manner_of}
 use Rattle.replay_state.specs.declared.pass.Pass.{Pass}
@@ -30,10 +30,9 @@ use Rattle.replay_state.specs.State.{Entered, State}
 use Rattle.replay_state.specs.Answers.{Answers}
 use Rattle.replay_state.specs.Step.{applies, ended, step, waits}
 use Rattle.replay_contracts.specs.Called.{KeepsCalls, WasCalled}
-use Rattle.replay_contracts.specs.Given.{Given, IsReady, code_for, setup_for, whole}
+use Rattle.replay_contracts.specs.Inputs.{Inputs, IsReady, code_for, setup_for, whole}
 use Rattle.replay_contracts.specs.Replay.{IsReplay, answered}
-use Rattle.replay_contracts.specs.Replayer.{StaysTold, is_port_fault, stepped_by}
-use Rattle.replay_contracts.specs.declared.job.ReplayError.{ReplayError}
+use Rattle.replay_contracts.specs.Replayer.{StaysTold, stepped_by}
 use Rattle.replay_contracts.specs.declared.job.Stepped.{Stepped}
 use Rattle.replay_course.specs.declared.course.Course.{Course}
 use Rattle.replay_course.specs.Shown.{IsShown}
@@ -41,11 +40,11 @@ use Rattle.replay_course.specs.Shown.{IsShown}
 -- ## How far a replay can go
 
 -- how many commands a packet brings at most
-abbrev pub most_commands : Given → ℕ
+abbrev pub most_commands : Inputs → ℕ
 most_commands x = 3 * (whole x).writes + 2
 
 -- the packets that aren't decided: those of passes before the server, those that went up, and those that are to come
-abbrev pub undecided : Given → Course → ℕ
+abbrev pub undecided : Inputs → Course → ℕ
 undecided x c =
     count_by (λ (pass : Pass). pass.pre) c.passes + length c.up.items + (length x.packets - length c.fates.items)
 
@@ -54,7 +53,7 @@ abbrev pub unapplied : Course → ℕ
 unapplied c = length (commands c.commit) - c.commit.done
 
 -- each packet makes one version and one batch of commands at most, and batches that take up others have fewer
-pub record IsWithin (x : Given) (c : Course) : Type 0 where
+pub record IsWithin (x : Inputs) (c : Course) : Type 0 where
   pub idle : c.idle ≤ c.events
   pub admitted : length c.fates.items ≤ length x.packets
   pub versions : c.server.version + undecided x c ≤ length x.packets
@@ -63,13 +62,13 @@ pub record IsWithin (x : Given) (c : Course) : Type 0 where
 -- ## What stands
 
 -- each batch takes up those behind it that fit, and all commands of all packets can be counted
-pub record IsPrepared (x : Given) : Type 0 where
+pub record IsPrepared (x : Inputs) : Type 0 where
   pub ready : IsReady x
   pub stages : HasFewStages x.split
   pub manner : x.manner ≡ manner_of x.manner.fine
   pub few : length x.packets * most_commands x < 2 ^ 32
 
-pub record IsSound (x : Given) (c : Course) : Type 0 where
+pub record IsSound (x : Inputs) (c : Course) : Type 0 where
   -- the server has the program and its split
   pub program : (server_of c.server).program ≡ x.program
   pub split : (server_of c.server).split ≡ x.split
@@ -91,7 +90,7 @@ pub record IsSound (x : Given) (c : Course) : Type 0 where
   pub within : IsWithin x c
 
 -- the port has the code, and memory for the commands that aren't applied
-pub record IsGoing (x : Given) (c : Course) (port : PortState) : Type 0 where
+pub record CanGoOn (x : Inputs) (c : Course) (port : PortState) : Type 0 where
   pub prepared : IsPrepared x
   pub sound : IsSound x c
   pub loaded : port.code ≡ Some (code_for x)
@@ -106,7 +105,7 @@ abbrev pub ready_next : Course → Option Command
 ready_next c = unless_waits c.passes (next_command c.commit)
 
 -- What the next calls of the port ask for.
-pub record MayCall (x : Given) (c : Course) (port : PortState) : Type 0 where
+pub record MayCall (x : Inputs) (c : Course) (port : PortState) : Type 0 where
   -- the next command finds room where the tables are told, and disturbs no pass
   pub room : (command : Command) → ready_next c ≡ Some command → HasRoomFor port command
   pub waits : (command : Command) → ready_next c ≡ Some command → WaitsForNone port command
@@ -126,47 +125,30 @@ pub record MadeRoom (commands : ℕ) (old new : PortState) : Type 0 where
 -- ## Calls for passes
 
 -- a packet arrives, in a pass of one call or in the first call of one that goes on stage by stage
-abbrev pub TakesUp : Bool → UpEnd → ℕ → Packet → PortState → PortState → Type 0
-TakesUp false end number packet old new = PassesUp end number packet.port packet.bytes old new
-TakesUp true end number packet old new = HasNoUpPass old number × BeginsUp end number packet.port packet.bytes old new
+abbrev pub TakesUp : Bool → Result UpEnd PortError → ℕ → Packet → PortState → PortState → Type 0
+TakesUp false answer number packet old new = PassesUp answer number packet.port packet.bytes old new
+TakesUp true answer number packet old new =
+    HasNoUpPass old number × BeginsUp answer number packet.port packet.bytes old new
 
 -- a frame comes down so
-abbrev pub TakesDown : Bool → DownEnd → List ℕ → PortState → PortState → Type 0
-TakesDown false end frame old new = PassesDown end frame old new
-TakesDown true end frame old new = HasNoDownPassOf old frame × BeginsDown end frame old new
+abbrev pub TakesDown : Bool → Result DownEnd PortError → List ℕ → PortState → PortState → Type 0
+TakesDown false answer frame old new = PassesDown answer frame old new
+TakesDown true answer frame old new = HasNoDownPassOf old frame × BeginsDown answer frame old new
 
 -- a packet more may be undecided, though it is among no others yet
-pub record TakesOneMore (x : Given) (c : Course) : Type 0 where
+pub record TakesOneMore (x : Inputs) (c : Course) : Type 0 where
   pub versions : c.server.version + suc (undecided x c) ≤ length x.packets
   pub commands : length (commands c.commit) + suc (undecided x c) * most_commands x ≤ length x.packets * most_commands x
 
 -- A pass that goes on has stages left, and a packet that goes up has a frame of its layout.
-abbrev pub FitsUp : Given → Pass → UpEnd → Type 0
+abbrev pub FitsUp : Inputs → Pass → UpEnd → Type 0
 FitsUp x pass (up.Finished verdict) = ⊤
 FitsUp x pass (up.Up frame) = IsFrame 1 (up_layout x.program x.split) frame
 FitsUp x pass up.Going = 0 < pass.left
-FitsUp x pass up.Failed = ⊤
-FitsUp x pass up.NoMemory = ⊤
 
 abbrev pub FitsDown : Pass → DownEnd → Type 0
 FitsDown pass (down.Verdict verdict) = ⊤
 FitsDown pass down.Going = 0 < pass.left
-FitsDown pass down.Failed = ⊤
-FitsDown pass down.NoMemory = ⊤
-
--- a call that failed is told as a fault, and any other error is want of memory
-abbrev pub FailsUp : ReplayError → UpEnd → Type 0
-FailsUp e end = is_port_fault e ≡ up_failed end
-
-abbrev pub FailsDown : ReplayError → DownEnd → Type 0
-FailsDown e end = is_port_fault e ≡ down_failed end
-
--- a call that failed and one without memory are errors, and no other is
-abbrev pub IsUpAnswer : UpEnd → Type 0
-IsUpAnswer end = (answer : UpAnswer) × (end ≡ end_of answer)
-
-abbrev pub IsDownAnswer : DownEnd → Type 0
-IsDownAnswer end = (answer : DownAnswer) × (end ≡ down_end_of answer)
 
 -- the pass with which the packet of this number enters now
 abbrev pub pass_for : Course → Bool → ℕ → Pass
@@ -185,13 +167,13 @@ came_to a st pass false = record st { passes = st.passes ++ pass ∷ [] }
 
 -- The packet of a pass before the server came in with the version of the pass, and each packet that is at the server,
 -- or comes down, went up by these calls.
-pub record MayComeIn (calls : List Call) (st : State) (pass : Pass) : Type 0 where
+pub record IsUpPassOf (calls : List Call) (st : State) (pass : Pass) : Type 0 where
   pub gone : Carried (HasGoneUp calls) st
   pub pre : pass.pre ≡ true
   pub entered : (admitted : ℕ) × (slice_get st.progress pass.number ≡ Some (Entered admitted pass.version))
 
 -- The packet of a pass behind the server was run by it, and is none of those that are at the server then, or come down.
-pub record MayComeOut (calls : List Call) (st : State) (pass : Pass) (after : State) : Type 0 where
+pub record IsDownPassOf (calls : List Call) (st : State) (pass : Pass) (after : State) : Type 0 where
   pub gone : Carried (HasGoneUp calls) st
   pub post : pass.pre ≡ false
   pub held : IsHeld st pass.number
@@ -204,7 +186,7 @@ less_one pass = record pass { left = pass.left - 1 }
 -- ## One event
 
 -- by the calls that it asked, the event led from what the course showed to what it shows
-pub record Turns (x : Given) (event : Event) (stepped : Stepped) (calls : List Call) (st : State) (old : PortState)
+pub record TakesStep (x : Inputs) (event : Event) (stepped : Stepped) (calls : List Call) (st : State) (old : PortState)
     (after : Course) (new : PortState) : Type 0 where
   pub one : List Call
   pub asks : map question_of one ≡ asked (setup_for x) (whole x) x.packets (calls ++ one) st event
@@ -213,10 +195,10 @@ pub record Turns (x : Given) (event : Event) (stepped : Stepped) (calls : List C
   pub shown : IsShown (whole x) (calls ++ one) (step (setup_for x) (answered x (calls ++ one)) st event) after
 
 -- so it is of each replay that the course showed
-pub record HasTurned (x : Given) (event : Event) (stepped : Stepped) (c : Course) (old : PortState) (after : Course)
+pub record HasAdvanced (x : Inputs) (event : Event) (stepped : Stepped) (c : Course) (old : PortState) (after : Course)
     (new : PortState) : Type 0 where
-  pub going : IsGoing x after new
+  pub going : CanGoOn x after new
   pub stays : StaysTold old new
   pub counted : after.events ≡ c.events + 1
   pub turns : (events : List Event) (calls : List Call) (st : State)
-      → IsReplay x events calls st old → IsShown (whole x) calls st c → Turns x event stepped calls st old after new
+      → IsReplay x events calls st old → IsShown (whole x) calls st c → TakesStep x event stepped calls st old after new

@@ -10,12 +10,12 @@ use Rattle.switch_ir.specs.Port.{PortState}
 use Rattle.switch_ir.specs.Tables.{Told}
 use Rattle.split_model.specs.Shown.{is_replicated}
 use Rattle.replay_contracts.specs.Called.{KeepsCalls}
-use Rattle.replay_contracts.specs.Given.{Given}
+use Rattle.replay_contracts.specs.Inputs.{Inputs}
 use Rattle.replay_contracts.specs.Promise.{told_parts}
 use Rattle.replay_course.specs.declared.course.Course.{Course}
 
 -- the rows that the port shows of the replicated objects
-pub record ShowsParts (x : Given) (old new : PortState) (parts : List ObjectRows) : Type 0 where
+pub record ShowsParts (x : Inputs) (old new : PortState) (parts : List ObjectRows) : Type 0 where
   pub kept : KeepsCalls old new
   pub rows : (told : Told) → old.told ≡ Some told
       → parts ≡ told_parts (is_replicated x.program x.split) told 0 x.program.objects
@@ -27,7 +27,7 @@ is_done packets c =
     && c.commit.acked == length (commands c.commit)))))
 
 -- the run so far, with these rows of the switch
-abbrev pub told_run : Given → Course → List ObjectRows → Run
+abbrev pub told_run : Inputs → Course → List ObjectRows → Run
 told_run x c parts = record {
   total = length x.packets;
   decided = count_by is_decided c.fates.items;

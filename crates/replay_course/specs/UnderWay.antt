@@ -1,44 +1,43 @@
 -- A course on its way through the events of a schedule, and through those that end a run.
-use Rattle.std.specs.Prelude.{◌≡◌, ℕ, ◌+◌, ◌-◌, ◌*◌, List, ◌++◌, length, Option, Some, None, nat_lt, if◌then◌else◌}
+use Rattle.std.specs.Prelude.{◌≡◌, ℕ, ◌+◌, ◌-◌, ◌*◌, List, ◌++◌, length}
 use Rattle.run_model.specs.declared.event.Event.{Event}
-use Rattle.run_model.specs.declared.event.Event.TheVariants.{Admit, Stage, Serve, Send, Apply, Ack, Hold, Down}
 use Rattle.output_commit.specs.Commit.{commands}
 use Rattle.switch_ir.specs.Port.{PortState}
 use Rattle.replay_state.specs.Drain.{packet_events, pass_events, up_events, weight}
 use Rattle.replay_state.specs.Journal.{Call}
 use Rattle.replay_state.specs.State.{State}
-use Rattle.replay_contracts.specs.Given.{Given, setup_for, whole}
+use Rattle.replay_contracts.specs.Inputs.{Inputs, setup_for, whole}
 use Rattle.replay_contracts.specs.Replay.{HasDrained, HasPicked, IsReplay}
 use Rattle.replay_contracts.specs.Replayer.{StaysTold}
 use Rattle.replay_course.specs.declared.course.Course.{Course}
-use Rattle.replay_course.specs.Going.{IsGoing}
+use Rattle.replay_course.specs.Going.{CanGoOn}
 use Rattle.replay_course.specs.Shown.{IsShown}
 
 -- ## The events of a schedule
 
 -- some calls made a replay of these events, which the course shows
-pub record IsUnderWay (x : Given) (events : List Event) (c : Course) (port : PortState) : Type 0 where
+pub record HasReplayed (x : Inputs) (events : List Event) (c : Course) (port : PortState) : Type 0 where
   pub calls : List Call
   pub st : State
   pub replay : IsReplay x events calls st port
   pub shown : IsShown (whole x) calls st c
-  pub going : IsGoing x c port
+  pub going : CanGoOn x c port
   pub counted : c.events ≡ length events
 
 -- the same from a port as it was before
-pub record HasGone (x : Given) (events : List Event) (c : Course) (first port : PortState) : Type 0 where
-  pub under_way : IsUnderWay x events c port
+pub record HasReplayedFrom (x : Inputs) (events : List Event) (c : Course) (first port : PortState) : Type 0 where
+  pub under_way : HasReplayed x events c port
   pub stays : StaysTold first port
 
 -- so it is of some events
-pub record IsOnItsWay (x : Given) (c : Course) (port : PortState) : Type 0 where
+pub record HasReplayedSome (x : Inputs) (c : Course) (port : PortState) : Type 0 where
   pub events : List Event
-  pub under_way : IsUnderWay x events c port
+  pub under_way : HasReplayed x events c port
 
 -- ## The events that end a run
 
 -- how many events are left at most, by what the course has
-abbrev pub course_left : Given → Course → ℕ
+abbrev pub course_left : Inputs → Course → ℕ
 course_left x c =
     (length x.packets - length c.fates.items) * packet_events (setup_for x)
     + weight (pass_events (setup_for x)) c.passes + length c.up.items * up_events (setup_for x)
@@ -46,20 +45,8 @@ course_left x c =
     + 3 * (length (commands c.commit) - c.commit.sent) + 2 * (c.commit.sent - c.commit.done)
     + (c.commit.done - c.commit.acked)
 
--- the event that comes next, of a trace with so many packets
-abbrev pub picked_by : ℕ → Course → Option Event
-picked_by packets c =
-    if nat_lt 0 (length c.passes) then Some (Stage 0)
-    else (if nat_lt c.commit.acked c.commit.done then Some Ack
-    else (if nat_lt c.commit.done c.commit.sent then Some Apply
-    else (if nat_lt c.commit.sent (length (commands c.commit)) then Some Send
-    else (if nat_lt 0 (length c.down.items) then Some (Down 0)
-    else (if nat_lt 0 (length c.commit.held) then Some (Hold 0)
-    else (if nat_lt 0 (length c.up.items) then Some (Serve 0)
-    else (if nat_lt (length c.fates.items) packets then Some Admit else None)))))))
-
 -- so many events behind others, each the one that drain picks, and the calls that they made
-pub record HasPickedOn (x : Given) (events : List Event) (calls : List Call) (count : ℕ) (after : Course)
+pub record HasPickedOn (x : Inputs) (events : List Event) (calls : List Call) (count : ℕ) (after : Course)
     (new : PortState) : Type 0 where
   pub more : List Event
   pub others : List Call
@@ -69,23 +56,23 @@ pub record HasPickedOn (x : Given) (events : List Event) (calls : List Call) (co
   pub counted : length more ≡ count
 
 -- and they have drained the run
-pub record HasDrainedOn (x : Given) (events : List Event) (calls : List Call) (count : ℕ) (after : Course)
+pub record HasDrainedOn (x : Inputs) (events : List Event) (calls : List Call) (count : ℕ) (after : Course)
     (new : PortState) : Type 0 where
   pub on : HasPickedOn x events calls count after new
   pub drained : HasDrained x events on.more (calls ++ on.others) on.last new
 
 -- so it is of each replay that the course showed
-pub record IsDraining (x : Given) (count : ℕ) (c : Course) (old : PortState) (after : Course) (new : PortState)
+pub record IsDraining (x : Inputs) (count : ℕ) (c : Course) (old : PortState) (after : Course) (new : PortState)
     : Type 0 where
-  pub going : IsGoing x after new
+  pub going : CanGoOn x after new
   pub stays : StaysTold old new
   pub events : after.events ≡ c.events + count
   pub turns : (events : List Event) (calls : List Call) (st : State)
       → IsReplay x events calls st old → IsShown (whole x) calls st c → HasPickedOn x events calls count after new
 
-pub record Drains (x : Given) (count : ℕ) (c : Course) (old : PortState) (after : Course) (new : PortState)
+pub record Drains (x : Inputs) (count : ℕ) (c : Course) (old : PortState) (after : Course) (new : PortState)
     : Type 0 where
-  pub going : IsGoing x after new
+  pub going : CanGoOn x after new
   pub stays : StaysTold old new
   pub events : after.events ≡ c.events + count
   pub turns : (events : List Event) (calls : List Call) (st : State)

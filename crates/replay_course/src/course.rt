@@ -1,31 +1,32 @@
-//! The state of a replay between two events, and how packets, commands and passes change it.
+//! A course is the state of a replay between two events: its passes under way, its frames and outputs on their way, its
+//! commands, and what became of each packet. Each method here is one step of what an event does.
 ghost use Rattle.std.specs.Prelude.{◌≡◌, ◌<◌, ◌≤◌, ◌-◌, ◌^◌, ◌++◌, List, true, false, length, Some, None, is_some};
-ghost use Rattle.std.specs.Prelude.{IfErr, IfOk, OnOk, ◌+◌, if◌then◌else◌};
+ghost use Rattle.std.specs.Prelude.{IfOk, OnOk, ◌+◌, if◌then◌else◌};
 ghost use Rattle.packet_fields.specs.declared.packet.Packet.{Packet};
 ghost use Rattle.run_model.specs.declared.event.Event.{Event};
 ghost use Rattle.run_model.specs.declared.event.Event.TheVariants as event;
 ghost use Rattle.replay_state.specs.Answers.{Answers, Setup};
-ghost use Rattle.replay_state.specs.Journal.{Call, DownAnswer, UpAnswer, asked, asks_command, down_answer, journal};
+ghost use Rattle.replay_state.specs.Journal.{Call, asked, asks_command, down_answer, journal};
 ghost use Rattle.replay_state.specs.Journal.{down_end as down_ended, is_down_end, is_up_end, up_answer};
 ghost use Rattle.replay_state.specs.Journal.{up_end as up_ended};
 ghost use Rattle.replay_state.specs.Program.{SplitProgram};
 ghost use Rattle.replay_state.specs.State.{State, first_state};
 ghost use Rattle.replay_state.specs.Step.{applies, came, step, tick};
-ghost use Rattle.replay_contracts.specs.Given.{Given, setup_for};
+ghost use Rattle.replay_contracts.specs.Inputs.{Inputs, setup_for};
 ghost use Rattle.replay_contracts.specs.Replayer.{stepped_by};
 ghost use Rattle.output_commit.specs.Batches.{fits};
 ghost use Rattle.output_commit.specs.Commit.{next};
-ghost use Rattle.split_answers.specs.Through.{down_end_of, end_of};
+ghost use Rattle.split_answers.specs.Through.{answer_of, down_answer_of};
 ghost use Rattle.server_runtime.specs.Views.{server_of};
-ghost use Rattle.replay_course.specs.Going.{FailsDown, FailsUp, FitsDown, FitsUp, IsDownAnswer, IsSound, IsUpAnswer};
-ghost use Rattle.replay_course.specs.Going.{MayComeIn, MayComeOut, TakesOneMore, came_to, pass_for, ready_next, unapplied};
+ghost use Rattle.replay_course.specs.Going.{FitsDown, FitsUp, IsSound};
+ghost use Rattle.replay_course.specs.Going.{IsUpPassOf, IsDownPassOf, TakesOneMore, came_to, pass_for, ready_next, unapplied};
 ghost use Rattle.replay_course.specs.Shown.{IsShown, called};
 
 use crate::fates::{finish_at, release_at, send_up_at};
 use crate::pass_queue::PassQueue;
 use gal_io::{Bytes, NoMemory};
 use output_commit::{Commit, Release};
-use replay_contracts::{ReplayError, Stepped};
+use replay_contracts::Stepped;
 use replay_state::Pass;
 use run_model::Fate;
 use server_runtime::Server;
@@ -68,7 +69,7 @@ impl Course {
         ensures shown { (s : SplitProgram) (calls : List Call)
             → IsShown s calls (first_state server.store) result }
         ensures server { result.server ≡ server }
-        ensures sound { (x : Given) → (server_of server).program ≡ x.program → (server_of server).split ≡ x.split
+        ensures sound { (x : Inputs) → (server_of server).program ≡ x.program → (server_of server).split ≡ x.split
             → writeback ≡ x.writeback → pre_stages ≡ (setup_for x).pre_stages
             → post_stages ≡ (setup_for x).post_stages → IsSound x result }
         ensures unapplied { unapplied result ≡ 0 }
@@ -95,7 +96,7 @@ impl Course {
         ensures shown { (s : SplitProgram) (setup : Setup) (a : Answers) (calls : List Call) (st : State)
             (event : Event) → applies setup st event ≡ false
             → IsShown s calls st self.old → IsShown s calls (step setup a st event) self.new }
-        ensures sound { (x : Given) → IsSound x self.old → IsSound x self.new }
+        ensures sound { (x : Inputs) → IsSound x self.old → IsSound x self.new }
         ensures unapplied { unapplied self.new ≡ unapplied self.old }
         ensures counted { self.new.events ≡ self.old.events + 1 }
     {
@@ -128,7 +129,7 @@ impl Course {
         ensures pass { IfOk result (λ pass. pass ≡ pass_for self.old true (length self.old.fates.items)) }
         ensures shown { OnOk result ((s : SplitProgram) (calls : List Call) (st : State)
             → IsShown s calls st self.old → IsShown s calls (came (tick st)) self.new) }
-        ensures sound { OnOk result ((x : Given) → IsSound x self.old
+        ensures sound { OnOk result ((x : Inputs) → IsSound x self.old
             → length self.old.fates.items < length x.packets → IsSound x self.new × TakesOneMore x self.new) }
         ensures unapplied { OnOk result (unapplied self.new ≡ unapplied self.old) }
         ensures counted { OnOk result (self.new.events ≡ self.old.events + 1) }
@@ -141,18 +142,18 @@ impl Course {
         Ok(pass)
     }
 
-    /// Takes up the end of a call over a packet that arrived: its pass has ended, or goes last among those under way.
-    pub fn come_in(&mut self, pass: Pass, end: UpEnd) -> Result<(), ReplayError>
-        ensures answers { OnOk result (IsUpAnswer end) }
-        ensures shown { OnOk result ((s : SplitProgram) (calls more : List Call) (st : State) (answer : UpAnswer)
-            → IsShown s calls st self.old → MayComeIn calls st pass → end ≡ end_of answer
-            → up_answer (calls ++ more) pass.number ≡ up_ended answer
-            → IsShown s (calls ++ more) (came_to (journal s (calls ++ more)) st pass (is_up_end answer)) self.new) }
-        ensures sound { OnOk result ((x : Given) → IsSound x self.old → TakesOneMore x self.old → FitsUp x pass end
+    /// Notes what the switch answered of a packet that arrived: the packet has its verdict, or its frame is on its way up,
+    /// or its pass has stages left and stands behind the others under way.
+    pub fn come_in(&mut self, pass: Pass, end: UpEnd) -> Result<(), NoMemory>
+        ensures shown { OnOk result ((s : SplitProgram) (calls more : List Call) (st : State)
+            → IsShown s calls st self.old → IsUpPassOf calls st pass
+            → up_answer (calls ++ more) pass.number ≡ up_ended (answer_of end)
+            → IsShown s (calls ++ more)
+            (came_to (journal s (calls ++ more)) st pass (is_up_end (answer_of end))) self.new) }
+        ensures sound { OnOk result ((x : Inputs) → IsSound x self.old → TakesOneMore x self.old → FitsUp x pass end
             → IsSound x self.new) }
         ensures unapplied { OnOk result (unapplied self.new ≡ unapplied self.old) }
         ensures counted { OnOk result (self.new.events ≡ self.old.events) }
-        ensures fails { IfErr result (λ e. FailsUp e end) }
     {
         match end {
             UpEnd::Finished(verdict) => {
@@ -174,25 +175,23 @@ impl Course {
                 self.passes.push(pass)?;
                 Ok(())
             }
-            UpEnd::Failed => Err(ReplayError::PortFault),
-            UpEnd::NoMemory => Err(ReplayError::NoMemory),
         }
     }
 
-    /// Takes up the end of a call over a packet that came down: the packet is released, or its pass goes last among those
-    /// under way.
-    pub fn come_out(&mut self, pass: Pass, end: DownEnd) -> Result<(), ReplayError>
-        ensures answers { OnOk result (IsDownAnswer end) }
-        ensures shown { OnOk result ((s : SplitProgram) (calls more : List Call) (st : State) (answer : DownAnswer)
+    /// Notes what the switch answered of a packet that came down: the packet is released, or its pass has stages left and
+    /// stands behind the others under way.
+    pub fn come_out(&mut self, pass: Pass, end: DownEnd) -> Result<(), NoMemory>
+        ensures shown { OnOk result ((s : SplitProgram) (calls more : List Call) (st : State)
             → IsShown s calls st self.old
-            → MayComeOut calls st pass (came_to (journal s (calls ++ more)) st pass (is_down_end answer))
-            → end ≡ down_end_of answer → down_answer (calls ++ more) pass.number ≡ down_ended answer
-            → IsShown s (calls ++ more) (came_to (journal s (calls ++ more)) st pass (is_down_end answer)) self.new) }
-        ensures sound { OnOk result ((x : Given) → IsSound x self.old → pass.pre ≡ false → FitsDown pass end
+            → IsDownPassOf calls st pass
+            (came_to (journal s (calls ++ more)) st pass (is_down_end (down_answer_of end)))
+            → down_answer (calls ++ more) pass.number ≡ down_ended (down_answer_of end)
+            → IsShown s (calls ++ more)
+            (came_to (journal s (calls ++ more)) st pass (is_down_end (down_answer_of end))) self.new) }
+        ensures sound { OnOk result ((x : Inputs) → IsSound x self.old → pass.pre ≡ false → FitsDown pass end
             → IsSound x self.new) }
         ensures unapplied { OnOk result (unapplied self.new ≡ unapplied self.old) }
         ensures counted { OnOk result (self.new.events ≡ self.old.events) }
-        ensures fails { IfErr result (λ e. FailsDown e end) }
     {
         match end {
             DownEnd::Verdict(verdict) => {
@@ -203,8 +202,6 @@ impl Course {
                 self.passes.push(pass)?;
                 Ok(())
             }
-            DownEnd::Failed => Err(ReplayError::PortFault),
-            DownEnd::NoMemory => Err(ReplayError::NoMemory),
         }
     }
 
@@ -216,7 +213,7 @@ impl Course {
             → IsShown s calls st self.old → result ≡ stepped_by (applies setup st event.Ack) }
         ensures shown { (s : SplitProgram) (setup : Setup) (a : Answers) (calls : List Call) (st : State)
             → IsShown s calls st self.old → IsShown s calls (step setup a st event.Ack) self.new }
-        ensures sound { (x : Given) → IsSound x self.old → IsSound x self.new }
+        ensures sound { (x : Inputs) → IsSound x self.old → IsSound x self.new }
         ensures unapplied { unapplied self.new ≡ unapplied self.old }
         ensures counted { self.new.events ≡ self.old.events + 1 }
     {
@@ -238,7 +235,7 @@ impl Course {
         ensures shown { (s : SplitProgram) (setup : Setup) (a : Answers) (calls : List Call) (st : State)
             → setup.fits ≡ fits self.old.commit.writeback
             → IsShown s calls st self.old → IsShown s calls (step setup a st event.Send) self.new }
-        ensures sound { (x : Given) → IsSound x self.old → IsSound x self.new }
+        ensures sound { (x : Inputs) → IsSound x self.old → IsSound x self.new }
         ensures unapplied { unapplied self.new ≤ unapplied self.old }
         ensures counted { self.new.events ≡ self.old.events + 1 }
     {
@@ -277,8 +274,8 @@ impl Course {
             → IsShown s calls st self.old
             → IsShown s (calls ++ called result) (step setup a st event.Apply) self.new }
         ensures next { result ≡ ready_next self.old }
-        ensures sound { (x : Given) → IsSound x self.old → IsSound x self.new }
-        ensures unapplied { (x : Given) → IsSound x self.old
+        ensures sound { (x : Inputs) → IsSound x self.old → IsSound x self.new }
+        ensures unapplied { (x : Inputs) → IsSound x self.old
             → unapplied self.old ≡ (if is_some result then 1 else 0) + unapplied self.new }
         ensures counted { self.new.events ≡ self.old.events + 1 }
     {
@@ -302,7 +299,7 @@ impl Course {
             → IsShown s calls st self.old → stepped ≡ stepped_by (applies setup st (event.Hold j))) }
         ensures shown { OnOk result ((s : SplitProgram) (setup : Setup) (a : Answers) (calls : List Call) (st : State)
             → IsShown s calls st self.old → IsShown s calls (step setup a st (event.Hold j)) self.new) }
-        ensures sound { OnOk result ((x : Given) → IsSound x self.old → IsSound x self.new) }
+        ensures sound { OnOk result ((x : Inputs) → IsSound x self.old → IsSound x self.new) }
         ensures unapplied { OnOk result (unapplied self.new ≡ unapplied self.old) }
         ensures counted { OnOk result (self.new.events ≡ self.old.events + 1) }
     {

@@ -30,7 +30,7 @@ impl Model for PassQueue {
 }
 
 impl PassQueue {
-    /// None. This takes no memory; `push` takes it from `alloc`.
+    /// No passes. This takes no memory; `push` takes it from `alloc`.
     pub fn new(alloc: Global) -> PassQueue
         ensures { result ≡ [] }
     {

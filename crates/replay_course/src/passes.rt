@@ -1,10 +1,10 @@
 //! The events that call the switch.
-ghost use Rattle.std.specs.Prelude.{◌≡◌, ◌<◌, ◌≤◌, ◌-◌, ◌^◌, Some, true, false, length, slice_get, IfErr, IfOk};
+ghost use Rattle.std.specs.Prelude.{◌<◌, ◌≤◌, ◌-◌, ◌^◌, length, IfErr, IfOk};
 ghost use Rattle.packet_fields.specs.Sizes.{largest_packet};
 ghost use Rattle.run_model.specs.declared.event.Event.TheVariants as event;
 ghost use Rattle.switch_ir.specs.Port.{HasNoDownPassOf, HasNoUpPass, IsDownFrame, IsLoaded};
-ghost use Rattle.replay_contracts.specs.Replayer.{Fails, given_of};
-ghost use Rattle.replay_course.specs.Going.{HasTurned, IsGoing, MayCall, TakesDown, TakesUp};
+ghost use Rattle.replay_contracts.specs.Replayer.{Fails, inputs_of};
+ghost use Rattle.replay_course.specs.Going.{HasAdvanced, CanGoOn, MayCall, TakesDown, TakesUp};
 
 use crate::course::Course;
 use gal_io::Bytes;
@@ -12,7 +12,7 @@ use packet_fields::Packet;
 use replay_contracts::{Job, ReplayError, Stepped};
 use replay_state::Pass;
 use std::alloc::Global;
-use switch_ir::{CommandEnd, DownEnd, SwitchPort, UpEnd};
+use switch_ir::{DownEnd, PortError, SwitchPort, UpEnd};
 
 // The switch takes a packet that arrived: in one call, or in the first of those for the stages of its pass.
 fn arrive<S: SwitchPort>(
@@ -21,7 +21,7 @@ fn arrive<S: SwitchPort>(
     fine: bool,
     number: u32,
     packet: &Packet,
-) -> UpEnd
+) -> Result<UpEnd, PortError>
     requires loaded { IsLoaded (S.seen port.old) }
     requires size { length packet.now.bytes ≤ largest_packet }
     requires none { HasNoUpPass (S.seen port.old) number }
@@ -35,7 +35,12 @@ fn arrive<S: SwitchPort>(
 }
 
 // The switch takes a frame that comes down, in the same way.
-fn come_down<S: SwitchPort>(alloc: Global, port: &mut S, fine: bool, frame: &Bytes) -> DownEnd
+fn come_down<S: SwitchPort>(
+    alloc: Global,
+    port: &mut S,
+    fine: bool,
+    frame: &Bytes,
+) -> Result<DownEnd, PortError>
     requires loaded { IsLoaded (S.seen port.old) }
     requires frame { IsDownFrame (S.seen port.old) frame.now }
     requires none { HasNoDownPassOf (S.seen port.old) frame.now }
@@ -56,86 +61,20 @@ impl Course {
         job: &Job,
         port: &mut S,
     ) -> Result<Stepped, ReplayError>
-        requires going { IsGoing (given_of job.now) self.old (S.seen port.old) }
+        requires going { CanGoOn (inputs_of job.now) self.old (S.seen port.old) }
         requires events { self.old.events < 2 ^ 32 - 1 }
-        requires may_call { MayCall (given_of job.now) self.old (S.seen port.old) }
+        requires may_call { MayCall (inputs_of job.now) self.old (S.seen port.old) }
         ensures turned { IfOk result (λ stepped.
-            HasTurned (given_of job.now) event.Admit stepped self.old (S.seen port.old) self.new (S.seen port.new)) }
+            HasAdvanced (inputs_of job.now) event.Admit stepped self.old (S.seen port.old) self.new (S.seen port.new)) }
         ensures fails { IfErr result (λ e. Fails e (S.seen port.old) (S.seen port.new)) }
     {
         let Some(packet) = job.packets.as_slice().get(self.fates.len()) else {
             return Ok(self.idled());
         };
         let pass = self.admit_next()?;
-        let end = arrive(alloc, port, job.fine, pass.number, packet);
+        let end = arrive(alloc, port, job.fine, pass.number, packet)?;
         self.come_in(pass, end)?;
         Ok(Stepped::Did)
-    }
-
-    // The pass at place `j`, of a packet that arrived, takes a stage.
-    fn stage_up<S: SwitchPort>(
-        &mut self,
-        alloc: Global,
-        job: &Job,
-        port: &mut S,
-        j: u32,
-        pass: Pass,
-    ) -> Result<Stepped, ReplayError>
-        requires there { slice_get self.old.passes j ≡ Some pass }
-        requires kind { pass.pre ≡ true }
-        requires going { IsGoing (given_of job.now) self.old (S.seen port.old) }
-        requires events { self.old.events < 2 ^ 32 - 1 }
-        requires may_call { MayCall (given_of job.now) self.old (S.seen port.old) }
-        ensures turned { IfOk result (λ stepped.
-            HasTurned (given_of job.now) (event.Stage j) stepped self.old (S.seen port.old) self.new
-            (S.seen port.new)) }
-        ensures fails { IfErr result (λ e. Fails e (S.seen port.old) (S.seen port.new)) }
-    {
-        self.events += 1;
-        match port.stage_up(alloc, pass.number) {
-            UpEnd::Going => {
-                self.passes.take_stage(j as usize, pass);
-                Ok(Stepped::Did)
-            }
-            end => {
-                let _ = self.passes.remove(j as usize);
-                self.come_in(pass, end)?;
-                Ok(Stepped::Did)
-            }
-        }
-    }
-
-    // The pass at place `j`, of a packet that came down, takes a stage.
-    fn stage_down<S: SwitchPort>(
-        &mut self,
-        alloc: Global,
-        job: &Job,
-        port: &mut S,
-        j: u32,
-        pass: Pass,
-    ) -> Result<Stepped, ReplayError>
-        requires there { slice_get self.old.passes j ≡ Some pass }
-        requires kind { pass.pre ≡ false }
-        requires going { IsGoing (given_of job.now) self.old (S.seen port.old) }
-        requires events { self.old.events < 2 ^ 32 - 1 }
-        requires may_call { MayCall (given_of job.now) self.old (S.seen port.old) }
-        ensures turned { IfOk result (λ stepped.
-            HasTurned (given_of job.now) (event.Stage j) stepped self.old (S.seen port.old) self.new
-            (S.seen port.new)) }
-        ensures fails { IfErr result (λ e. Fails e (S.seen port.old) (S.seen port.new)) }
-    {
-        self.events += 1;
-        match port.stage_down(alloc, pass.number) {
-            DownEnd::Going => {
-                self.passes.take_stage(j as usize, pass);
-                Ok(Stepped::Did)
-            }
-            end => {
-                let _ = self.passes.remove(j as usize);
-                self.come_out(pass, end)?;
-                Ok(Stepped::Did)
-            }
-        }
     }
 
     /// The pass at place `j` of those under way takes a stage.
@@ -146,40 +85,59 @@ impl Course {
         port: &mut S,
         j: u32,
     ) -> Result<Stepped, ReplayError>
-        requires going { IsGoing (given_of job.now) self.old (S.seen port.old) }
+        requires going { CanGoOn (inputs_of job.now) self.old (S.seen port.old) }
         requires events { self.old.events < 2 ^ 32 - 1 }
-        requires may_call { MayCall (given_of job.now) self.old (S.seen port.old) }
+        requires may_call { MayCall (inputs_of job.now) self.old (S.seen port.old) }
         ensures turned { IfOk result (λ stepped.
-            HasTurned (given_of job.now) (event.Stage j) stepped self.old (S.seen port.old) self.new
+            HasAdvanced (inputs_of job.now) (event.Stage j) stepped self.old (S.seen port.old) self.new
             (S.seen port.new)) }
         ensures fails { IfErr result (λ e. Fails e (S.seen port.old) (S.seen port.new)) }
     {
         let Some(pass) = self.passes.get(j as usize) else {
             return Ok(self.idled());
         };
+        self.events += 1;
         if pass.pre {
-            self.stage_up(alloc, job, port, j, pass)
+            match port.stage_up(alloc, pass.number)? {
+                UpEnd::Going => {
+                    self.passes.take_stage(j as usize, pass);
+                    Ok(Stepped::Did)
+                }
+                end => {
+                    let _ = self.passes.remove(j as usize);
+                    self.come_in(pass, end)?;
+                    Ok(Stepped::Did)
+                }
+            }
         } else {
-            self.stage_down(alloc, job, port, j, pass)
+            match port.stage_down(alloc, pass.number)? {
+                DownEnd::Going => {
+                    self.passes.take_stage(j as usize, pass);
+                    Ok(Stepped::Did)
+                }
+                end => {
+                    let _ = self.passes.remove(j as usize);
+                    self.come_out(pass, end)?;
+                    Ok(Stepped::Did)
+                }
+            }
         }
     }
 
     /// The switch applies the next command, unless it has to wait for a pass under way.
     pub fn apply<S: SwitchPort>(&mut self, job: &Job, port: &mut S) -> Result<Stepped, ReplayError>
-        requires going { IsGoing (given_of job.now) self.old (S.seen port.old) }
+        requires going { CanGoOn (inputs_of job.now) self.old (S.seen port.old) }
         requires events { self.old.events < 2 ^ 32 - 1 }
-        requires may_call { MayCall (given_of job.now) self.old (S.seen port.old) }
+        requires may_call { MayCall (inputs_of job.now) self.old (S.seen port.old) }
         ensures turned { IfOk result (λ stepped.
-            HasTurned (given_of job.now) event.Apply stepped self.old (S.seen port.old) self.new (S.seen port.new)) }
+            HasAdvanced (inputs_of job.now) event.Apply stepped self.old (S.seen port.old) self.new (S.seen port.new)) }
         ensures fails { IfErr result (λ e. Fails e (S.seen port.old) (S.seen port.new)) }
     {
         let Some(command) = self.next_command() else {
             return Ok(Stepped::Idle);
         };
-        match port.command(&command) {
-            CommandEnd::Done => Ok(Stepped::Did),
-            CommandEnd::Failed => Err(ReplayError::PortFault),
-        }
+        port.command(&command)?;
+        Ok(Stepped::Did)
     }
 
     /// The switch takes the frame at place `j` of those that come down.
@@ -190,11 +148,11 @@ impl Course {
         port: &mut S,
         j: u32,
     ) -> Result<Stepped, ReplayError>
-        requires going { IsGoing (given_of job.now) self.old (S.seen port.old) }
+        requires going { CanGoOn (inputs_of job.now) self.old (S.seen port.old) }
         requires events { self.old.events < 2 ^ 32 - 1 }
-        requires may_call { MayCall (given_of job.now) self.old (S.seen port.old) }
+        requires may_call { MayCall (inputs_of job.now) self.old (S.seen port.old) }
         ensures turned { IfOk result (λ stepped.
-            HasTurned (given_of job.now) (event.Down j) stepped self.old (S.seen port.old) self.new
+            HasAdvanced (inputs_of job.now) (event.Down j) stepped self.old (S.seen port.old) self.new
             (S.seen port.new)) }
         ensures fails { IfErr result (λ e. Fails e (S.seen port.old) (S.seen port.new)) }
     {
@@ -203,7 +161,7 @@ impl Course {
         };
         self.events += 1;
         let pass = self.entering(false, number);
-        let end = come_down(alloc, port, job.fine, &frame);
+        let end = come_down(alloc, port, job.fine, &frame)?;
         self.come_out(pass, end)?;
         Ok(Stepped::Did)
     }

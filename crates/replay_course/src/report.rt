@@ -1,14 +1,13 @@
 //! What is reported of a replay.
 ghost use Rattle.std.specs.Prelude.{◌≡◌, ◌<◌, ◌^◌, List, Some, length, IfErr, IfOk};
 ghost use Rattle.flat_ir.specs.Program.{program_of};
-ghost use Rattle.switch_ir.specs.Port.{HasReplicated, IsLoaded, ShowsRows};
 ghost use Rattle.split_answers.specs.Whole.{IsSplit};
 ghost use Rattle.replay_state.specs.Journal.{Call};
 ghost use Rattle.replay_state.specs.State.{State};
-ghost use Rattle.replay_contracts.specs.Given.{code_for, whole};
+ghost use Rattle.replay_contracts.specs.Inputs.{code_for, whole};
 ghost use Rattle.replay_contracts.specs.Promise.{Reports};
-ghost use Rattle.replay_contracts.specs.Replayer.{Fails, given_of};
-ghost use Rattle.replay_course.specs.Going.{IsGoing};
+ghost use Rattle.replay_contracts.specs.Replayer.{Fails, inputs_of};
+ghost use Rattle.replay_course.specs.Going.{CanGoOn};
 ghost use Rattle.replay_course.specs.Shown.{IsShown};
 ghost use Rattle.replay_course.specs.Telling.{ShowsParts, is_done, told_run};
 
@@ -18,27 +17,8 @@ use gal_io::NoMemory;
 use replay_contracts::{Job, ReplayError, Replayed};
 use run_model::{Fates, ObjectRows, Run, StoreRows, order};
 use split_model::replicated;
-use state_store::Rows;
 use std::alloc::Global;
-use switch_ir::{RowsEnd, SwitchPort};
-
-// The rows of an object that lookups on the switch see.
-fn visible_rows<S: SwitchPort>(
-    alloc: Global,
-    port: &mut S,
-    object: u32,
-) -> Result<Rows, ReplayError>
-    requires loaded { IsLoaded (S.seen port.old) }
-    requires replicated { HasReplicated (S.seen port.old) object }
-    ensures shows { IfOk result (λ rows. ShowsRows (RowsEnd.Rows rows) object (S.seen port.old) (S.seen port.new)) }
-    ensures fails { IfErr result (λ e. Fails e (S.seen port.old) (S.seen port.new)) }
-{
-    match port.visible(alloc, object) {
-        RowsEnd::Rows(rows) => Ok(rows),
-        RowsEnd::Failed => Err(ReplayError::PortFault),
-        RowsEnd::NoMemory => Err(ReplayError::NoMemory),
-    }
-}
+use switch_ir::SwitchPort;
 
 // The rows of each replicated object that lookups on the switch see.
 fn switch_parts<S: SwitchPort>(
@@ -47,15 +27,15 @@ fn switch_parts<S: SwitchPort>(
     port: &mut S,
 ) -> Result<StoreRows, ReplayError>
     requires split { IsSplit (program_of job.now.flat) job.now.split job.now.writeback }
-    requires code { (S.seen port.old).code ≡ Some (code_for (given_of job.now)) }
-    ensures shows { IfOk result (λ parts. ShowsParts (given_of job.now) (S.seen port.old) (S.seen port.new) parts) }
+    requires code { (S.seen port.old).code ≡ Some (code_for (inputs_of job.now)) }
+    ensures shows { IfOk result (λ parts. ShowsParts (inputs_of job.now) (S.seen port.old) (S.seen port.new) parts) }
     ensures fails { IfErr result (λ e. Fails e (S.seen port.old) (S.seen port.new)) }
 {
     let mut parts = Vec::new(alloc);
     for number in 0..job.flat.objects.as_slice().len() {
         let object = number as u32;
         if replicated(&job.flat, &job.split, object) {
-            let rows = visible_rows(alloc, port, object)?;
+            let rows = port.visible(alloc, object)?;
             parts.push(ObjectRows { object, rows })?;
         }
     }
@@ -81,7 +61,7 @@ impl Course {
         requires split { IsSplit (program_of job.now.flat) job.now.split job.now.writeback }
         requires few_packets { length job.now.packets < 2 ^ 32 }
         requires few { length self.now.fates.items < 2 ^ 32 }
-        ensures { IfOk result (λ run. run ≡ told_run (given_of job.now) self.now switch) }
+        ensures { IfOk result (λ run. run ≡ told_run (inputs_of job.now) self.now switch) }
     {
         let objects = StoreRows::of(alloc, job.flat.objects.as_slice(), self.server.store())?;
         let fates = copy_fates(alloc, &self.fates)?;
@@ -107,7 +87,7 @@ impl Course {
         requires split { IsSplit (program_of job.now.flat) job.now.split job.now.writeback }
         requires few_packets { length job.now.packets < 2 ^ 32 }
         requires few { length self.fates.items < 2 ^ 32 }
-        ensures { IfOk result (λ run. run ≡ told_run (given_of job.now) self switch) }
+        ensures { IfOk result (λ run. run ≡ told_run (inputs_of job.now) self switch) }
     {
         let objects = StoreRows::of(alloc, job.flat.objects.as_slice(), self.server.store())?;
         let packets = job.packets.len();
@@ -138,10 +118,10 @@ impl Course {
         job: &Job,
         port: &mut S,
     ) -> Result<Replayed, ReplayError>
-        requires going { IsGoing (given_of job.now) self (S.seen port.old) }
+        requires going { CanGoOn (inputs_of job.now) self (S.seen port.old) }
         ensures reports { IfOk result (λ replayed. (calls : List Call) (st : State)
-            → IsShown (whole (given_of job.now)) calls st self
-            → Reports (given_of job.now) st (S.seen port.old) (S.seen port.new) replayed.run replayed.commands) }
+            → IsShown (whole (inputs_of job.now)) calls st self
+            → Reports (inputs_of job.now) st (S.seen port.old) (S.seen port.new) replayed.run replayed.commands) }
         ensures fails { IfErr result (λ e. Fails e (S.seen port.old) (S.seen port.new)) }
     {
         let switch = switch_parts(alloc, job, port)?;
@@ -157,10 +137,10 @@ impl Course {
         job: &Job,
         port: &mut S,
     ) -> Result<Replayed, ReplayError>
-        requires going { IsGoing (given_of job.now) self.now (S.seen port.old) }
+        requires going { CanGoOn (inputs_of job.now) self.now (S.seen port.old) }
         ensures reports { IfOk result (λ replayed. (calls : List Call) (st : State)
-            → IsShown (whole (given_of job.now)) calls st self.now
-            → Reports (given_of job.now) st (S.seen port.old) (S.seen port.new) replayed.run replayed.commands) }
+            → IsShown (whole (inputs_of job.now)) calls st self.now
+            → Reports (inputs_of job.now) st (S.seen port.old) (S.seen port.new) replayed.run replayed.commands) }
         ensures fails { IfErr result (λ e. Fails e (S.seen port.old) (S.seen port.new)) }
     {
         let switch = switch_parts(alloc, job, port)?;

@@ -1,5 +1,5 @@
 //! The event that runs the server.
-ghost use Rattle.std.specs.Prelude.{◌≡◌, ◌<◌, ◌≤◌, ◌+◌, ◌-◌, ◌^◌, length, IfErr, IfOk, OnOk};
+ghost use Rattle.std.specs.Prelude.{◌<◌, ◌≤◌, ◌+◌, ◌-◌, ◌^◌, length, IfErr, IfOk, OnOk};
 ghost use Rattle.run_model.specs.declared.event.Event.TheVariants as event;
 ghost use Rattle.split_model.specs.Layouts.{up_layout};
 ghost use Rattle.transfer_header.specs.Frames.{IsFrame};
@@ -8,8 +8,8 @@ ghost use Rattle.output_commit.specs.Commit.{batch_of, commands};
 ghost use Rattle.server_runtime.specs.Serving.{IsServed};
 ghost use Rattle.server_runtime.specs.Views.{server_of};
 ghost use Rattle.switch_ir.specs.Port.{IsLoaded};
-ghost use Rattle.replay_contracts.specs.Replayer.{Fails, given_of};
-ghost use Rattle.replay_course.specs.Going.{HasTurned, IsGoing, MadeRoom};
+ghost use Rattle.replay_contracts.specs.Replayer.{Fails, inputs_of};
+ghost use Rattle.replay_course.specs.Going.{HasAdvanced, CanGoOn, MadeRoom};
 
 use crate::course::Course;
 use crate::fates::decide_at;
@@ -18,7 +18,7 @@ use output_commit::Commit;
 use replay_contracts::{Job, ReplayError, Stepped};
 use server_runtime::{ServeError, Served, Server};
 use std::alloc::Global;
-use switch_ir::{PortEnd, SwitchPort};
+use switch_ir::SwitchPort;
 use writeback_table::Updates;
 
 // What the server makes of a frame that came up.
@@ -51,12 +51,8 @@ fn reserve<S: SwitchPort>(
     if updates.is_empty() {
         return Ok(());
     }
-    let commands = commit.unapplied() as usize + 3 * updates.len() + 2;
-    match port.room(alloc, commands) {
-        PortEnd::Done => Ok(()),
-        PortEnd::Failed => Err(ReplayError::PortFault),
-        PortEnd::NoMemory => Err(ReplayError::NoMemory),
-    }
+    port.room(alloc, commit.unapplied() as usize + 3 * updates.len() + 2)?;
+    Ok(())
 }
 
 impl Course {
@@ -68,10 +64,10 @@ impl Course {
         port: &mut S,
         j: u32,
     ) -> Result<Stepped, ReplayError>
-        requires going { IsGoing (given_of job.now) self.old (S.seen port.old) }
+        requires going { CanGoOn (inputs_of job.now) self.old (S.seen port.old) }
         requires events { self.old.events < 2 ^ 32 - 1 }
         ensures turned { IfOk result (λ stepped.
-            HasTurned (given_of job.now) (event.Serve j) stepped self.old (S.seen port.old) self.new
+            HasAdvanced (inputs_of job.now) (event.Serve j) stepped self.old (S.seen port.old) self.new
             (S.seen port.new)) }
         ensures fails { IfErr result (λ e. Fails e (S.seen port.old) (S.seen port.new)) }
     {

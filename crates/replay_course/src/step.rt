@@ -1,7 +1,7 @@
 //! One event.
 ghost use Rattle.std.specs.Prelude.{◌≡◌, ◌<◌, ◌-◌, ◌^◌, IfErr, IfOk};
-ghost use Rattle.replay_contracts.specs.Replayer.{Fails, given_of};
-ghost use Rattle.replay_course.specs.Going.{HasTurned, IsGoing, MayCall};
+ghost use Rattle.replay_contracts.specs.Replayer.{Fails, inputs_of};
+ghost use Rattle.replay_course.specs.Going.{HasAdvanced, CanGoOn, MayCall};
 ghost use Rattle.replay_course.specs.Idle.{finds_nothing};
 
 use crate::course::Course;
@@ -12,7 +12,7 @@ use switch_ir::SwitchPort;
 
 impl Course {
     // Whether an event finds nothing in a run over so many packets: no packet, pass, frame, output or command.
-    fn finds_nothing(&self, packets: usize, event: Event) -> bool
+    pub(crate) fn finds_nothing(&self, packets: usize, event: Event) -> bool
         ensures { result ≡ finds_nothing packets self.now event }
     {
         let commit = &self.commit;
@@ -37,11 +37,11 @@ impl Course {
         port: &mut S,
         event: Event,
     ) -> Result<Stepped, ReplayError>
-        requires going { IsGoing (given_of job.now) self.old (S.seen port.old) }
+        requires going { CanGoOn (inputs_of job.now) self.old (S.seen port.old) }
         requires events { self.old.events < 2 ^ 32 - 1 }
-        requires may_call { MayCall (given_of job.now) self.old (S.seen port.old) }
+        requires may_call { MayCall (inputs_of job.now) self.old (S.seen port.old) }
         ensures turned { IfOk result (λ stepped.
-            HasTurned (given_of job.now) event stepped self.old (S.seen port.old) self.new (S.seen port.new)) }
+            HasAdvanced (inputs_of job.now) event stepped self.old (S.seen port.old) self.new (S.seen port.new)) }
         ensures fails { IfErr result (λ e. Fails e (S.seen port.old) (S.seen port.new)) }
     {
         match event {
@@ -64,11 +64,11 @@ impl Course {
         port: &mut S,
         event: Event,
     ) -> Result<Stepped, ReplayError>
-        requires going { IsGoing (given_of job.now) self.old (S.seen port.old) }
+        requires going { CanGoOn (inputs_of job.now) self.old (S.seen port.old) }
         requires events { self.old.events < 2 ^ 32 - 1 }
-        requires may_call { MayCall (given_of job.now) self.old (S.seen port.old) }
+        requires may_call { MayCall (inputs_of job.now) self.old (S.seen port.old) }
         ensures turned { IfOk result (λ stepped.
-            HasTurned (given_of job.now) event stepped self.old (S.seen port.old) self.new (S.seen port.new)) }
+            HasAdvanced (inputs_of job.now) event stepped self.old (S.seen port.old) self.new (S.seen port.new)) }
         ensures fails { IfErr result (λ e. Fails e (S.seen port.old) (S.seen port.new)) }
     {
         if self.finds_nothing(job.packets.len(), event) {

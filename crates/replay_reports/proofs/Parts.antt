@@ -1,10 +1,9 @@
 -- The parts of a report: one for each object that is no table, and one for each that the switch keeps.
 use Rattle.std.proofs.Common.{◌≡◌, ◌≤◌, ◌+◌, ℕ, Bool, true, false, List, [], ◌∷◌, map, Some, refl, sym, ap, ◌∙◌, subst}
-use Rattle.std.proofs.Common.{arith, zero, suc}
+use Rattle.std.proofs.Common.{arith, suc}
 use Rattle.std.specs.Prelude.{All, if◌then◌else◌, slice_get}
 use Rattle.std.specs.List.{AllByRecursion as Each}
-use Rattle.std.proofs.lemmas.List.Elements.{All-head, All-tail}
-use Rattle.std.proofs.lemmas.Option.{same_Some, none-some}
+use Rattle.std.proofs.lemmas.Option.{get_or_from_slice_get, slice_get_within}
 use Rattle.state_store.specs.declared.object.ObjectDecl.{ObjectDecl}
 use Rattle.state_store.specs.Kept.{IsKept}
 use Rattle.state_store.specs.Kinds.{is_table, is_constant}
@@ -16,15 +15,15 @@ use Rattle.report_text.specs.Form.{IsPart, kept_from, AreInOrder}
 use Rattle.replay_reports.proofs.Rows.{kept_told}
 use Rattle.replay_reports.proofs.Versions.{if_both}
 use Rattle.state_store.proofs.Constants.{constant_at}
+use Rattle.std.proofs.lemmas.Bool.{cond_both}
 
 -- ## Objects
 
 small_at : (objects : List ObjectDecl) (n : ℕ) (d : ObjectDecl) → All bounds.IsSmall objects
     → slice_get objects n ≡ Some d → d.size ≤ 1048576
-small_at [] n d all there = absurd (none-some d there)
-small_at (x ∷ objects) zero d all there =
-    subst (λ (o : ObjectDecl). o.size ≤ 1048576) (same_Some x d there) (All-head bounds.IsSmall x objects all).size
-small_at (x ∷ objects) (suc n) d all there = small_at objects n d (All-tail bounds.IsSmall x objects all) there
+small_at objects n d all there =
+    subst (λ (o : ObjectDecl). o.size ≤ 1048576) (get_or_from_slice_get objects n d d there)
+    (all n d (slice_get_within objects n d there)).size
 
 abbrev part_at : ℕ → Store → ObjectRows
 part_at n store = record { object = n; rows = rows_of (object_at store n) }
@@ -43,11 +42,6 @@ numbers_from n [] store = refl
 numbers_from n (object ∷ objects) store =
     numbered (is_table object.kind) (part_at n store) (parts_from (suc n) objects store) (kept_from (suc n) objects) n refl
     (numbers_from (suc n) objects store)
-
-all_if : (P : ObjectRows → Type 0) (test : Bool) (xs ys : List ObjectRows) → (test ≡ true → Each P xs) → (test ≡ false → Each P ys)
-    → Each P (if test then xs else ys)
-all_if P true xs ys one other = one refl
-all_if P false xs ys one other = other refl
 
 -- the objects from a number on are those that are declared
 abbrev Stands : List ObjectDecl → ℕ → List ObjectDecl → Type 0
@@ -75,14 +69,11 @@ module _ (declared : List ObjectDecl) (store : Store) (small : All bounds.IsSmal
   server_from n [] stands = tt
   server_from n (object ∷ objects) stands =
       let rest = server_from (suc n) objects (others_stand declared n object objects stands) in
-      all_if (IsPart declared) (is_table object.kind) (parts_from (suc n) objects store) _ (λ table. rest)
+      cond_both (is_table object.kind) (parts_from (suc n) objects store) _ (Each (IsPart declared)) (λ table. rest)
       (λ kind. (told_part n object (first_stands declared n object objects stands) kind, rest))
 
   pub server_parts : Each (IsPart declared) (parts_of declared store)
-  server_parts = server_from 0 declared (λ i. ap (slice_get declared) (whole i))
-    where
-      whole : (i : ℕ) → i ≡ 0 + i
-      whole i = omega arith
+  server_parts = server_from 0 declared (λ i. let same : i ≡ 0 + i = omega arith in ap (slice_get declared) same)
 
   -- ## The switch's
 
@@ -93,15 +84,12 @@ module _ (declared : List ObjectDecl) (store : Store) (small : All bounds.IsSmal
     switch_from n (object ∷ objects) stands =
         let rest = switch_from (suc n) objects (others_stand declared n object objects stands) in
         let there = first_stands declared n object objects stands in
-        all_if (IsPart declared) (test n) (part_at n store ∷ parts_where test (suc n) objects store) _
+        cond_both (test n) (part_at n store ∷ parts_where test (suc n) objects store) _ (Each (IsPart declared))
         (λ shown. (told_part n object there (sym (constant_at declared n object there) ∙ changing n shown), rest))
         (λ hidden. rest)
 
     pub switch_parts : Each (IsPart declared) (parts_where test 0 declared store)
-    switch_parts = switch_from 0 declared (λ i. ap (slice_get declared) (whole i))
-      where
-        whole : (i : ℕ) → i ≡ 0 + i
-        whole i = omega arith
+    switch_parts = switch_from 0 declared (λ i. let same : i ≡ 0 + i = omega arith in ap (slice_get declared) same)
 
 lower : (n k : ℕ) (parts : List ObjectRows) → n ≤ k → AreInOrder k parts → AreInOrder n parts
 lower n k [] low rising = tt

@@ -1,6 +1,6 @@
 -- The rows of an object that keeps what was declared: of its counts and widths, in rising order of their keys.
 use Rattle.std.proofs.Common.{◌≡◌, ◌≤◌, ℕ, Bool, true, false, cond, ◌&&◌, List, [], ◌∷◌, length, Some, None, refl, sym}
-use Rattle.std.proofs.Common.{ap, ◌∙◌, arith, true≢false}
+use Rattle.std.proofs.Common.{ap, ◌∙◌, arith}
 use Rattle.std.specs.Prelude.{T, IsTrue}
 use Rattle.std.specs.Ordering.{eq_by_cmp, is_lt}
 use Rattle.std.specs.FinMap.{find, is_sorted, entries, entries_sorted, get-entries, len-entries}
@@ -15,6 +15,7 @@ use Rattle.state_store.specs.Store.{Object, key_cmp, rows_from, rows_of}
 use Rattle.report_text.specs.Form.{AreRising, IsRowOf, IsSmall}
 use Rattle.lemmas.proofs.Tests.{T_first, T_second, eq_equal, less_not_equal, lt_less}
 use Rattle.state_store.proofs.LawLemmas.{itself}
+use Rattle.std.proofs.lemmas.Bool.{and_parts}
 
 -- ## Entries of a map
 
@@ -68,15 +69,7 @@ count_same (e ∷ es) = omega (arith, count_same es)
 
 row_is : (d : ObjectDecl) (key values : List ℕ) → IsTrue (have_widths d.keys key && have_widths d.values values)
     → IsRowOf d (record { keys = key; values = values })
-row_is d key values both = (both_left (have_widths d.keys key) _ both, both_right (have_widths d.keys key) _ both)
-  where
-    both_left : (a b : Bool) → IsTrue (a && b) → IsTrue a
-    both_left true b h = refl
-    both_left false b h = h
-
-    both_right : (a b : Bool) → IsTrue (a && b) → IsTrue b
-    both_right true b h = h
-    both_right false b h = absurd (true≢false (sym h))
+row_is d key values both = and_parts (have_widths d.keys key) (have_widths d.values values) both
 
 -- what a report asks of the rows of an object
 pub record AreTold (d : ObjectDecl) (rows : List Row) : Type 0 where

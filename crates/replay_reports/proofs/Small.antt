@@ -19,6 +19,7 @@ use Rattle.report_text.specs.Form.{IsVerdict, IsFate}
 use Rattle.replay_state.proofs.Laws.{an_event_applies_or_is_idle-counted}
 use Rattle.lemmas.proofs.Lists.{each_map, each_pushed, each_weaker}
 use Rattle.replay_reports.proofs.Versions.{if_both, total, visible_low, total_more, total_merged}
+use Rattle.output_commit.specs.Batches.{Batch}
 
 -- ## What holds of one packet
 
@@ -46,38 +47,26 @@ later now version now' version' (Fast a d v w) x y h = (omega arith, omega arith
 up_fits : (now version : ℕ) (p : Option Progress) → IfSome p (Fits now version) → Fits now version (went_up p)
 up_fits now version None h = omega arith
 up_fits now version (Some (Entered a v)) h = h.0
-up_fits now version (Some (Up a)) h = h
-up_fits now version (Some (Held a d v over)) h = h
-up_fits now version (Some (Slow a d v y r)) h = h
-up_fits now version (Some (Fast a d v y)) h = h
+up_fits now version (Some _) h = h
 
 finished_fits : (now version : ℕ) (y : Verdict) (p : Option Progress) → IsVerdict y → IfSome p (Fits now version)
     → Fits now version (finished now y p)
 finished_fits now version y None told h = omega arith
 finished_fits now version y (Some (Entered a v)) told h = (h.0, omega arith, h.1, told)
-finished_fits now version y (Some (Up a)) told h = h
-finished_fits now version y (Some (Held a d v over)) told h = h
-finished_fits now version y (Some (Slow a d v w r)) told h = h
-finished_fits now version y (Some (Fast a d v w)) told h = h
+finished_fits now version y (Some _) told h = h
 
 decided_fits : (now version : ℕ) (over : Store) (p : Option Progress) → IfSome p (Fits now version)
     → Fits now version (decided now version over p)
 decided_fits now version over None h = omega arith
-decided_fits now version over (Some (Entered a v)) h = h
 decided_fits now version over (Some (Up a)) h = (h, omega arith, omega arith)
-decided_fits now version over (Some (Held a d v w)) h = h
-decided_fits now version over (Some (Slow a d v y r)) h = h
-decided_fits now version over (Some (Fast a d v y)) h = h
+decided_fits now version over (Some _) h = h
 
 released_fits : (now version : ℕ) (verdict : Store → Verdict) (p : Option Progress)
     → ((over : Store) → IsVerdict (verdict over)) → IfSome p (Fits now version)
     → Fits now version (released verdict now p)
 released_fits now version verdict None told h = omega arith
-released_fits now version verdict (Some (Entered a v)) told h = h
-released_fits now version verdict (Some (Up a)) told h = h
 released_fits now version verdict (Some (Held a d v over)) told h = (h.0, h.1, h.2, omega arith, told over)
-released_fits now version verdict (Some (Slow a d v y r)) told h = h
-released_fits now version verdict (Some (Fast a d v y)) told h = h
+released_fits now version verdict (Some _) told h = h
 
 -- ## Lists
 
@@ -99,38 +88,33 @@ each_set P (x ∷ ps) (suc n) p all new = (all.0, each_set P ps n p all.1 new)
 
 -- ## A state
 
-pub record IsSmallState (st : State) : Type 0 where
-  pub versions : total st.batches ≡ st.version
-  pub version : st.version ≤ st.events
-  pub idle : st.idle ≤ st.events
-  pub each : AllByRecursion (Fits st.events st.version) st.progress
+-- so many versions and events of which so many were idle, and what became of each packet
+pub record AreSmall (batches : List Batch) (made now unused : ℕ) (progress : List Progress) : Type 0 where
+  pub versions : total batches ≡ made
+  pub version : made ≤ now
+  pub idle : unused ≤ now
+  pub each : AllByRecursion (Fits now made) progress
+
+abbrev pub IsSmallState : State → Type 0
+IsSmallState st = AreSmall st.batches st.version st.events st.idle st.progress
+
+-- one packet has gone on
+gone_on : (st : State) (n : ℕ) (p : Progress) → IsSmallState st → Fits st.events st.version p
+    → AreSmall st.batches st.version st.events st.idle (slice_set st.progress n p)
+gone_on st n p h fits =
+    record { versions = h.versions; version = h.version; idle = h.idle; each = each_set _ st.progress n p h.each fits }
 
 came_in_small : (st : State) (n : ℕ) (verdict : Option Verdict) → IfSome verdict IsVerdict → IsSmallState st
     → IsSmallState (came_in st n verdict)
-came_in_small st n None told h = record {
-  versions = h.versions;
-  version = h.version;
-  idle = h.idle;
-  each = each_set _ st.progress n _ h.each
-      (up_fits st.events st.version (slice_get st.progress n) (at_place _ st.progress n h.each));
-}
-came_in_small st n (Some y) told h = record {
-  versions = h.versions;
-  version = h.version;
-  idle = h.idle;
-  each = each_set _ st.progress n _ h.each
-      (finished_fits st.events st.version y (slice_get st.progress n) told (at_place _ st.progress n h.each));
-}
+came_in_small st n None told h =
+    gone_on st n _ h (up_fits st.events st.version (slice_get st.progress n) (at_place _ st.progress n h.each))
+came_in_small st n (Some y) told h =
+    gone_on st n _ h (finished_fits st.events st.version y (slice_get st.progress n) told (at_place _ st.progress n h.each))
 
 came_out_small : (st : State) (n : ℕ) (verdict : Store → Verdict) → ((over : Store) → IsVerdict (verdict over))
     → IsSmallState st → IsSmallState (came_out st n verdict)
-came_out_small st n verdict told h = record {
-  versions = h.versions;
-  version = h.version;
-  idle = h.idle;
-  each = each_set _ st.progress n _ h.each
-      (released_fits st.events st.version verdict (slice_get st.progress n) told (at_place _ st.progress n h.each));
-}
+came_out_small st n verdict told h =
+    gone_on st n _ h (released_fits st.events st.version verdict (slice_get st.progress n) told (at_place _ st.progress n h.each))
 
 module _ (setup : Setup) (a : Answers) (told : TellVerdicts a) where
   ended_small : (st : State) (pass : Pass) → IsSmallState st → IsSmallState (ended a st pass)
@@ -143,16 +127,14 @@ module _ (setup : Setup) (a : Answers) (told : TellVerdicts a) where
 
   entered_small : (st : State) (pass : Pass) → IsSmallState st → IsSmallState (entered a st pass)
   entered_small st pass h =
-      if_both IsSmallState (pass.left == 0) (ended a st pass) (record st { passes = st.passes ++ pass ∷ [] }) (ended_small st pass h)
-      (record { versions = h.versions; version = h.version; idle = h.idle; each = h.each })
+      if_both IsSmallState (pass.left == 0) (ended a st pass) (record st { passes = st.passes ++ pass ∷ [] }) (ended_small st pass h) h
 
   staged_small : (st : State) (j : ℕ) (pass : Option Pass) → IsSmallState st → IsSmallState (staged a st j pass)
   staged_small st j None h = h
   staged_small st j (Some pass) h =
       let without : State = record st { passes = remove st.passes j } in
       if_both IsSmallState (nat_le pass.left 1) (ended a without pass) _
-      (ended_small without pass (record { versions = h.versions; version = h.version; idle = h.idle; each = h.each }))
-      (record { versions = h.versions; version = h.version; idle = h.idle; each = h.each })
+      (ended_small without pass h) h
 
   admitted_small : (st : State) → IsSmallState st → IsSmallState (admitted setup a st)
   admitted_small st h =
@@ -171,13 +153,11 @@ module _ (setup : Setup) (a : Answers) (told : TellVerdicts a) where
   came_down_small : (st : State) (j : ℕ) (n : Option ℕ) → IsSmallState st → IsSmallState (came_down setup a st j n)
   came_down_small st j None h = h
   came_down_small st j (Some n) h =
-      entered_small (record st { down = remove st.down j }) (pass_of st false n setup.post_stages)
-      (record { versions = h.versions; version = h.version; idle = h.idle; each = h.each })
+      entered_small (record st { down = remove st.down j }) (pass_of st false n setup.post_stages) h
 
   let_go_small : (st : State) (j : ℕ) (item : Option (ℕ × ℕ)) → IsSmallState st → IsSmallState (let_go st j item)
   let_go_small st j None h = h
-  let_go_small st j (Some item) h =
-      record { versions = h.versions; version = h.version; idle = h.idle; each = h.each }
+  let_go_small st j (Some item) h = h
 
   -- where a version may begin
   changes_small : (store : Store) (updates : List Update) (st : State) → st.version < st.events → IsSmallState st
@@ -194,13 +174,8 @@ module _ (setup : Setup) (a : Answers) (told : TellVerdicts a) where
       }
 
   ran_small : (before st : State) (j n : ℕ) → IsSmallState st → IsSmallState (ran a before st j n)
-  ran_small before st j n h = record {
-    versions = h.versions;
-    version = h.version;
-    idle = h.idle;
-    each = each_set _ st.progress n _ h.each
-        (decided_fits st.events st.version before.store (slice_get st.progress n) (at_place _ st.progress n h.each));
-  }
+  ran_small before st j n h =
+      gone_on st n _ h (decided_fits st.events st.version before.store (slice_get st.progress n) (at_place _ st.progress n h.each))
 
   served_small : (st : State) (j : ℕ) (n : Option ℕ) → st.version < st.events → IsSmallState st
       → IsSmallState (served a st j n)
@@ -218,7 +193,7 @@ module _ (setup : Setup) (a : Answers) (told : TellVerdicts a) where
       record { versions = total_merged setup.fits st.sent st.batches ∙ h.versions; version = h.version; idle = h.idle; each = h.each }
   happens_small st (Hold j) low h = let_go_small st j (slice_get st.held j) h
   happens_small st (Down j) low h = came_down_small st j (slice_get st.down j) h
-  happens_small st _ low h = record { versions = h.versions; version = h.version; idle = h.idle; each = h.each }
+  happens_small st _ low h = h
 
   tick_small : (st : State) → IsSmallState st → IsSmallState (tick st)
   tick_small st h = let version = h.version in let idle = h.idle in record {

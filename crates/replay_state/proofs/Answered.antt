@@ -1,11 +1,9 @@
 -- One event more leaves what the calls so far have answered.
-use Rattle.std.proofs.Common.{◌≡◌, ℕ, ◌≤◌, Bool, true, false, cond, leb, eqb, List, [], ◌∷◌, ◌++◌, Option, Some, None, inl, inr, refl, sym, ◌∙◌, ap, subst, length, map}
+use Rattle.std.proofs.Common.{◌≡◌, ℕ, ◌≤◌, true, false, cond, leb, eqb, List, [], ◌∷◌, ◌++◌, Option, Some, None, inl, refl, sym, ◌∙◌, ap, subst, length, map}
 use Rattle.std.specs.Prelude.{slice_get}
 use Rattle.std.proofs.lemmas.Bool.{eq-eqb, le-leb}
-use Rattle.std.proofs.lemmas.Option.{same_Some}
 use Rattle.std.proofs.lemmas.List.{append-nil, append_assoc, map-append}
 use Rattle.packet_fields.specs.declared.packet.Packet.{Packet}
-use Rattle.packet_fields.specs.declared.verdict.Verdict.{Verdict}
 use Rattle.state_store.specs.Store.{start_store}
 use Rattle.replay_state.specs.Answers.{Setup}
 use Rattle.replay_state.specs.State.{State, Pass, first_state}
@@ -19,22 +17,18 @@ use Rattle.run_model.specs.Meaning.{packet_at}
 use Rattle.run_model.specs.Members.{Member}
 use Rattle.run_model.proofs.Members.{get_member}
 use Rattle.replay_state.specs.Program.{SplitProgram}
-use Rattle.replay_state.specs.Journal.{UpAnswer, Finished, SentUp, GoingUp, DownAnswer, Released, GoingDown, Call, CalledUp, CalledStageUp, CalledDown, CalledStageDown}
-use Rattle.replay_state.specs.Journal.{or_else, only_for, up_end, down_end, ends_up, ends_down, up_answer, down_answer, verdict_in, frame_in, told, journal, over_in, down_frame, is_up_end, is_down_end, question_of}
-use Rattle.replay_state.specs.Journal.{Question, AsksUp, AsksStageUp, AsksDown, AsksStageDown, asks_stage, asks_down, asks, asked, questions, IsAnswered}
+use Rattle.replay_state.specs.Journal.{SentUp, Call}
+use Rattle.replay_state.specs.Journal.{or_else, ends_up, ends_down, up_answer, down_answer, verdict_in, frame_in, told, journal, over_in, down_frame, question_of}
+use Rattle.replay_state.specs.Journal.{HasGoneUp, Question, AsksUp, AsksStageUp, AsksDown, AsksStageDown, asks_stage, asks_down, asks, asked, questions, IsAnswered}
 use Rattle.replay_state.proofs.Order.{member_left, member_right}
 use Rattle.replay_state.specs.Carried.{Carried}
 use Rattle.replay_state.proofs.Carried.{EndsWell, carried_step, carried_first}
+use Rattle.replay_state.proofs.Asking.{KnownDown, KnownUp, ending, known_down, known_up}
+use Rattle.replay_state.proofs.Gone.{sent_up}
 use Rattle.replay_state.proofs.Agreeing.{step_alike}
 use Rattle.replay_state.proofs.Steps.{steps_append}
 
--- ---- an answer that stands in the journal
-
-abbrev pub KnownUp : List Call → ℕ → Type 0
-KnownUp calls n = (x : UpAnswer) × (up_answer calls n ≡ Some x)
-
-abbrev pub KnownDown : List Call → ℕ → Type 0
-KnownDown calls n = (y : Verdict) × (down_answer calls n ≡ Some y)
+-- ---- answers stay where more calls come
 
 or_append : {X : Type 0} (a b c : Option X) → or_else (or_else a b) c ≡ or_else a (or_else b c)
 or_append None b c = refl
@@ -53,63 +47,6 @@ up_stays calls more n h = h.1 ∙ sym (up_append calls more n ∙ ap (λ o. or_e
 
 pub down_stays : (calls more : List Call) (n : ℕ) → KnownDown calls n → down_answer calls n ≡ down_answer (calls ++ more) n
 down_stays calls more n h = h.1 ∙ sym (down_append calls more n ∙ ap (λ o. or_else o (down_answer more n)) h.1)
-
--- ---- a question that ends a pass, and whose answer stands there
-
-abbrev pub ending : Bool → ℕ → Option ℕ
-ending true n = Some n
-ending false n = None
-
-abbrev pub up_of : Question → Option ℕ
-up_of (AsksUp fine n packet ends) = ending ends n
-up_of (AsksStageUp n ends) = ending ends n
-up_of question = None
-
-abbrev pub down_of : Question → Option ℕ
-down_of (AsksDown fine n frame ends) = ending ends n
-down_of (AsksStageDown n ends) = ending ends n
-down_of question = None
-
-only_same : {X : Type 0} (m n : ℕ) (o : Option X) → m ≡ n → only_for m n o ≡ o
-only_same m n o e = let t = eq-eqb m n e in rw t refl
-
-up_given : (m n : ℕ) (answer : UpAnswer) → ending (is_up_end answer) m ≡ Some n → (x : UpAnswer) × (only_for m n (up_end answer) ≡ Some x)
-up_given m n (Finished y) h = (Finished y, only_same m n (Some (Finished y)) (same_Some _ _ h))
-up_given m n (SentUp f) h = (SentUp f, only_same m n (Some (SentUp f)) (same_Some _ _ h))
-up_given m n GoingUp h = cc
-
-down_given : (m n : ℕ) (answer : DownAnswer) → ending (is_down_end answer) m ≡ Some n → (y : Verdict) × (only_for m n (down_end answer) ≡ Some y)
-down_given m n (Released y) h = (y, only_same m n (Some y) (same_Some _ _ h))
-down_given m n GoingDown h = cc
-
-call_up : (call : Call) (n : ℕ) → up_of (question_of call) ≡ Some n → (x : UpAnswer) × (ends_up n call ≡ Some x)
-call_up (CalledUp fine m packet answer) n h = up_given m n answer h
-call_up (CalledStageUp m answer) n h = up_given m n answer h
-call_up call n h = cc
-
-call_down : (call : Call) (n : ℕ) → down_of (question_of call) ≡ Some n → (y : Verdict) × (ends_down n call ≡ Some y)
-call_down (CalledDown fine m frame answer) n h = down_given m n answer h
-call_down (CalledStageDown m answer) n h = down_given m n answer h
-call_down call n h = cc
-
-or_some : {X : Type 0} (a b : Option X) → (x : X) × (b ≡ Some x) → (x : X) × (or_else a b ≡ Some x)
-or_some None b h = h
-or_some (Some x) b h = (x, refl)
-
-pub first_some : {X : Type 0} (a b : Option X) (x : X) → a ≡ Some x → or_else a b ≡ Some x
-first_some a b x e = ap (λ o. or_else o b) e
-
-pub known_up : (calls : List Call) (q : Question) (n : ℕ) → Member q (map question_of calls) → up_of q ≡ Some n → KnownUp calls n
-known_up [] q n m h = absurd m
-known_up (call ∷ calls) q n (inl e) h =
-    let k = call_up call n (ap up_of e ∙ h) in (k.0, first_some (ends_up n call) (up_answer calls n) k.0 k.1)
-known_up (call ∷ calls) q n (inr m) h = or_some (ends_up n call) (up_answer calls n) (known_up calls q n m h)
-
-pub known_down : (calls : List Call) (q : Question) (n : ℕ) → Member q (map question_of calls) → down_of q ≡ Some n → KnownDown calls n
-known_down [] q n m h = absurd m
-known_down (call ∷ calls) q n (inl e) h =
-    let k = call_down call n (ap down_of e ∙ h) in (k.0, first_some (ends_down n call) (down_answer calls n) k.0 k.1)
-known_down (call ∷ calls) q n (inr m) h = or_some (ends_down n call) (down_answer calls n) (known_down calls q n m h)
 
 -- ---- what an event asks stands in the journal
 
@@ -148,13 +85,22 @@ module _ (setup : Setup) (s : SplitProgram) (packets : List Packet) (calls : Lis
       let q = AsksUp setup.fine n (packet_at packets n) (eqb setup.pre_stages 0) in
       known_up calls q n (all q (inl refl)) (ap (λ b. ending b n) (eq-eqb setup.pre_stages 0 z))
 
-  ends_known : (w : State) (e : Event) → AllThere setup s calls (asks setup s packets calls w e) → EndsWell setup (journal s calls) (KnownUp calls) w e
-  ends_known w Admit all = λ z none. admit_known w all z
-  ends_known w (Stage j) all = λ x low g t none. (stage_known setup s calls x low (some_stage setup s calls (slice_get w.passes j) x all g)).0 t
+  ends_known : (w : State) (e : Event) → AllThere setup s calls (asks setup s packets calls w e) → EndsWell setup (journal s calls) (HasGoneUp calls) w e
+  ends_known w Admit all = λ z none. sent_up calls (length w.progress) (admit_known w all z) none
+  ends_known w (Stage j) all = λ x low g t none. sent_up calls x.number ((stage_known setup s calls x low (some_stage setup s calls (slice_get w.passes j) x all g)).0 t) none
   ends_known w e all = tt
 
-  cover_step : (w : State) (e : Event) → AllThere setup s calls (asked setup s packets calls w e) → Carried (KnownUp calls) w → Carried (KnownUp calls) (step setup (journal s calls) w e)
-  cover_step w e all c = carried_step setup (journal s calls) (KnownUp calls) w e (λ t. ends_known w e (rw t at all)) c
+  -- each packet that goes up does so in a frame
+  pub cover_step : (w : State) (e : Event) → AllThere setup s calls (asked setup s packets calls w e) → Carried (HasGoneUp calls) w → Carried (HasGoneUp calls) (step setup (journal s calls) w e)
+  cover_step w e all c = carried_step setup (journal s calls) (HasGoneUp calls) w e (λ t. ends_known w e (rw t at all)) c
+
+  pub cover_steps : (w : State) (es : List Event) → AllThere setup s calls (questions setup s packets calls w es) → Carried (HasGoneUp calls) w
+      → Carried (HasGoneUp calls) (steps setup (journal s calls) w es)
+  cover_steps w [] all c = c
+  cover_steps w (e ∷ es) all c =
+      let next = step setup (journal s calls) w e in
+      let parts = there_parts setup s calls (asked setup s packets calls w e) (questions setup s packets calls next es) all in
+      cover_steps next es parts.1 (cover_step w e parts.0 c)
 
   -- ---- more calls leave the answers
 
@@ -165,37 +111,40 @@ module _ (setup : Setup) (s : SplitProgram) (packets : List Packet) (calls : Lis
       post = λ e d v over t g. ap told (down_stays calls more x.number (k.1 t));
     }
 
-    run_alike : (w : State) (n : ℕ) → KnownUp calls n → RunAlike (journal s calls) (journal s (calls ++ more)) w n
+    went_up_stays : (n : ℕ) → HasGoneUp calls n → up_answer calls n ≡ up_answer (calls ++ more) n
+    went_up_stays n k = up_stays calls more n (SentUp k.0, k.1)
+
+    run_alike : (w : State) (n : ℕ) → HasGoneUp calls n → RunAlike (journal s calls) (journal s (calls ++ more)) w n
     run_alike w n k = record {
-      after = ap (λ o. s.serve_after w.store (frame_in o)) (up_stays calls more n k);
-      changes = ap (λ o. s.serve_changes w.store (frame_in o)) (up_stays calls more n k);
+      after = ap (λ o. s.serve_after w.store (frame_in o)) (went_up_stays n k);
+      changes = ap (λ o. s.serve_changes w.store (frame_in o)) (went_up_stays n k);
     }
 
-    agree_on : (w : State) (e : Event) → AllThere setup s calls (asks setup s packets calls w e) → Carried (KnownUp calls) w → AgreeOn setup (journal s calls) (journal s (calls ++ more)) w e
+    agree_on : (w : State) (e : Event) → AllThere setup s calls (asks setup s packets calls w e) → Carried (HasGoneUp calls) w → AgreeOn setup (journal s calls) (journal s (calls ++ more)) w e
     agree_on w Admit all c = λ z. end_alike w (pass_of w true (length w.progress) setup.pre_stages) ((λ t. admit_known w all z), (λ t. cc))
     agree_on w (Stage j) all c = λ x low g. end_alike w x (stage_known setup s calls x low (some_stage setup s calls (slice_get w.passes j) x all g))
     agree_on w (Serve j) all c = λ n g. run_alike w n (c.up n (get_member w.up j n g))
     agree_on w (Down j) all c = λ n z g. end_alike w (pass_of w false n setup.post_stages) ((λ t. cc), (λ t. down_known setup s calls w (slice_get w.down j) all n z g))
     agree_on w e all c = tt
 
-    step_stays : (w : State) (e : Event) → AllThere setup s calls (asked setup s packets calls w e) → Carried (KnownUp calls) w → step setup (journal s calls) w e ≡ step setup (journal s (calls ++ more)) w e
+    step_stays : (w : State) (e : Event) → AllThere setup s calls (asked setup s packets calls w e) → Carried (HasGoneUp calls) w → step setup (journal s calls) w e ≡ step setup (journal s (calls ++ more)) w e
     step_stays w e all c = step_alike setup (journal s calls) (journal s (calls ++ more)) w e (λ t. agree_on w e (rw t at all) c)
 
-    frames_stay : (w : State) (o : Option ℕ) → ((n : ℕ) → o ≡ Some n → KnownUp calls n) → asks_down setup s calls w o ≡ asks_down setup s (calls ++ more) w o
+    frames_stay : (w : State) (o : Option ℕ) → ((n : ℕ) → o ≡ Some n → HasGoneUp calls n) → asks_down setup s calls w o ≡ asks_down setup s (calls ++ more) w o
     frames_stay w None k = refl
-    frames_stay w (Some n) k = ap (λ z. asks_down_with w n (frame_in z)) (up_stays calls more n (k n refl))
+    frames_stay w (Some n) k = ap (λ z. asks_down_with w n (frame_in z)) (went_up_stays n (k n refl))
       where
         asks_down_with : State → ℕ → List ℕ → List Question
         asks_down_with w n frame = AsksDown setup.fine n (s.serve_down (over_in (slice_get w.progress n)) frame) (eqb setup.post_stages 0) ∷ []
 
-    asks_stay : (w : State) (e : Event) → Carried (KnownUp calls) w → asks setup s packets calls w e ≡ asks setup s packets (calls ++ more) w e
+    asks_stay : (w : State) (e : Event) → Carried (HasGoneUp calls) w → asks setup s packets calls w e ≡ asks setup s packets (calls ++ more) w e
     asks_stay w (Down j) c = frames_stay w (slice_get w.down j) (λ n g. c.down n (get_member w.down j n g))
     asks_stay w e c = refl
 
-    asked_stay : (w : State) (e : Event) → Carried (KnownUp calls) w → asked setup s packets calls w e ≡ asked setup s packets (calls ++ more) w e
+    asked_stay : (w : State) (e : Event) → Carried (HasGoneUp calls) w → asked setup s packets calls w e ≡ asked setup s packets (calls ++ more) w e
     asked_stay w e c = ap (λ z. cond (applies setup w e) z []) (asks_stay w e c)
 
-    pub run_stays : (w : State) (es : List Event) → AllThere setup s calls (questions setup s packets calls w es) → Carried (KnownUp calls) w
+    pub run_stays : (w : State) (es : List Event) → AllThere setup s calls (questions setup s packets calls w es) → Carried (HasGoneUp calls) w
         → (steps setup (journal s calls) w es ≡ steps setup (journal s (calls ++ more)) w es) × (questions setup s packets calls w es ≡ questions setup s packets (calls ++ more) w es)
     run_stays w [] all c = (refl, refl)
     run_stays w (e ∷ es) all c =
@@ -208,21 +157,13 @@ module _ (setup : Setup) (s : SplitProgram) (packets : List Packet) (calls : Lis
               ∙ ap (λ q. asked setup s packets (calls ++ more) w e ++ q) (rest.1 ∙ ap (λ x. questions setup s packets (calls ++ more) x es) same),
         )
 
-    pub picks_stay : (w : State) (es : List Event) → AllThere setup s calls (questions setup s packets calls w es) → Carried (KnownUp calls) w
+    pub picks_stay : (w : State) (es : List Event) → AllThere setup s calls (questions setup s packets calls w es) → Carried (HasGoneUp calls) w
         → Picks setup (journal s calls) w es → Picks setup (journal s (calls ++ more)) w es
     picks_stay w [] all c p = tt
     picks_stay w (e ∷ es) all c p =
         let next = step setup (journal s calls) w e in
         let parts = there_parts setup s calls (asked setup s packets calls w e) (questions setup s packets calls next es) all in
         (p.0, subst (λ x. Picks setup (journal s (calls ++ more)) x es) (step_stays w e parts.0 c) (picks_stay next es parts.1 (cover_step w e parts.0 c) p.1))
-
-    pub cover_steps : (w : State) (es : List Event) → AllThere setup s calls (questions setup s packets calls w es) → Carried (KnownUp calls) w
-        → Carried (KnownUp calls) (steps setup (journal s calls) w es)
-    cover_steps w [] all c = c
-    cover_steps w (e ∷ es) all c =
-        let next = step setup (journal s calls) w e in
-        let parts = there_parts setup s calls (asked setup s packets calls w e) (questions setup s packets calls next es) all in
-        cover_steps next es parts.1 (cover_step w e parts.0 c)
 
 pub questions_append : (setup : Setup) (s : SplitProgram) (packets : List Packet) (calls : List Call) (w : State) (es more : List Event)
     → questions setup s packets calls w (es ++ more) ≡ questions setup s packets calls w es ++ questions setup s packets calls (steps setup (journal s calls) w es) more
@@ -246,7 +187,7 @@ module _ (setup : Setup) (s : SplitProgram) (packets : List Packet) where
   next_answered events event calls one st h new =
       let w = begin in
       let b = calls ++ one in
-      let stays = run_stays setup s packets calls one w events (all_asked events calls st h) (carried_first (KnownUp calls) (start_store setup.objects)) in
+      let stays = run_stays setup s packets calls one w events (all_asked events calls st h) (carried_first (HasGoneUp calls) (start_store setup.objects)) in
       let is : st ≡ steps setup (journal s b) w events = h.run ∙ stays.0 in
       record {
         run = ap (λ x. step setup (journal s b) x event) is ∙ sym (steps_append setup (journal s b) w events (event ∷ []));

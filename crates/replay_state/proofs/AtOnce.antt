@@ -17,6 +17,11 @@ set_push : {X : Type 0} (xs : List X) (x y : X) → set (xs ++ x ∷ []) (length
 set_push [] x y = refl
 set_push (z ∷ xs) x y = ap (λ l. z ∷ l) (set_push xs x y)
 
+-- the last packet changes
+set_last : (fates : List Progress) (last : Progress) (f : Option Progress → Progress)
+    → set (fates ++ last ∷ []) (length fates) (f (slice_get (fates ++ last ∷ []) (length fates))) ≡ fates ++ f (Some last) ∷ []
+set_last fates last f = ap (λ o. set (fates ++ last ∷ []) (length fates) (f o)) (get_pushed fates last) ∙ set_push fates last (f (Some last))
+
 module _ (setup : Setup) (a : Answers) where
   -- a packet that comes in ends its pass with this answer
   ends_with : (st : State) → setup.pre_stages ≡ 0 → applies setup st Admit ≡ true → (o : Option Verdict) → a.pre (store_at st.stores (seen st)) (length st.progress) ≡ o
@@ -28,20 +33,14 @@ module _ (setup : Setup) (a : Answers) where
   pub fast_at_once : (st : State) (y : Verdict) → setup.pre_stages ≡ 0 → applies setup st Admit ≡ true → a.pre (store_at st.stores (seen st)) (length st.progress) ≡ Some y
       → step setup a st Admit ≡ record (tick st) { progress = st.progress ++ Fast (st.events + 1) (st.events + 1) (seen st) y ∷ [] }
   fast_at_once st y none t h =
-      let e : Progress = Entered (st.events + 1) (seen st) in
-      let new : finished (st.events + 1) y (slice_get (st.progress ++ e ∷ []) (length st.progress)) ≡ Fast (st.events + 1) (st.events + 1) (seen st) y = ap (finished (st.events + 1) y) (get_pushed st.progress e) in
-      let same : set (st.progress ++ e ∷ []) (length st.progress) (finished (st.events + 1) y (slice_get (st.progress ++ e ∷ []) (length st.progress))) ≡ st.progress ++ Fast (st.events + 1) (st.events + 1) (seen st) y ∷ [] =
-      ap (set (st.progress ++ e ∷ []) (length st.progress)) new ∙ set_push st.progress e (Fast (st.events + 1) (st.events + 1) (seen st) y) in
-      ends_with st none t (Some y) h ∙ ap (λ l. record (tick st) { progress = l }) same
+      ends_with st none t (Some y) h
+      ∙ ap (λ l. record (tick st) { progress = l }) (set_last st.progress (Entered (st.events + 1) (seen st)) (finished (st.events + 1) y))
 
   pub slow_at_once : (st : State) → setup.pre_stages ≡ 0 → applies setup st Admit ≡ true → a.pre (store_at st.stores (seen st)) (length st.progress) ≡ None
       → step setup a st Admit ≡ record (tick st) { up = st.up ++ length st.progress ∷ []; progress = st.progress ++ Up (st.events + 1) ∷ [] }
   slow_at_once st none t h =
-      let e : Progress = Entered (st.events + 1) (seen st) in
-      let new : went_up (slice_get (st.progress ++ e ∷ []) (length st.progress)) ≡ Up (st.events + 1) = ap went_up (get_pushed st.progress e) in
-      let same : set (st.progress ++ e ∷ []) (length st.progress) (went_up (slice_get (st.progress ++ e ∷ []) (length st.progress))) ≡ st.progress ++ Up (st.events + 1) ∷ [] =
-      ap (set (st.progress ++ e ∷ []) (length st.progress)) new ∙ set_push st.progress e (Up (st.events + 1)) in
-      ends_with st none t None h ∙ ap (λ l. record (tick st) { up = st.up ++ length st.progress ∷ []; progress = l }) same
+      ends_with st none t None h
+      ∙ ap (λ l. record (tick st) { up = st.up ++ length st.progress ∷ []; progress = l }) (set_last st.progress (Entered (st.events + 1) (seen st)) went_up)
 
   pub comes_out : (st : State) (j n e d v : ℕ) (over : Store) (o : Option ℕ) → setup.post_stages ≡ 0 → o ≡ Some n
       → slice_get st.progress n ≡ Some (Held e d v over)

@@ -11,13 +11,13 @@ use Rattle.replay_state.specs.State.{State, Held, first_state}
 use Rattle.run_model.specs.declared.event.Event.{Event}
 use Rattle.replay_state.specs.Step.{applies, waits, may_go, state_of, step, steps}
 use Rattle.replay_state.specs.Drain.{is_quiet, is_drained, first_of, drain_order, next_event, with_picked, picked_events, drain_bound, IsFirstOf, IsNoneOf, Drains, Picks, events_left}
-use Rattle.replay_state.specs.Sound.{AreFew}
+use Rattle.replay_state.specs.SoundAnswers.{AreFew}
 use Rattle.run_model.proofs.Members.{get_member}
-use Rattle.replay_state.proofs.Lists.{weight_remove}
+use Rattle.replay_state.proofs.Lists.{is_self, weight_remove}
 use Rattle.replay_state.proofs.Visible.{visible_all}
-use Rattle.replay_state.proofs.Fates.{held_fate, in_held, is_at}
-use Rattle.replay_state.proofs.Effects.{Fine}
-use Rattle.replay_state.proofs.Sane.{Sane, sane_first, sane_step}
+use Rattle.replay_state.proofs.Fates.{held_fate, in_held}
+use Rattle.replay_state.proofs.Effects.{Consistent}
+use Rattle.replay_state.proofs.EveryState.{EveryState, every_first, every_step}
 use Rattle.replay_state.proofs.Serialised.{quiet_parts}
 use Rattle.replay_state.proofs.Draining.{lowers, cost_steps}
 use Rattle.lemmas.proofs.Lists.{get_within}
@@ -70,14 +70,14 @@ first_half : (x y : Bool) → (x && y) ≡ false → y ≡ true → x ≡ false
 first_half true y h k = absurd (true_not_false (sym k ∙ h))
 first_half false y h k = refl
 
-none_held : (w : State) → Fine w → w.acked ≡ length (commands_in w.batches) → may_go (visible w.batches w.acked) (slice_get w.held 0) ≡ false → length w.held ≤ 0
+none_held : (w : State) → Consistent w → w.acked ≡ length (commands_in w.batches) → may_go (visible w.batches w.acked) (slice_get w.held 0) ≡ false → length w.held ≤ 0
 none_held w c whole t = elim (cases_lt 0 (length w.held)) [
   | inl some ↦
       let g = get_within w.held 0 some in
       let p = g.0.0 in
       let need = g.0.1 in
       let r = weight_remove (in_held p) w.held 0 (p, need) g.1 in
-      let one = is_at p in
+      let one = is_self p in
       let u = c.places.helds p in
       let f = held_fate (slice_get w.progress p) (omega arith) in
       let same = c.needs.helds p need f.0 f.1 f.2 f.3 (get_member w.held 0 (p, need) g.1) f.4 in
@@ -88,31 +88,23 @@ none_held w c whole t = elim (cases_lt 0 (length w.held)) [
   | inr none ↦ none
 ]
 
-pub done_where_none : (setup : Setup) (w : State) → Fine w → length w.progress ≤ setup.total → IsNoneOf (applies setup w) drain_order → IsDone setup w
+pub done_where_none : (setup : Setup) (w : State) → Consistent w → length w.progress ≤ setup.total → IsNoneOf (applies setup w) drain_order → IsDone setup w
 done_where_none setup w c few none =
-    let t1 = none.0 in let r1 = none.1 in
-    let t2 = r1.0 in let r2 = r1.1 in
-    let t3 = r2.0 in let r3 = r2.1 in
-    let t4 = r3.0 in let r4 = r3.1 in
-    let t5 = r4.0 in let r5 = r4.1 in
-    let t6 = r5.0 in let r6 = r5.1 in
-    let t7 = r6.0 in let r7 = r6.1 in
-    let t8 = r7.0 in
     let i1 = c.counts.acked_in in let i2 = c.counts.done_in in let i3 = c.counts.sent_in in
-    let no_passes = ltb-false _ _ t1 in
+    let no_passes = ltb-false _ _ none.0 in
     let empty : w.passes ≡ [] = nil_from_length w.passes (omega arith) in
     let next = slice_get (commands_in w.batches) w.done in
     let free : not (waits w.passes next) ≡ true = ap (λ l. not (waits l next)) empty ∙ ap not (waits_for_none next) in
-    let n2 = ltb-false _ _ t2 in
-    let n3 = ltb-false _ _ (first_half (ltb w.done w.sent) (not (waits w.passes next)) t3 free) in
-    let n4 = ltb-false _ _ t4 in
+    let n2 = ltb-false _ _ none.1.0 in
+    let n3 = ltb-false _ _ (first_half (ltb w.done w.sent) (not (waits w.passes next)) none.1.1.0 free) in
+    let n4 = ltb-false _ _ none.1.1.1.0 in
     let whole : w.acked ≡ length (commands_in w.batches) = omega arith in
-    let n8 = ltb-false _ _ t8 in
+    let n8 = ltb-false _ _ none.1.1.1.1.1.1.1.0 in
     record {
       passes = no_passes;
-      up = ltb-false _ _ t7;
-      held = none_held w c whole t6;
-      down = ltb-false _ _ t5;
+      up = ltb-false _ _ none.1.1.1.1.1.1.0;
+      held = none_held w c whole none.1.1.1.1.1.0;
+      down = ltb-false _ _ none.1.1.1.1.0;
       acked = whole;
       all = omega arith;
     }
@@ -123,7 +115,7 @@ done_is_drained setup w d =
     and_from _ _ (eq-eqb _ _ d.all)
     (and_from _ _ (and_from _ _ (and_from _ _ (and_from _ _ (eq-eqb (length w.passes) 0 (omega arith)) (eq-eqb (length w.up) 0 (omega arith))) (eq-eqb (length w.held) 0 (omega arith))) (eq-eqb (length w.down) 0 (omega arith))) (eq-eqb _ _ d.acked))
 
-pub drained_has_none : (setup : Setup) (w : State) → Fine w → is_drained setup w ≡ true → next_event setup w ≡ None
+pub drained_has_none : (setup : Setup) (w : State) → Consistent w → is_drained setup w ≡ true → next_event setup w ≡ None
 drained_has_none setup w c drained =
     let parts = and_parts (eqb (length w.progress) setup.total) (is_quiet w) drained in
     let all : length w.progress ≡ setup.total = eqb-true (length w.progress) setup.total parts.0 in
@@ -180,12 +172,12 @@ picked_are setup a (suc n) w [] d none le = rw none refl
 picked_are setup a (suc n) w (e ∷ es) d none le = rw d.0 (ap (λ l. e ∷ l) (picked_are setup a n (step setup a w e) es d.1 none (omega arith)))
 
 module _ (setup : Setup) (a : Answers) (few : AreFew setup a) where
-  some_lowers : (w : State) (e : Event) → Sane setup w → next_event setup w ≡ Some e → events_left setup (step setup a w e) < events_left setup w
+  some_lowers : (w : State) (e : Event) → EveryState setup w → next_event setup w ≡ Some e → events_left setup (step setup a w e) < events_left setup w
   some_lowers w e k h =
       let t = passes_test (applies setup w) drain_order e (picks_first setup w e h) in
       rw t (lowers setup a few w e k t)
 
-  pub picks_all : (n : ℕ) (w : State) → Sane setup w → events_left setup w ≤ n → Drains setup a w (picked_events setup a n w)
+  pub picks_all : (n : ℕ) (w : State) → EveryState setup w → events_left setup w ≤ n → Drains setup a w (picked_events setup a n w)
   picks_all zero w k le = elim (none_or_some (next_event setup w)) [
     | inl none ↦ (tt, none)
     | inr some ↦ let low = some_lowers w some.0 k some.1 in absurd (omega arith)
@@ -195,23 +187,23 @@ module _ (setup : Setup) (a : Answers) (few : AreFew setup a) where
     | inr some ↦
         let low = some_lowers w some.0 k some.1 in
         subst (λ o. Drains setup a w (with_picked o (λ e. picked_events setup a n (step setup a w e)))) (sym some.1)
-        (let rest = picks_all n (step setup a w some.0) (sane_step setup a w some.0 k) (omega arith) in ((some.1, rest.0), rest.1))
+        (let rest = picks_all n (step setup a w some.0) (every_step setup a w some.0 k) (omega arith) in ((some.1, rest.0), rest.1))
   ]
 
-  pub picks_within : (w : State) (es : List Event) → Sane setup w → Picks setup a w es → length es ≤ events_left setup w
+  pub picks_within : (w : State) (es : List Event) → EveryState setup w → Picks setup a w es → length es ≤ events_left setup w
   picks_within w [] k d = omega arith
   picks_within w (e ∷ es) k d =
       let low = some_lowers w e k d.0 in
-      let rest = picks_within (step setup a w e) es (sane_step setup a w e k) d.1 in
+      let rest = picks_within (step setup a w e) es (every_step setup a w e k) d.1 in
       omega arith
 
   pub cost_now : (events : List Event) → events_left setup (state_of setup a events) ≤ drain_bound setup
   cost_now events =
       let begin = first_state (start_store setup.objects) in
-      let le = cost_steps setup a few begin events (sane_first setup a (start_store setup.objects)) in
+      let le = cost_steps setup a few begin events (every_first setup a (start_store setup.objects)) in
       let all : setup.total - 0 ≡ setup.total = omega arith in
       let first : events_left setup begin ≡ drain_bound setup = rw all (omega arith) in
       omega arith
 
-pub none_is_drained : (setup : Setup) (w : State) → Sane setup w → next_event setup w ≡ None → is_drained setup w ≡ true
-none_is_drained setup w k none = done_is_drained setup w (done_where_none setup w k.fine k.few (none_picked (applies setup w) drain_order none))
+pub none_is_drained : (setup : Setup) (w : State) → EveryState setup w → next_event setup w ≡ None → is_drained setup w ≡ true
+none_is_drained setup w k none = done_is_drained setup w (done_where_none setup w k.consistent k.few (none_picked (applies setup w) drain_order none))

@@ -1,25 +1,26 @@
 -- Drain picks the first event that applies; it ends, and within the bound.
-use Rattle.std.proofs.Common.{◌≡◌, ℕ, ◌+◌, ◌-◌, ◌*◌, ◌<◌, ◌≤◌, true, false, cond, ltb, leb, eqb, List, [], ◌∷◌, ◌++◌, Option, Some, None, inl, inr, refl, sym, ap, subst, arith, zero, suc, length, set}
+use Rattle.std.proofs.Common.{◌≡◌, ℕ, ◌+◌, ◌-◌, ◌*◌, ◌<◌, ◌≤◌, true, false, cond, ltb, leb, eqb, List, [], ◌∷◌, ◌++◌, Option, Some, None, inl, inr, refl, sym, subst, arith, length}
 use Rattle.std.specs.Prelude.{slice_get, slice_set, remove, not}
 use Rattle.std.proofs.lemmas.Bool.{and_parts, cases_Bool, eqb-false, leb-false, ltb-true}
-use Rattle.std.proofs.lemmas.Option.{same_Some, slice_get_within}
+use Rattle.std.proofs.lemmas.Option.{slice_get_within}
 use Rattle.std.proofs.lemmas.List.{length_push, length-set}
 use Rattle.std.proofs.lemmas.List.Edits.{length-remove}
 use Rattle.packet_fields.specs.declared.verdict.Verdict.{Verdict}
 use Rattle.state_store.specs.Store.{Store}
 use Rattle.writeback_table.specs.declared.command.Update.{Update}
 use Rattle.replay_state.specs.Answers.{Answers, Setup}
-use Rattle.output_commit.specs.Batches.{Batch, commands_in, merged, visible}
+use Rattle.output_commit.specs.Batches.{Batch, commands_in, visible}
 use Rattle.replay_state.specs.State.{State, Progress, Entered, Pass, store_at, seen}
 use Rattle.run_model.specs.declared.event.Event.{Event}
 use Rattle.run_model.specs.declared.event.Event.TheVariants.{Admit, Stage, Serve, Send, Apply, Ack, Hold, Down}
 use Rattle.replay_state.specs.Step.{applies, waits, may_go, happens, step, steps, tick}
 use Rattle.replay_state.specs.Step.{finished, went_up, released, decided, came_in, ended, pass_of, entered, staged, with_changes, ran, served, let_go, came_down, admitted}
 use Rattle.replay_state.specs.Drain.{events_left, packet_events, pass_events, up_events}
-use Rattle.replay_state.specs.Sound.{AreFew}
-use Rattle.replay_state.proofs.Lists.{weight, weight_push, weight_remove}
-use Rattle.replay_state.proofs.Counts.{long, length_more, merged_is}
-use Rattle.replay_state.proofs.Sane.{Sane, sane_step}
+use Rattle.replay_state.specs.SoundAnswers.{AreFew}
+use Rattle.replay_state.proofs.Lists.{weight_change, weight_push, weight_remove}
+use Rattle.replay_state.proofs.Counts.{length_more}
+use Rattle.output_commit.proofs.Merging.{is_merged}
+use Rattle.replay_state.proofs.EveryState.{EveryState, every_step}
 use Rattle.replay_state.proofs.Steps.{run_at}
 use Rattle.lemmas.proofs.Lists.{get_within}
 
@@ -27,11 +28,6 @@ use Rattle.lemmas.proofs.Lists.{get_within}
 
 mul_step : (x y c : ℕ) → x ≡ y + 1 → x * c ≡ y * c + c
 mul_step x y c e = rw e (grind arith)
-
-weight_change : {X : Type 0} (f : X → ℕ) (xs : List X) (j : ℕ) (x y : X) → slice_get xs j ≡ Some x → weight f (set xs j y) + f x ≡ weight f xs + f y
-weight_change f [] j x y g = cc
-weight_change f (z ∷ xs) zero x y g = let d = ap f (same_Some _ _ g) in omega arith
-weight_change f (z ∷ xs) (suc j) x y g = let r = weight_change f xs j x y g in omega arith
 
 -- a change of one packet costs nothing
 same_progress : (setup : Setup) (w : State) (n : ℕ) (p : Progress) → events_left setup (record w { progress = slice_set w.progress n p }) ≡ events_left setup w
@@ -125,13 +121,7 @@ module _ (setup : Setup) (a : Answers) where
       run_cost w j n (w.version + 1) w.stores (w.batches ++ b ∷ []) g sent (omega arith)
 
   send_cost : (w : State) → w.done ≤ w.sent → w.sent < length (commands_in w.batches) → events_left setup (happens setup a w Send) < events_left setup w
-  send_cost w g h =
-      let m = merged_is setup.fits w.sent w.batches in
-      let old = long w.batches in
-      let new = long (merged setup.fits w.sent w.batches) in
-      let on = m.goes_on (omega arith) in
-      let fewer = m.fewer in
-      omega arith
+  send_cost w g h = let m = is_merged setup.fits w.sent w.batches in let on = m.goes_on h in let fewer = m.fewer in omega arith
 
 -- ---- what an event costs
 
@@ -141,7 +131,7 @@ module _ (setup : Setup) (a : Answers) (few : AreFew setup a) where
   held_cost w j (Some (n, need)) g t = go_cost setup a (tick w) j n need g
 
   -- each event that applies lowers the cost
-  pub lowers : (w : State) (e : Event) → Sane setup w → applies setup w e ≡ true → events_left setup (happens setup a (tick w) e) < events_left setup w
+  pub lowers : (w : State) (e : Event) → EveryState setup w → applies setup w e ≡ true → events_left setup (happens setup a (tick w) e) < events_left setup w
   lowers w Admit k t = admitted_cost setup a (tick w) (ltb-true _ _ t)
   lowers w (Stage j) k t =
       let g = get_within w.passes j (ltb-true _ _ t) in
@@ -150,26 +140,26 @@ module _ (setup : Setup) (a : Answers) (few : AreFew setup a) where
       let g = get_within w.up j (ltb-true _ _ t) in
       let n = g.0 in
       subst (λ o. events_left setup (served a (tick w) j o) < events_left setup w) (sym g.1)
-      (ran_cost setup a (tick w) j n (a.after w.store n) (a.changes w.store n) g.1 k.fine.counts.sent_in (few.each n w.store))
-  lowers w Send k t = send_cost setup a (tick w) k.fine.counts.done_in (ltb-true _ _ t)
+      (ran_cost setup a (tick w) j n (a.after w.store n) (a.changes w.store n) g.1 k.consistent.counts.sent_in (few.each n w.store))
+  lowers w Send k t = send_cost setup a (tick w) k.consistent.counts.done_in (ltb-true _ _ t)
   lowers w Apply k t =
       let both = and_parts (ltb w.done w.sent) (not (waits w.passes (slice_get (commands_in w.batches) w.done))) t in
-      let low = ltb-true _ _ both.0 in let g = k.fine.counts.acked_in in omega arith
+      let low = ltb-true _ _ both.0 in let g = k.consistent.counts.acked_in in omega arith
   lowers w Ack k t = let low = ltb-true _ _ t in omega arith
   lowers w (Hold j) k t = held_cost w j (slice_get w.held j) refl t
   lowers w (Down j) k t =
       let g = get_within w.down j (ltb-true _ _ t) in
       subst (λ o. events_left setup (came_down setup a (tick w) j o) < events_left setup w) (sym g.1) (come_down_cost setup a (tick w) j g.0 g.1)
 
-  pub cost_step : (w : State) (e : Event) → Sane setup w → events_left setup (step setup a w e) ≤ events_left setup w
+  pub cost_step : (w : State) (e : Event) → EveryState setup w → events_left setup (step setup a w e) ≤ events_left setup w
   cost_step w e k = elim (cases_Bool (applies setup w e)) [
     | inl t ↦ rw t (let l = lowers w e k t in omega arith)
     | inr t ↦ rw t (omega arith)
   ]
 
-  pub cost_steps : (w : State) (es : List Event) → Sane setup w → events_left setup (steps setup a w es) ≤ events_left setup w
+  pub cost_steps : (w : State) (es : List Event) → EveryState setup w → events_left setup (steps setup a w es) ≤ events_left setup w
   cost_steps w [] k = omega arith
   cost_steps w (e ∷ es) k =
       let one = cost_step w e k in
-      let rest = cost_steps (step setup a w e) es (sane_step setup a w e k) in
+      let rest = cost_steps (step setup a w e) es (every_step setup a w e k) in
       omega arith

@@ -1,5 +1,5 @@
 -- Every effect keeps what the lists and the packets say.
-use Rattle.std.proofs.Common.{◌≡◌, ℕ, ◌+◌, ◌-◌, ◌<◌, ◌≤◌, Bool, true, false, List, [], ◌∷◌, Some, inl, inr, refl, sym, ◌∙◌, ap, subst, arith, length, set}
+use Rattle.std.proofs.Common.{◌≡◌, ℕ, ◌+◌, ◌-◌, ◌*◌, ◌<◌, ◌≤◌, Bool, true, false, List, [], ◌∷◌, ◌++◌, Some, inl, inr, refl, sym, ◌∙◌, ap, subst, arith, length, set}
 use Rattle.std.specs.Prelude.{slice_get, remove}
 use Rattle.std.proofs.lemmas.Option.{same_Some, none-some}
 use Rattle.packet_fields.specs.declared.verdict.Verdict.{Verdict}
@@ -11,24 +11,26 @@ use Rattle.replay_state.specs.State.{State, Progress, Entered, Up, Held, Slow, F
 use Rattle.replay_state.specs.Step.{tick, idled, pass_of, finished, went_up, released, decided}
 use Rattle.run_model.specs.Members.{Member}
 use Rattle.run_model.proofs.Members.{get_member}
-use Rattle.replay_state.proofs.Lists.{set_cases, member_remove, member_push, member_set, weight, weight_push, weight_remove, weight_set, is, mark_set, mark_push}
+use Rattle.replay_state.proofs.Words.{admitted_at, released_at, version_at}
+use Rattle.replay_state.proofs.Lists.{is_self, set_cases, member_remove, member_push, member_set, weight, weight_push, weight_remove, weight_change, is, mark_set, mark_push}
 use Rattle.replay_state.proofs.Counts.{AreCounted}
 use Rattle.replay_state.proofs.Visible.{visible_total}
-use Rattle.replay_state.proofs.Fates.{pass_mark, up_mark, held_mark, in_first, in_last, in_up, in_held, Places, at_first, at_up, held_fate, is_at, Needs, FateOk, fate_more, EachFine, each_push, each_set, each_weaker, Pairs, pairs_push, pairs_set, fits_late, fits_now}
+use Rattle.replay_state.proofs.Fates.{pass_mark, up_mark, held_mark, in_first, in_last, in_up, in_held, Places, at_first, at_last, at_up, Needing, Needs, FateOk, fate_more, EachConsistent, each_push, each_set, each_weaker, Pairs, Fits, pairs_push, pairs_set, fits_late, fits_now}
 use Rattle.replay_state.proofs.Steps.{let_in, let_down, finished_at, up_at, out_at, moved_at, run_at, go_at, sent_one, applied_one, acked_one, counts_sent}
-use Rattle.lemmas.proofs.Lists.{get_before_pushed, get_past}
+use Rattle.lemmas.proofs.Lists.{get_before_pushed, get_past, get_set_same}
 use Rattle.lemmas.proofs.Tests.{true_not_false}
-use Rattle.output_commit.proofs.Seeing.{visible_merged, visible_more}
+use Rattle.output_commit.proofs.Merging.{is_merged}
+use Rattle.output_commit.proofs.Seeing.{visible_more}
 
-pub record Fine (w : State) : Type 0 where
+pub record Consistent (w : State) : Type 0 where
   pub counts : AreCounted w
   pub places : Places w
   pub needs : Needs w
-  pub each : EachFine w
+  pub each : EachConsistent w
   pub pairs : Pairs w.progress
 
 -- what is visible is.batches at most the version
-pub shown_le : (w : State) (n : ℕ) → Fine w → visible w.batches n ≤ w.version
+pub shown_le : (w : State) (n : ℕ) → Consistent w → visible w.batches n ≤ w.version
 shown_le w n c = let a = visible_total (w.batches) n in let b = c.counts.versions in omega arith
 
 pub member_weight : {X : Type 0} (f : X → ℕ) (xs : List X) (x : X) → Member x xs → f x ≤ weight f xs
@@ -37,85 +39,74 @@ member_weight f (y ∷ ys) x (inl e) = let s = ap f e in omega arith
 member_weight f (y ∷ ys) x (inr m) = let r = member_weight f ys x m in omega arith
 
 -- no first pass is that of a packet that isn't admitted
-pub no_first : (w : State) → Fine w → (z : Pass) → Member z w.passes → z.pre ≡ true → z.number ≡ length w.progress → ⊥
+pub no_first : (w : State) → Consistent w → (z : Pass) → Member z w.passes → z.pre ≡ true → z.number ≡ length w.progress → ⊥
 no_first w c z m t e =
     let r = member_weight (in_first z.number) w.passes z m in
-    let one : in_first z.number z ≡ 1 = rw (t, is_at z.number) refl in
+    let one : in_first z.number z ≡ 1 = rw (t, is_self z.number) refl in
     let u = c.places.firsts z.number in
     let none = ap pass_mark (get_past w.progress) in
     let there : pass_mark (slice_get w.progress z.number) ≡ 0 = rw e none in
     omega arith
 
--- the needs of a world with one fate changed and nothing new on its way
-pub needs_set : (w : State) (k : ℕ) (o f : Progress) (x : State) → Fine w → slice_get w.progress k ≡ Some o → x.progress ≡ set w.progress k f
-    → ((z : Pass) → Member z x.passes → Member z w.passes) → ((z : ℕ × ℕ) → Member z x.held → Member z w.held) → ((z : ℕ) → Member z x.down → Member z w.down)
-    → visible x.batches x.acked ≡ visible w.batches w.acked
-    → ((a v : ℕ) → f ≡ Entered a v → o ≡ Entered a v) → ((a d v : ℕ) (y : Store) → f ≡ Held a d v y → o ≡ Held a d v y) → Needs x
-needs_set w k o f x c there fates passes held down acked from_pass from_held = record {
-  firsts = λ z a v m t h. c.needs.firsts z a v (passes z m) t (was z.number (Entered a v) (from_pass a v) h);
-  helds = λ p need a d v y m h. c.needs.helds p need a d v y (held (p, need) m) (was p (Held a d v y) (from_held a d v y) h);
-  downs = λ p a d v y m h. rw acked (c.needs.downs p a d v y (down p m) (was p (Held a d v y) (from_held a d v y) h));
-  lasts = λ z a d v y m t h. rw acked (c.needs.lasts z a d v y (passes z m) t (was z.number (Held a d v y) (from_held a d v y) h));
+-- the versions of what is on its way, where a pass ends and its packet is neither entered nor held any more
+needs_ended : (w : State) (j k : ℕ) (o f : Progress) → Consistent w → slice_get w.progress k ≡ Some o → pass_mark (Some f) ≡ 0 → held_mark (Some f) ≡ 0
+    → Needing (remove w.passes j) w.held w.down (set w.progress k f) (visible w.batches w.acked)
+needs_ended w j k o f c there not_first not_held = record {
+  firsts = λ z a v m t h. c.needs.firsts z a v (member_remove w.passes j z m) t
+      (was z.number (Entered a v) (λ is. let one = ap (λ q. pass_mark (Some q)) is in omega arith) h);
+  helds = λ p need a d v y m h. c.needs.helds p need a d v y m (was p (Held a d v y) (no_longer a d v y) h);
+  downs = λ p a d v y m h. c.needs.downs p a d v y m (was p (Held a d v y) (no_longer a d v y) h);
+  lasts = λ z a d v y m t h. c.needs.lasts z a d v y (member_remove w.passes j z m) t (was z.number (Held a d v y) (no_longer a d v y) h);
 }
   where
-    was : (p : ℕ) (q : Progress) → (f ≡ q → o ≡ q) → slice_get x.progress p ≡ Some q → slice_get w.progress p ≡ Some q
-    was p q from h = elim (set_cases w.progress k p o f q there (subst (λ l. slice_get l p ≡ Some q) fates h)) [
-      | inl e ↦ subst (λ n. slice_get w.progress n ≡ Some q) (sym e.0) (there ∙ ap Some (from e.1))
-      | inr old ↦ old
-    ]
+    was : (p : ℕ) (q : Progress) → (f ≡ q → ⊥) → slice_get (set w.progress k f) p ≡ Some q → slice_get w.progress p ≡ Some q
+    was p q other h = elim (set_cases w.progress k p o f q there h) [ inl e ↦ absurd (other e.1) | inr old ↦ old ]
 
-pub fine_tick : (w : State) → Fine w → Fine (tick w)
-fine_tick w c = record {
+    no_longer : (a d v : ℕ) (y : Store) → f ≡ Held a d v y → ⊥
+    no_longer a d v y is = let one = ap (λ q. held_mark (Some q)) is in omega arith
+
+pub consistent_tick : (w : State) → Consistent w → Consistent (tick w)
+consistent_tick w c = record {
   counts = c.counts;
-  places = record { firsts = c.places.firsts; ups = c.places.ups; helds = c.places.helds };
-  needs = record { firsts = c.needs.firsts; helds = c.needs.helds; downs = c.needs.downs; lasts = c.needs.lasts };
+  places = c.places;
+  needs = c.needs;
   each = each_weaker (FateOk w.events w.version (visible w.batches w.done)) (FateOk (w.events + 1) w.version (visible w.batches w.done)) w.progress (λ f. fate_more _ _ _ _ _ _ f (omega arith) (omega arith) (omega arith)) c.each;
   pairs = c.pairs;
 }
 
-pub fine_idled : (w : State) → Fine w → Fine (idled w)
-fine_idled w c = record {
-  counts = c.counts;
-  places = record { firsts = c.places.firsts; ups = c.places.ups; helds = c.places.helds };
-  needs = record { firsts = c.needs.firsts; helds = c.needs.helds; downs = c.needs.downs; lasts = c.needs.lasts };
-  each = c.each;
-  pairs = c.pairs;
-}
+pub consistent_idled : (w : State) → Consistent w → Consistent (idled w)
+consistent_idled w c = record { counts = c.counts; places = c.places; needs = c.needs; each = c.each; pairs = c.pairs }
 
-pub fine_sent : (w : State) (fits : List Update → Bool) → w.sent < length (commands_in w.batches) → Fine w → Fine (sent_one w fits)
-fine_sent w fits h c =
-    let done = visible_merged fits w.sent w.done w.batches c.counts.done_in in
-    let acked = visible_merged fits w.sent w.acked w.batches (let a = c.counts.acked_in in let b = c.counts.done_in in omega arith) in
+pub consistent_sent : (w : State) (fits : List Update → Bool) → w.sent < length (commands_in w.batches) → Consistent w → Consistent (sent_one w fits)
+consistent_sent w fits h c =
+    let m = is_merged fits w.sent w.batches in
+    let done = m.shows w.done c.counts.done_in in
+    let acked = m.shows w.acked (let a = c.counts.acked_in in let b = c.counts.done_in in omega arith) in
     record {
       counts = counts_sent w fits h c.counts;
-      places = record { firsts = c.places.firsts; ups = c.places.ups; helds = c.places.helds };
-      needs = record {
-        firsts = c.needs.firsts;
-        helds = c.needs.helds;
-        downs = λ p a d v y mm g. rw acked (c.needs.downs p a d v y mm g);
-        lasts = λ x a d v y mm t g. rw acked (c.needs.lasts x a d v y mm t g);
-      };
+      places = c.places;
+      needs = subst (Needing w.passes w.held w.down w.progress) (sym acked) c.needs;
       each = rw done c.each;
       pairs = c.pairs;
     }
 
-pub fine_applied : (w : State) → w.done < w.sent → Fine w → Fine (applied_one w)
-fine_applied w h c =
+pub consistent_applied : (w : State) → w.done < w.sent → Consistent w → Consistent (applied_one w)
+consistent_applied w h c =
     let more = visible_more (w.batches) w.done (w.done + 1) (omega arith) in
     record {
       counts = record { versions = c.counts.versions; all = c.counts.all; sent_in = c.counts.sent_in; done_in = omega arith; acked_in = let a = c.counts.acked_in in omega arith };
-      places = record { firsts = c.places.firsts; ups = c.places.ups; helds = c.places.helds };
-      needs = record { firsts = c.needs.firsts; helds = c.needs.helds; downs = c.needs.downs; lasts = c.needs.lasts };
+      places = c.places;
+      needs = c.needs;
       each = each_weaker (FateOk w.events w.version (visible w.batches w.done)) (FateOk w.events w.version (visible w.batches (w.done + 1))) w.progress (λ f. fate_more _ _ _ _ _ _ f (omega arith) (omega arith) more) c.each;
       pairs = c.pairs;
     }
 
-pub fine_acked : (w : State) → w.acked < w.done → Fine w → Fine (acked_one w)
-fine_acked w h c =
+pub consistent_acked : (w : State) → w.acked < w.done → Consistent w → Consistent (acked_one w)
+consistent_acked w h c =
     let more = visible_more (w.batches) w.acked (w.acked + 1) (omega arith) in
     record {
       counts = record { versions = c.counts.versions; all = c.counts.all; sent_in = c.counts.sent_in; done_in = c.counts.done_in; acked_in = omega arith };
-      places = record { firsts = c.places.firsts; ups = c.places.ups; helds = c.places.helds };
+      places = c.places;
       needs = record {
         firsts = c.needs.firsts;
         helds = c.needs.helds;
@@ -126,15 +117,15 @@ fine_acked w h c =
       pairs = c.pairs;
     }
 
-pub fine_moved : (w : State) (j : ℕ) (x : Pass) → slice_get w.passes j ≡ Some x → Fine w → Fine (moved_at w j x)
-fine_moved w j x g c =
+pub consistent_moved : (w : State) (j : ℕ) (x : Pass) → slice_get w.passes j ≡ Some x → Consistent w → Consistent (moved_at w j x)
+consistent_moved w j x g c =
     let y : Pass = record x { left = x.left - 1 } in
     record {
       counts = c.counts;
       places = record {
-        firsts = λ p. weight_set (in_first p) w.passes j x y g refl ∙ c.places.firsts p;
+        firsts = λ p. let r = weight_change (in_first p) w.passes j x y g in let u = c.places.firsts p in omega arith;
         ups = c.places.ups;
-        helds = λ p. rw (weight_set (in_last p) w.passes j x y g refl) (c.places.helds p);
+        helds = λ p. let r = weight_change (in_last p) w.passes j x y g in let u = c.places.helds p in omega arith;
       };
       needs = record {
         firsts = λ z a v m t h. elim (member_set w.passes j y z m) [
@@ -152,8 +143,8 @@ fine_moved w j x g c =
       pairs = c.pairs;
     }
 
-pub fine_let_in : (w : State) (stages : ℕ) → Fine w → Fine (let_in w stages)
-fine_let_in w stages c =
+pub consistent_let_in : (w : State) (stages : ℕ) → Consistent w → Consistent (let_in w stages)
+consistent_let_in w stages c =
     let v = visible w.batches w.done in
     let n = length w.progress in
     let f : Progress = Entered w.events v in
@@ -191,74 +182,76 @@ fine_let_in w stages c =
       pairs = pairs_push w.progress f c.pairs (fits_late w.events w.version v w.progress f c.each refl (λ u e. let s = same_Some _ _ e in omega arith));
     }
 
-pub fine_finished : (w : State) (j : ℕ) (x : Pass) (y : Verdict) → slice_get w.passes j ≡ Some x → x.pre ≡ true → Fine w → Fine (finished_at w j x y)
-fine_finished w j x y g t c =
-    let at' = at_first w j x c.places g t in
-    let a = at'.0 in let v = at'.1 in
-    let o : Progress = Entered a v in
-    let f : Progress = Fast a w.events v y in
-    let new : finished w.events y (slice_get w.progress x.number) ≡ f = ap (finished w.events y) at'.2 in
-    let old = c.each x.number o at'.2 in
-    let one : in_first x.number x ≡ 1 = rw (t, is_at x.number) refl in
+-- The pass at place j ends, and its packet changes from o, as what is under way, to f.
+pub record Ends (x : Pass) (o f : Progress) : Type 0 where
+  pub first : (p : ℕ) → in_first p x ≡ pass_mark (Some o) * is x.number p
+  pub last : (p : ℕ) → in_last p x ≡ held_mark (Some o) * is x.number p
+  pub not_up : up_mark (Some o) ≡ 0
+  pub not_first : pass_mark (Some f) ≡ 0
+  pub not_held : held_mark (Some f) ≡ 0
+
+consistent_ended : (w : State) (j : ℕ) (x : Pass) (o f : Progress) (up : List ℕ) → slice_get w.passes j ≡ Some x → slice_get w.progress x.number ≡ Some o → Ends x o f
+    → ((p : ℕ) → weight (in_up p) up ≡ weight (in_up p) w.up + up_mark (Some f) * is x.number p)
+    → FateOk w.events w.version (visible w.batches w.done) f → Fits w.progress f → Consistent w
+    → Consistent (record w { passes = remove w.passes j; up = up; progress = set w.progress x.number f })
+consistent_ended w j x o f up g there e goes ok fits c =
+    let no_up : (p : ℕ) → up_mark (Some o) * is x.number p ≡ 0 = λ p. rw e.not_up (omega arith) in
+    let no_first : (p : ℕ) → pass_mark (Some f) * is x.number p ≡ 0 = λ p. rw e.not_first (omega arith) in
+    let no_held : (p : ℕ) → held_mark (Some f) * is x.number p ≡ 0 = λ p. rw e.not_held (omega arith) in
     record {
       counts = c.counts;
       places = record {
-        firsts = λ p. rw new (let m = mark_set pass_mark w.progress x.number p o f at'.2 in let r = weight_remove (in_first p) w.passes j x g in let i : in_first p x ≡ is x.number p = rw t refl in let u = c.places.firsts p in omega arith);
-        ups = λ p. rw new (let m = mark_set up_mark w.progress x.number p o f at'.2 in let u = c.places.ups p in omega arith);
-        helds = λ p. rw new (let m = mark_set held_mark w.progress x.number p o f at'.2 in let r = weight_remove (in_last p) w.passes j x g in let i : in_last p x ≡ 0 = rw t refl in let u = c.places.helds p in omega arith);
+        firsts = λ p. let m = mark_set pass_mark w.progress x.number p o f there in let r = weight_remove (in_first p) w.passes j x g in let i = e.first p in let n = no_first p in
+            let u = c.places.firsts p in omega arith;
+        ups = λ p. let m = mark_set up_mark w.progress x.number p o f there in let n = no_up p in let i = goes p in let u = c.places.ups p in omega arith;
+        helds = λ p. let m = mark_set held_mark w.progress x.number p o f there in let r = weight_remove (in_last p) w.passes j x g in let i = e.last p in let n = no_held p in
+            let u = c.places.helds p in omega arith;
       };
-      needs = needs_set w x.number o f (record w { passes = remove w.passes j; progress = set w.progress x.number (finished w.events y (slice_get w.progress x.number)) }) c at'.2 (ap (set w.progress x.number) new)
-          (λ z m. member_remove w.passes j z m) (λ z m. m) (λ z m. m) refl (λ a' v' e. cc) (λ a' d' v' y' e. cc);
-      each = rw new (each_set (FateOk w.events w.version (visible w.batches w.done)) w.progress x.number o f at'.2 c.each (old.0, omega arith, old.1));
-      pairs = rw new (pairs_set w.progress x.number o f at'.2 c.pairs (fits_now w.events w.version (visible w.batches w.done) x.number w.progress o f c.each at'.2 c.pairs refl refl refl));
+      needs = needs_ended w j x.number o f c there e.not_first e.not_held;
+      each = each_set (FateOk w.events w.version (visible w.batches w.done)) w.progress x.number o f there c.each ok;
+      pairs = pairs_set w.progress x.number o f there c.pairs fits;
     }
 
-pub fine_sent_up : (w : State) (j : ℕ) (x : Pass) → slice_get w.passes j ≡ Some x → x.pre ≡ true → Fine w → Fine (up_at w j x)
-fine_sent_up w j x g t c =
+-- a packet that is released now, with the version that it had
+now_fits : (w : State) (n : ℕ) (o f : Progress) → slice_get w.progress n ≡ Some o → released_at (Some f) ≡ Some w.events → admitted_at (Some f) ≡ admitted_at (Some o)
+    → version_at (Some f) ≡ version_at (Some o) → Consistent w → Fits w.progress f
+now_fits w n o f there rel adm same c = fits_now w.events w.version (visible w.batches w.done) n w.progress o f c.each there c.pairs rel adm same
+
+pub consistent_finished : (w : State) (j : ℕ) (x : Pass) (y : Verdict) → slice_get w.passes j ≡ Some x → x.pre ≡ true → Consistent w → Consistent (finished_at w j x y)
+consistent_finished w j x y g t c =
     let at' = at_first w j x c.places g t in
-    let a = at'.0 in let v = at'.1 in
-    let o : Progress = Entered a v in
-    let f : Progress = Up a in
-    let new : went_up (slice_get w.progress x.number) ≡ f = ap went_up at'.2 in
+    let o : Progress = Entered at'.0 at'.1 in
+    let f : Progress = Fast at'.0 w.events at'.1 y in
     let old = c.each x.number o at'.2 in
-    record {
-      counts = c.counts;
-      places = record {
-        firsts = λ p. rw new (let m = mark_set pass_mark w.progress x.number p o f at'.2 in let r = weight_remove (in_first p) w.passes j x g in let i : in_first p x ≡ is x.number p = rw t refl in let u = c.places.firsts p in omega arith);
-        ups = λ p. rw new (let m = mark_set up_mark w.progress x.number p o f at'.2 in let r = weight_push (in_up p) w.up x.number in let u = c.places.ups p in omega arith);
-        helds = λ p. rw new (let m = mark_set held_mark w.progress x.number p o f at'.2 in let r = weight_remove (in_last p) w.passes j x g in let i : in_last p x ≡ 0 = rw t refl in let u = c.places.helds p in omega arith);
-      };
-      needs = needs_set w x.number o f (up_at w j x) c at'.2 (ap (set w.progress x.number) new)
-          (λ z m. member_remove w.passes j z m) (λ z m. m) (λ z m. m) refl (λ a' v' e. cc) (λ a' d' v' y' e. cc);
-      each = rw new (each_set (FateOk w.events w.version (visible w.batches w.done)) w.progress x.number o f at'.2 c.each old.0);
-      pairs = rw new (pairs_set w.progress x.number o f at'.2 c.pairs (fits_late w.events w.version (visible w.batches w.done) w.progress f c.each refl (λ u e. absurd (none-some u e))));
-    }
+    rw (ap (finished w.events y) at'.2) (consistent_ended w j x o f w.up g at'.2
+    (record { first = λ p. rw t (omega arith); last = λ p. rw t (omega arith); not_up = refl; not_first = refl; not_held = refl })
+    (λ p. omega arith) (old.0, omega arith, old.1) (now_fits w x.number o f at'.2 refl refl refl c) c)
 
-pub fine_came_down : (a : Answers) (w : State) (j : ℕ) (x : Pass) → slice_get w.passes j ≡ Some x → x.pre ≡ false → Fine w → Fine (out_at a w j x)
-fine_came_down a w j x g t c =
-    let r0 = weight_remove (in_last x.number) w.passes j x g in
-    let fate = held_fate (slice_get w.progress x.number) (let u = c.places.helds x.number in let one : in_last x.number x ≡ 1 = rw (t, is_at x.number) refl in omega arith) in
+pub consistent_sent_up : (w : State) (j : ℕ) (x : Pass) → slice_get w.passes j ≡ Some x → x.pre ≡ true → Consistent w → Consistent (up_at w j x)
+consistent_sent_up w j x g t c =
+    let at' = at_first w j x c.places g t in
+    let o : Progress = Entered at'.0 at'.1 in
+    let f : Progress = Up at'.0 in
+    let old = c.each x.number o at'.2 in
+    rw (ap went_up at'.2) (consistent_ended w j x o f (w.up ++ x.number ∷ []) g at'.2
+    (record { first = λ p. rw t (omega arith); last = λ p. rw t (omega arith); not_up = refl; not_first = refl; not_held = refl })
+    (λ p. let r = weight_push (in_up p) w.up x.number in omega arith) old.0
+    (fits_late w.events w.version (visible w.batches w.done) w.progress f c.each refl (λ u e. absurd (none-some u e))) c)
+
+pub consistent_came_down : (a : Answers) (w : State) (j : ℕ) (x : Pass) → slice_get w.passes j ≡ Some x → x.pre ≡ false → Consistent w → Consistent (out_at a w j x)
+consistent_came_down a w j x g t c =
+    let fate = at_last w j x c.places g t in
     let o : Progress = Held fate.0 fate.1 fate.2 fate.3 in
     let f : Progress = Slow fate.0 fate.1 fate.2 (a.post fate.3 x.number) w.events in
-    let new : released (λ over. a.post over x.number) w.events (slice_get w.progress x.number) ≡ f = ap (released (λ over. a.post over x.number) w.events) fate.4 in
     let old = c.each x.number o fate.4 in
     let seen = c.needs.lasts x fate.0 fate.1 fate.2 fate.3 (get_member w.passes j x g) t fate.4 in
     let more = visible_more (w.batches) w.acked w.done c.counts.acked_in in
-    record {
-      counts = c.counts;
-      places = record {
-        firsts = λ p. rw new (let m = mark_set pass_mark w.progress x.number p o f fate.4 in let r = weight_remove (in_first p) w.passes j x g in let i : in_first p x ≡ 0 = rw t refl in let u = c.places.firsts p in omega arith);
-        ups = λ p. rw new (let m = mark_set up_mark w.progress x.number p o f fate.4 in let u = c.places.ups p in omega arith);
-        helds = λ p. rw new (let m = mark_set held_mark w.progress x.number p o f fate.4 in let r = weight_remove (in_last p) w.passes j x g in let i : in_last p x ≡ is x.number p = rw t refl in let u = c.places.helds p in omega arith);
-      };
-      needs = needs_set w x.number o f (out_at a w j x) c fate.4 (ap (set w.progress x.number) new)
-          (λ z m. member_remove w.passes j z m) (λ z m. m) (λ z m. m) refl (λ a' v' e. cc) (λ a' d' v' y' e. cc);
-      each = rw new (each_set (FateOk w.events w.version (visible w.batches w.done)) w.progress x.number o f fate.4 c.each (old.0, old.1, omega arith, omega arith));
-      pairs = rw new (pairs_set w.progress x.number o f fate.4 c.pairs (fits_now w.events w.version (visible w.batches w.done) x.number w.progress o f c.each fate.4 c.pairs refl refl refl));
-    }
+    rw (ap (released (λ over. a.post over x.number) w.events) fate.4) (consistent_ended w j x o f w.up g fate.4
+    (record { first = λ p. rw t (omega arith); last = λ p. rw t (omega arith); not_up = refl; not_first = refl; not_held = refl })
+    (λ p. omega arith) (old.0, old.1, omega arith, omega arith) (now_fits w x.number o f fate.4 refl refl refl c) c)
 
-pub fine_let_go : (w : State) (j p need : ℕ) → slice_get w.held j ≡ Some (p, need) → need ≤ visible w.batches w.acked → Fine w → Fine (go_at w j p)
-fine_let_go w j p need g h c = record {
+pub consistent_let_go : (w : State) (j p need : ℕ) → slice_get w.held j ≡ Some (p, need) → need ≤ visible w.batches w.acked → Consistent w → Consistent (go_at w j p)
+consistent_let_go w j p need g h c = record {
   counts = c.counts;
   places = record {
     firsts = c.places.firsts;
@@ -278,8 +271,8 @@ fine_let_go w j p need g h c = record {
   pairs = c.pairs;
 }
 
-pub fine_let_down : (w : State) (j p stages : ℕ) → slice_get w.down j ≡ Some p → Fine w → Fine (let_down w j p stages)
-fine_let_down w j p stages g c =
+pub consistent_let_down : (w : State) (j p stages : ℕ) → slice_get w.down j ≡ Some p → Consistent w → Consistent (let_down w j p stages)
+consistent_let_down w j p stages g c =
     let x : Pass = pass_of w false p stages in
     record {
       counts = c.counts;
@@ -305,67 +298,66 @@ pub pair_first : (p v q u : ℕ) → ◌≡◌ {A = ℕ × ℕ} (p, v) (q, u) �
 pair_first p v q u e = ap (λ (x : ℕ × ℕ). x.0) e
 
 -- what stands behind the server isn't up
-pub not_held : (w : State) → Fine w → (q need a : ℕ) → Member (q, need) w.held → slice_get w.progress q ≡ Some (Up a) → ⊥
+pub not_held : (w : State) → Consistent w → (q need a : ℕ) → Member (q, need) w.held → slice_get w.progress q ≡ Some (Up a) → ⊥
 not_held w c q need a m there =
-    let r = member_weight (in_held q) w.held (q, need) m in let one = is_at q in let u = c.places.helds q in let none = ap held_mark there in omega arith
+    let r = member_weight (in_held q) w.held (q, need) m in let one = is_self q in let u = c.places.helds q in let none = ap held_mark there in omega arith
 
-pub not_down : (w : State) → Fine w → (q a : ℕ) → Member q w.down → slice_get w.progress q ≡ Some (Up a) → ⊥
+pub not_down : (w : State) → Consistent w → (q a : ℕ) → Member q w.down → slice_get w.progress q ≡ Some (Up a) → ⊥
 not_down w c q a m there =
-    let r = member_weight (in_up q) w.down q m in let one = is_at q in let u = c.places.helds q in let none = ap held_mark there in omega arith
+    let r = member_weight (in_up q) w.down q m in let one = is_self q in let u = c.places.helds q in let none = ap held_mark there in omega arith
 
-pub not_last : (w : State) → Fine w → (z : Pass) (a : ℕ) → Member z w.passes → z.pre ≡ false → slice_get w.progress z.number ≡ Some (Up a) → ⊥
+pub not_last : (w : State) → Consistent w → (z : Pass) (a : ℕ) → Member z w.passes → z.pre ≡ false → slice_get w.progress z.number ≡ Some (Up a) → ⊥
 not_last w c z a m t there =
-    let r = member_weight (in_last z.number) w.passes z m in let one : in_last z.number z ≡ 1 = rw (t, is_at z.number) refl in
+    let r = member_weight (in_last z.number) w.passes z m in let one : in_last z.number z ≡ 1 = rw (t, is_self z.number) refl in
     let u = c.places.helds z.number in let none = ap held_mark there in omega arith
 
-pub fine_run : (a : Answers) (w : State) (j p v : ℕ) (stores : List Store) (batches : List Batch) → slice_get w.up j ≡ Some p → w.version ≤ v
+-- what another packet was, before this one changed
+other_was : (fates : List Progress) (p q : ℕ) (o f is : Progress) → slice_get fates p ≡ Some o → (slice_get fates q ≡ Some o → ⊥)
+    → slice_get (set fates p f) q ≡ Some is → slice_get fates q ≡ Some is
+other_was fates p q o f is there other h = elim (set_cases fates p q o f is there h) [
+  | inl e ↦ absurd (other (subst (λ n. slice_get fates n ≡ Some o) (sym e.0) there))
+  | inr old ↦ old
+]
+
+pub consistent_run : (a : Answers) (w : State) (j p v : ℕ) (stores : List Store) (batches : List Batch) → slice_get w.up j ≡ Some p → w.version ≤ v
     → ((n : ℕ) → n ≤ length (commands_in w.batches) → visible batches n ≡ visible w.batches n)
-    → AreCounted (run_at a w j p v stores batches) → Fine w → Fine (run_at a w j p v stores batches)
-fine_run a w j p v stores batches g later shows counts c =
+    → AreCounted (run_at a w j p v stores batches) → Consistent w → Consistent (run_at a w j p v stores batches)
+consistent_run a w j p v stores batches g later shows counts c =
     let fate = at_up w j p c.places g in
     let y = w.store in
     let o : Progress = Up fate.0 in
     let f : Progress = Held fate.0 w.events v y in
-    let x = run_at a w j p v stores batches in
-    let new : decided w.events v y (slice_get w.progress p) ≡ f = ap (decided w.events v y) fate.1 in
     let old = c.each p o fate.1 in
     let done = shows w.done (let a = c.counts.sent_in in let b = c.counts.done_in in omega arith) in
     let acked = shows w.acked (let a = c.counts.sent_in in let b = c.counts.done_in in let d = c.counts.acked_in in omega arith) in
     let most = shown_le w w.done c in
-    record {
+    rw (ap (decided w.events v y) fate.1) (record {
       counts = counts;
       places = record {
-        firsts = λ q. rw new (let m = mark_set pass_mark w.progress p q o f fate.1 in let u = c.places.firsts q in omega arith);
-        ups = λ q. rw new (let m = mark_set up_mark w.progress p q o f fate.1 in let r = weight_remove (in_up q) w.up j p g in let u = c.places.ups q in omega arith);
-        helds = λ q. rw new (let m = mark_set held_mark w.progress p q o f fate.1 in let r = weight_push (in_held q) w.held (p, v) in let u = c.places.helds q in omega arith);
+        firsts = λ q. let m = mark_set pass_mark w.progress p q o f fate.1 in let u = c.places.firsts q in omega arith;
+        ups = λ q. let m = mark_set up_mark w.progress p q o f fate.1 in let r = weight_remove (in_up q) w.up j p g in let u = c.places.ups q in omega arith;
+        helds = λ q. let m = mark_set held_mark w.progress p q o f fate.1 in let r = weight_push (in_held q) w.held (p, v) in let u = c.places.helds q in omega arith;
       };
       needs = record {
-        firsts = λ z a u m t there. elim (set_cases w.progress p z.number o f (Entered a u) fate.1 (subst (λ k. slice_get (set w.progress p k) z.number ≡ Some (Entered a u)) new there)) [
+        firsts = λ z a u m t there. elim (set_cases w.progress p z.number o f (Entered a u) fate.1 there) [
           | inl e ↦ cc (e.1)
-          | inr old_there ↦ c.needs.firsts z a u m t old_there
+          | inr was ↦ c.needs.firsts z a u m t was
         ];
-        helds = λ q need a d u z m there. elim (set_cases w.progress p q o f (Held a d u z) fate.1 (subst (λ k. slice_get (set w.progress p k) q ≡ Some (Held a d u z)) new there)) [
-          | inl e ↦ elim (member_push w.held (p, v) (q, need) m) [
-            | inl fresh ↦ let same : v ≡ u = cc (e.1) in sym same ∙ ap (λ (x : ℕ × ℕ). x.1) fresh
-            | inr old_one ↦ absurd (not_held w c q need fate.0 old_one (subst (λ k. slice_get w.progress k ≡ Some (Up fate.0)) (sym e.0) fate.1))
-          ]
-          | inr old_there ↦ elim (member_push w.held (p, v) (q, need) m) [
-            | inl fresh ↦ let same : q ≡ p = sym (ap (λ (x : ℕ × ℕ). x.0) fresh) in let both = sym fate.1
-                ∙ subst (λ k. slice_get w.progress k ≡ Some (Held a d u z)) same old_there in cc both
-            | inr old_one ↦ c.needs.helds q need a d u z old_one old_there
-          ]
+        helds = λ q need a d u z m there. elim (member_push w.held (p, v) (q, need) m) [
+          | inl fresh ↦
+              let same : q ≡ p = sym (ap (λ (x : ℕ × ℕ). x.0) fresh) in
+              let now = sym (get_set_same w.progress p o f fate.1) ∙ subst (λ k. slice_get (set w.progress p f) k ≡ Some (Held a d u z)) same there in
+              let version : v ≡ u = cc (now) in
+              sym version ∙ ap (λ (x : ℕ × ℕ). x.1) fresh
+          | inr old_one ↦ c.needs.helds q need a d u z old_one (other_was w.progress p q o f (Held a d u z) fate.1 (not_held w c q need fate.0 old_one) there)
         ];
-        downs = λ q a d u z m there. rw acked (elim (set_cases w.progress p q o f (Held a d u z) fate.1 (subst (λ k. slice_get (set w.progress p k) q ≡ Some (Held a d u z)) new there)) [
-          | inl e ↦ absurd (not_down w c q fate.0 m (subst (λ k. slice_get w.progress k ≡ Some (Up fate.0)) (sym e.0) fate.1))
-          | inr old_there ↦ c.needs.downs q a d u z m old_there
-        ]);
-        lasts = λ q a d u z m t there. rw acked (elim (set_cases w.progress p q.number o f (Held a d u z) fate.1 (subst (λ k. slice_get (set w.progress p k) q.number ≡ Some (Held a d u z)) new there)) [
-          | inl e ↦ absurd (not_last w c q fate.0 m t (subst (λ k. slice_get w.progress k ≡ Some (Up fate.0)) (sym e.0) fate.1))
-          | inr old_there ↦ c.needs.lasts q a d u z m t old_there
-        ]);
+        downs = λ q a d u z m there. rw acked
+            (c.needs.downs q a d u z m (other_was w.progress p q o f (Held a d u z) fate.1 (not_down w c q fate.0 m) there));
+        lasts = λ q a d u z m t there. rw acked
+            (c.needs.lasts q a d u z m t (other_was w.progress p q.number o f (Held a d u z) fate.1 (not_last w c q fate.0 m t) there));
       };
-      each = rw (new, done) (each_set (FateOk w.events v (visible w.batches w.done)) w.progress p o f fate.1
+      each = rw done (each_set (FateOk w.events v (visible w.batches w.done)) w.progress p o f fate.1
           (each_weaker (FateOk w.events w.version (visible w.batches w.done)) (FateOk w.events v (visible w.batches w.done)) w.progress (λ k. fate_more _ _ _ _ _ _ k (omega arith) later (omega arith)) c.each)
           (old, omega arith, omega arith));
-      pairs = rw new (pairs_set w.progress p o f fate.1 c.pairs (fits_late w.events w.version (visible w.batches w.done) w.progress f c.each refl (λ u e. let same = same_Some _ _ e in omega arith)));
-    }
+      pairs = pairs_set w.progress p o f fate.1 c.pairs (fits_late w.events w.version (visible w.batches w.done) w.progress f c.each refl (λ u e. let same = same_Some _ _ e in omega arith));
+    })

@@ -1,7 +1,6 @@
 -- what the lists, the fates and pairs of fates say
 use Rattle.std.proofs.Common.{◌≡◌, ℕ, ◌+◌, ◌<◌, ◌≤◌, true, false, cond, List, [], ◌∷◌, ◌++◌, Option, Some, None, ◌⊎◌, inl, inr, refl, sym, ◌∙◌, subst, arith, set}
 use Rattle.std.specs.Prelude.{slice_get}
-use Rattle.std.proofs.lemmas.Bool.{eq-eqb}
 use Rattle.std.proofs.lemmas.Option.{same_Some, none-some}
 use Rattle.state_store.specs.Store.{Store}
 use Rattle.output_commit.specs.Batches.{visible}
@@ -9,7 +8,7 @@ use Rattle.replay_state.specs.State.{State, Progress, Entered, Up, Held, Slow, F
 use Rattle.replay_state.proofs.Words.{admitted_at, released_at}
 use Rattle.run_model.specs.Members.{Member}
 use Rattle.replay_state.proofs.Words.{version_at}
-use Rattle.replay_state.proofs.Lists.{set_cases, weight, weight_remove, is}
+use Rattle.replay_state.proofs.Lists.{set_cases, weight, weight_remove, is, is_self}
 use Rattle.lemmas.proofs.Lists.{get_before_pushed}
 
 abbrev pub pass_mark : Option Progress → ℕ
@@ -37,13 +36,13 @@ abbrev pub in_held : ℕ → ℕ × ℕ → ℕ
 in_held p x = is x.0 p
 
 -- each packet on its way stands once, where its fate says
-pub record Places (w : State) : Type 0 where
-  pub firsts : (p : ℕ) → weight (in_first p) w.passes ≡ pass_mark (slice_get w.progress p)
-  pub ups : (p : ℕ) → weight (in_up p) w.up ≡ up_mark (slice_get w.progress p)
-  pub helds : (p : ℕ) → weight (in_held p) w.held + weight (in_up p) w.down + weight (in_last p) w.passes ≡ held_mark (slice_get w.progress p)
+pub record Standing (passes : List Pass) (up : List ℕ) (held : List (ℕ × ℕ)) (down : List ℕ) (progress : List Progress) : Type 0 where
+  pub firsts : (p : ℕ) → weight (in_first p) passes ≡ pass_mark (slice_get progress p)
+  pub ups : (p : ℕ) → weight (in_up p) up ≡ up_mark (slice_get progress p)
+  pub helds : (p : ℕ) → weight (in_held p) held + weight (in_up p) down + weight (in_last p) passes ≡ held_mark (slice_get progress p)
 
-pub is_at : (p : ℕ) → is p p ≡ 1
-is_at p = let e = eq-eqb p p refl in rw e refl
+abbrev pub Places : State → Type 0
+Places w = Standing w.passes w.up w.held w.down w.progress
 
 pub pass_fate : (f : Option Progress) → 0 < pass_mark f → (a v : ℕ) × (f ≡ Some (Entered a v))
 pass_fate (Some (Entered a v)) h = (a, v, refl)
@@ -59,21 +58,24 @@ held_fate f h = absurd (omega arith)
 
 pub at_first : (w : State) (j : ℕ) (x : Pass) → Places w → slice_get w.passes j ≡ Some x → x.pre ≡ true → (a v : ℕ) × (slice_get w.progress x.number ≡ Some (Entered a v))
 at_first w j x c g t = pass_fate (slice_get w.progress x.number)
-    (let r = weight_remove (in_first x.number) w.passes j x g in let u = c.firsts x.number in let one : in_first x.number x ≡ 1 = rw (t, is_at x.number) refl in omega arith)
+    (let r = weight_remove (in_first x.number) w.passes j x g in let u = c.firsts x.number in let one : in_first x.number x ≡ 1 = rw (t, is_self x.number) refl in omega arith)
 
 pub at_last : (w : State) (j : ℕ) (x : Pass) → Places w → slice_get w.passes j ≡ Some x → x.pre ≡ false → (a d v : ℕ) × (y : Store) × (slice_get w.progress x.number ≡ Some (Held a d v y))
 at_last w j x c g t = held_fate (slice_get w.progress x.number)
-    (let r = weight_remove (in_last x.number) w.passes j x g in let u = c.helds x.number in let one : in_last x.number x ≡ 1 = rw (t, is_at x.number) refl in omega arith)
+    (let r = weight_remove (in_last x.number) w.passes j x g in let u = c.helds x.number in let one : in_last x.number x ≡ 1 = rw (t, is_self x.number) refl in omega arith)
 
 pub at_up : (w : State) (j p : ℕ) → Places w → slice_get w.up j ≡ Some p → (a : ℕ) × (slice_get w.progress p ≡ Some (Up a))
-at_up w j p c g = up_fate (slice_get w.progress p) (let r = weight_remove (in_up p) w.up j p g in let u = c.ups p in let one = is_at p in omega arith)
+at_up w j p c g = up_fate (slice_get w.progress p) (let r = weight_remove (in_up p) w.up j p g in let u = c.ups p in let one = is_self p in omega arith)
 
 -- the versions of what is on its way
-pub record Needs (w : State) : Type 0 where
-  pub firsts : (x : Pass) (a v : ℕ) → Member x w.passes → x.pre ≡ true → slice_get w.progress x.number ≡ Some (Entered a v) → v ≡ x.version
-  pub helds : (p need a d v : ℕ) (y : Store) → Member (p, need) w.held → slice_get w.progress p ≡ Some (Held a d v y) → v ≡ need
-  pub downs : (p a d v : ℕ) (y : Store) → Member p w.down → slice_get w.progress p ≡ Some (Held a d v y) → v ≤ visible w.batches w.acked
-  pub lasts : (x : Pass) (a d v : ℕ) (y : Store) → Member x w.passes → x.pre ≡ false → slice_get w.progress x.number ≡ Some (Held a d v y) → v ≤ visible w.batches w.acked
+pub record Needing (passes : List Pass) (held : List (ℕ × ℕ)) (down : List ℕ) (progress : List Progress) (known : ℕ) : Type 0 where
+  pub firsts : (x : Pass) (a v : ℕ) → Member x passes → x.pre ≡ true → slice_get progress x.number ≡ Some (Entered a v) → v ≡ x.version
+  pub helds : (p need a d v : ℕ) (y : Store) → Member (p, need) held → slice_get progress p ≡ Some (Held a d v y) → v ≡ need
+  pub downs : (p a d v : ℕ) (y : Store) → Member p down → slice_get progress p ≡ Some (Held a d v y) → v ≤ known
+  pub lasts : (x : Pass) (a d v : ℕ) (y : Store) → Member x passes → x.pre ≡ false → slice_get progress x.number ≡ Some (Held a d v y) → v ≤ known
+
+abbrev pub Needs : State → Type 0
+Needs w = Needing w.passes w.held w.down w.progress (visible w.batches w.acked)
 
 abbrev pub FateOk : ℕ → ℕ → ℕ → Progress → Type 0
 FateOk now version most (Entered a v) = (a ≤ now) × (v ≤ most)
@@ -91,8 +93,8 @@ fate_more now version most now' version' most' f x y z h = (h.0, omega arith, om
 abbrev pub Each : (Progress → Type 0) → List Progress → Type 0
 Each P fates = (p : ℕ) (f : Progress) → slice_get fates p ≡ Some f → P f
 
-abbrev pub EachFine : State → Type 0
-EachFine w = Each (FateOk w.events w.version (visible w.batches w.done)) w.progress
+abbrev pub EachConsistent : State → Type 0
+EachConsistent w = Each (FateOk w.events w.version (visible w.batches w.done)) w.progress
 
 pub each_push : (P : Progress → Type 0) (fates : List Progress) (f : Progress) → Each P fates → P f → Each P (fates ++ f ∷ [])
 each_push P fates f all new p g h = elim (get_before_pushed fates f g p h) [ inl e ↦ subst P e.1 new | inr old ↦ all p g old ]

@@ -1,18 +1,15 @@
 -- The objects of each version, batch by batch, also where batches are taken up.
-use Rattle.std.proofs.Common.{◌≡◌, ℕ, ◌+◌, ◌-◌, ◌*◌, ◌≤◌, Bool, true, leb, eqb, List, [], ◌∷◌, ◌++◌, inl, inr, refl, sym, ◌∙◌, ap, subst, arith, zero, suc, take, map, length}
-use Rattle.std.proofs.lemmas.Bool.{cases_Bool, cases_lt}
-use Rattle.std.proofs.lemmas.List.{take-map, take_all, take-append-le, length-map, get_or_append_left, get_or_push}
+use Rattle.std.proofs.Common.{◌≡◌, ℕ, ◌+◌, ◌-◌, ◌≤◌, Bool, true, leb, eqb, List, [], ◌∷◌, ◌++◌, inl, inr, refl, sym, ◌∙◌, ap, subst, arith, zero, suc, take, map, length}
+use Rattle.std.proofs.lemmas.Bool.{cases_Bool}
+use Rattle.std.proofs.lemmas.List.{get_or_append_left, get_or_push}
 use Rattle.state_store.specs.Store.{Object, Store, object_at}
 use Rattle.writeback_table.specs.declared.command.Update.{Update}
 use Rattle.writeback_table.specs.declared.command.Command.{Command}
-use Rattle.writeback_table.specs.declared.command.Command.TheVariants.{On}
 use Rattle.writeback_table.specs.Commands.{commands_of, ons}
-use Rattle.writeback_table.specs.Batches.{all_commands, changed_at, changed_by, object_after, TakesAll, AreTaken, count_of}
-use Rattle.output_commit.specs.Batches.{Batch, commands_in, merged, take_up}
+use Rattle.writeback_table.specs.Batches.{changed_at, changed_by, object_after, TakesAll, AreTaken, count_of}
+use Rattle.output_commit.specs.Batches.{Batch, merged, take_up}
 use Rattle.replay_state.specs.State.{store_at}
-use Rattle.replay_state.proofs.Counts.{shows, versions_of, versions_in, sum_of, sums, sum_append, sum_batch, first_sum, first_split, joined}
-use Rattle.writeback_table.proofs.Histories.{batch_ons, ons_append}
-use Rattle.lemmas.proofs.Lists.{take_parts}
+use Rattle.output_commit.specs.Laws.{versions_in}
 
 -- ---- changes one behind the other
 
@@ -44,11 +41,10 @@ versions_first bs zero = 0
 versions_first [] (suc k) = 0
 versions_first (b ∷ bs) (suc k) = b.versions + versions_first bs k
 
-pub commands_are : (bs : List Batch) → commands_in bs ≡ all_commands (updates_in bs)
-commands_are [] = refl
-commands_are (b ∷ bs) = ap (λ l. commands_of b.updates ++ l) (commands_are bs)
-
 -- ---- a batch takes up those behind it
+
+abbrev joined : Batch → Batch → Batch
+joined b c = record { updates = b.updates ++ c.updates; versions = b.versions + c.versions }
 
 begun_joined : (o room : ℕ) (stores : List Store) (now : Store) (v : ℕ) (object : Object) (b c : Batch) (bs : List Batch) → count_of o (b.updates ++ c.updates) ≤ room
     → Begun o room stores now v object (b ∷ (c ∷ bs)) → Begun o room stores now v object (joined b c ∷ bs)
@@ -83,17 +79,9 @@ begun_merged o room stores now fits law n v object (b ∷ bs) h = elim (cases_Bo
 
 -- ---- a batch more, of one version
 
-abbrev pub total_of : List Batch → ℕ
-total_of [] = 0
-total_of (b ∷ bs) = b.versions + total_of bs
-
-pub total_sum : (bs : List Batch) → total_of bs ≡ sum_of (versions_in bs)
-total_sum [] = refl
-total_sum (b ∷ bs) = let r = total_sum bs in let s = sum_append (versions_of b) (versions_in bs) in let t = sum_batch b in omega arith
-
 pub begun_push : (o room : ℕ) (stores : List Store) (now new : Store) (b : Batch) → b.versions ≡ 1 → count_of o b.updates ≤ room → TakesAll o (object_at now o) b.updates
     → object_at new o ≡ changed_by o (object_at now o) b.updates
-    → (v : ℕ) (object : Object) (bs : List Batch) → length stores ≡ v + total_of bs + 1 → Begun o room stores now v object bs
+    → (v : ℕ) (object : Object) (bs : List Batch) → length stores ≡ v + versions_in bs + 1 → Begun o room stores now v object bs
     → Begun o room (stores ++ new ∷ []) new v object (bs ++ b ∷ [])
 begun_push o room stores now new b one few takes is v object [] long h =
     let there = get_or_append_left stores (new ∷ []) [] v (omega arith) in
@@ -132,51 +120,7 @@ begun_at o room stores now (suc k) v object (b ∷ bs) low h =
     let e : v + (b.versions + versions_first bs k) ≡ v + b.versions + versions_first bs k = omega arith in
     rw e (begun_at o room stores now k (v + b.versions) (changed_by o object b.updates) bs (omega arith) h.3)
 
--- ---- the visible version, by batches that set the bit
-
-shows_ons : (v : ℕ) (cs : List Command) → sum_of (map (shows v) cs) ≡ v * ons cs
-shows_ons v [] = omega arith
-shows_ons v (On ∷ cs) = let r = shows_ons v cs in let e : v * (1 + ons cs) ≡ v + v * ons cs = grind arith in omega arith
-shows_ons v (command ∷ cs) = let r = shows_ons v cs in let e : 0 + ons cs ≡ ons cs = omega arith in rw e (omega arith)
-
 pub ons_most : (cs : List Command) (n : ℕ) → ons (take n cs) ≤ ons cs
 ons_most cs zero = omega arith
 ons_most [] (suc n) = omega arith
 ons_most (c ∷ cs) (suc n) = let r = ons_most cs n in omega arith
-
--- the versions of one batch after n of its commands
-of_batch : (b : Batch) (n : ℕ) → first_sum (versions_of b) n ≡ b.versions * ons (take n (commands_of b.updates))
-of_batch b n = ap sum_of (take-map (shows b.versions) n (commands_of b.updates)) ∙ shows_ons b.versions (take n (commands_of b.updates))
-
-first_few : (b : Batch) (bs : List Batch) (k : ℕ) → k ≤ 1 → versions_first (b ∷ bs) k ≡ b.versions * k
-first_few b bs (suc (suc k)) low = absurd (omega arith)
-first_few b bs k low = omega arith
-
-pub sums_counts : (bs : List Batch) (n : ℕ) → sums bs n ≡ versions_first bs (ons (take n (commands_in bs)))
-sums_counts [] zero = refl
-sums_counts [] (suc n) = refl
-sums_counts (b ∷ bs) n =
-    let cs = commands_of b.updates in
-    let long : length (versions_of b) ≡ length cs = length-map cs (shows b.versions) in
-    let split = first_split (versions_of b) (versions_in bs) n in
-    let one = of_batch b n in
-    elim (cases_lt (length cs) n) [
-      | inl past ↦
-          let all : take n cs ≡ cs = take_all n cs (omega arith) in
-          let whole : ons (take n cs) ≡ 1 = ap ons all ∙ batch_ons b.updates in
-          let rest = sums_counts bs (n - length cs) in
-          let same : n - length (versions_of b) ≡ n - length cs = omega arith in
-          let later : sums bs (n - length (versions_of b)) ≡ versions_first bs (ons (take (n - length cs) (commands_in bs))) = ap (sums bs) same ∙ rest in
-          let count : ons (take n (cs ++ commands_in bs)) ≡ suc (ons (take (n - length cs) (commands_in bs))) =
-          ap ons (take_parts cs (commands_in bs) n ∙ ap (λ l. l ++ take (n - length cs) (commands_in bs)) all)
-          ∙ ons_append cs (take (n - length cs) (commands_in bs)) ∙ (let w = batch_ons b.updates in omega arith) in
-          let first : first_sum (versions_of b) n ≡ b.versions = one ∙ ap (λ k. b.versions * k) whole ∙ omega arith in
-          rw count (omega arith)
-      | inr within ↦
-          let none : n - length (versions_of b) ≡ 0 = omega arith in
-          let count : ons (take n (cs ++ commands_in bs)) ≡ ons (take n cs) = ap ons (take-append-le n cs (commands_in bs) within) in
-          let few : ons (take n cs) ≤ 1 = let m = ons_most cs n in let w = batch_ons b.updates in omega arith in
-          let first = first_few b bs (ons (take n cs)) few in
-          let later : sums bs (n - length (versions_of b)) ≡ 0 = ap (sums bs) none in
-          rw count (omega arith)
-    ]

@@ -1,7 +1,7 @@
 -- What holds of every run, whatever the schedule.
 use Rattle.packet_fields.specs.declared.verdict.Verdict.TheVariants as verdict
 use Rattle.std.proofs.Common.{refl, arith, inl, inr, sym, ◌∙◌, ap, subst, suc}
-use Rattle.std.specs.Prelude.{IsTrue, List, None, Some, [], false, is_some, length, map, nat_lt, remove, slice_get, slice_set, take, true, ℕ, ◌++◌, ◌+◌, ◌<◌, ◌↔◌, ◌∷◌, ◌≡◌, ◌≤◌, ⊤}
+use Rattle.std.specs.Prelude.{IsTrue, List, None, Some, [], false, is_some, length, map, nat_lt, remove, slice_get, slice_set, take, true, ℕ, ◌++◌, ◌+◌, ◌<◌, ◌↔◌, ◌∷◌, ◌≡◌, ◌≤◌}
 use Rattle.output_commit.specs.Batches.{Batch, commands_in, fits}
 use Rattle.packet_fields.specs.declared.packet.Packet.{Packet}
 use Rattle.packet_fields.specs.declared.verdict.Verdict.{Verdict}
@@ -21,26 +21,29 @@ use Rattle.replay_state.proofs.Drained.{cost_now, drained_has_none, none_is_drai
 use Rattle.replay_state.proofs.Draining.{cost_step, lowers}
 use Rattle.replay_state.proofs.Effects.{shown_le}
 use Rattle.replay_state.proofs.Keeping.{kept_of}
-use Rattle.replay_state.proofs.Plain.{fits_all, plain_sound}
+use Rattle.replay_state.proofs.Plain.{plain_sound}
 use Rattle.replay_state.proofs.Runs.{store_kept}
-use Rattle.replay_state.proofs.Sane.{sane_of, sane_steps}
+use Rattle.replay_state.proofs.EveryState.{every_of, every_steps}
 use Rattle.replay_state.proofs.Seen.{newest_tables, seen_from, stored_of}
 use Rattle.replay_state.proofs.Serialised.{complete_from, newest_from, quiet_parts, serialises_from, shown_from}
 use Rattle.replay_state.proofs.Views.{keep_views}
 use Rattle.std.proofs.lemmas.Bool.{and_from, and_parts, cases_Bool, eqb-true, cases_eq}
 use Rattle.std.proofs.lemmas.List.{length-map}
-use Rattle.output_commit.proofs.Fitting.{few as fits_each}
-use Rattle.replay_state.proofs.Carried.{carried_first, carried_weaker}
+use Rattle.output_commit.proofs.Fitting.{few as fits_each, held_by}
+use Rattle.replay_state.proofs.Carried.{carried_first}
 use Rattle.replay_state.proofs.Fates.{at_first, at_last, at_up}
 use Rattle.run_model.proofs.Members.{get_member}
 use Rattle.replay_state.proofs.Agreeing.{step_alike}
-use Rattle.replay_state.proofs.Answered.{AllThere, KnownUp, all_asked, cover_steps, down_append, next_answered, picks_stay, questions_append, run_stays, there_parts, up_append}
+use Rattle.replay_state.proofs.Answered.{AllThere, all_asked, cover_steps, down_append, next_answered, picks_stay, questions_append, run_stays, there_parts, up_append}
 use Rattle.replay_state.proofs.AtOnce.{comes_out, fast_at_once, none_steps, slow_at_once}
-use Rattle.replay_state.proofs.Counting.{batches_alternate, bit_counts, by_counts}
-use Rattle.replay_state.proofs.Gone.{GoneSo, all_frames, down_numbered, gone_steps, none_down, none_up, or_found}
+use Rattle.replay_state.proofs.Counting.{bit_counts, by_counts}
+use Rattle.replay_state.proofs.Gone.{none_down, none_up, or_found}
+use Rattle.replay_state.proofs.Numbered.{down_numbered}
 use Rattle.replay_state.proofs.Once.{end_once}
 use Rattle.replay_state.proofs.Placed.{comes_once, down_there, held_there, passes_once}
 use Rattle.replay_state.proofs.Settled.{fast_by_seen, settled_at_once}
+use Rattle.replay_state.proofs.History.{updates_in}
+use Rattle.replay_state.proofs.Steady.{turn_all}
 use Rattle.replay_state.proofs.Tying.{next_tied}
 use Rattle.replay_state.specs.Agree.{Agree, AgreeOn}
 use Rattle.replay_state.specs.Answers.{Answers, Setup, meaning_of}
@@ -52,11 +55,11 @@ use Rattle.replay_state.specs.Journal.{Call, DownFramesAre, EndOnce, FramesAre, 
 use Rattle.replay_state.specs.Places.{HavePlaces}
 use Rattle.replay_state.specs.Program.{Fits, IsSplitProgram, Manner, SplitProgram, plain, setup_of}
 use Rattle.replay_state.specs.Run.{job_run, seen_store}
-use Rattle.replay_state.specs.Sound.{AreFew, AreSound}
+use Rattle.replay_state.specs.SoundAnswers.{AreFew, AreSound}
 use Rattle.replay_state.specs.State.{Fast, Held, Pass, Slow, State, Up, applied_commands, bit_behind, fate_of, first_state, seen, store_at, Entered}
 use Rattle.replay_state.specs.Step.{applies, idled, pass_of, state_of, step, steps, tick}
 use Rattle.replay_state.specs.Tables.{HasNewestTables, IsSeen}
-use Rattle.replay_state.specs.Told.{HasFrames, IsRight, IsTied, Tells, WentUp}
+use Rattle.replay_state.specs.Tied.{HasFrames, IsRight, IsTied, Tells, IsSentUp}
 use Rattle.replay_state.specs.Views.{KeepViews, Sees}
 
 -- Whole runs of a split program are sound answers. No run of the server makes more changes than there are instructions
@@ -79,7 +82,7 @@ pub batches_take_up_what_fits : (s : SplitProgram) (packets : List Packet) (mann
 batches_take_up_what_fits s packets manner us = (
   (λ f. let parts = and_parts manner.merges (fits s.writeback us) f in
       record { merges = parts.0; room = fits_each s.writeback us parts.1 }),
-  (λ f. and_from manner.merges (fits s.writeback us) f.merges (fits_all us s.writeback f.room us)),
+  (λ f. and_from manner.merges (fits s.writeback us) f.merges (held_by s.writeback us f.room)),
 )
 
 -- Whatever a switch answers, its calls determine the state, and those of one event more stand behind the others. One
@@ -109,7 +112,7 @@ pub a_run_is_answered_by_its_calls-state_stays : (setup : Setup) (s : SplitProgr
 a_run_is_answered_by_its_calls-state_stays setup s packets events calls more st h =
     let begin = first_state (start_store setup.objects) in
     h.run ∙ (run_stays setup s packets calls more begin events (all_asked setup s packets events calls st h)
-    (carried_first (KnownUp calls) (start_store setup.objects))).0
+    (carried_first (HasGoneUp calls) (start_store setup.objects))).0
 
 pub a_run_is_answered_by_its_calls-picked_stay : (setup : Setup) (s : SplitProgram) (packets : List Packet) (events behind : List Event)
     (calls more : List Call) (st : State) → IsAnswered setup s packets (events ++ behind) calls st
@@ -122,9 +125,9 @@ a_run_is_answered_by_its_calls-picked_stay setup s packets events behind calls m
     let rest = questions setup s packets calls now behind in
     let split = questions_append setup s packets calls begin events behind in
     let parts = there_parts setup s calls qs rest (subst (AllThere setup s calls) split (all_asked setup s packets (events ++ behind) calls st h)) in
-    let known = carried_first (KnownUp calls) (start_store setup.objects) in
+    let known = carried_first (HasGoneUp calls) (start_store setup.objects) in
     subst (λ w. Picks setup (journal s (calls ++ more)) w behind) (run_stays setup s packets calls more begin events parts.0 known).0
-    (picks_stay setup s packets calls more now behind parts.1 (cover_steps setup s packets calls more begin events parts.0 known) picks)
+    (picks_stay setup s packets calls more now behind parts.1 (cover_steps setup s packets calls begin events parts.0 known) picks)
 
 pub a_run_is_answered_by_its_calls-once : (setup : Setup) (s : SplitProgram) (packets : List Packet) (events : List Event)
     (calls : List Call) (st : State) → IsAnswered setup s packets events calls st → EndOnce calls st
@@ -133,12 +136,9 @@ a_run_is_answered_by_its_calls-once setup s packets events calls st h = end_once
 pub a_run_is_answered_by_its_calls-gone : (setup : Setup) (s : SplitProgram) (packets : List Packet) (events : List Event)
     (calls : List Call) (st : State) → IsAnswered setup s packets events calls st → Carried (HasGoneUp calls) st
 a_run_is_answered_by_its_calls-gone setup s packets events calls st h =
-    let P : ℕ → List ℕ → Type 0 = λ n frame. ⊤ in
     let begin = start_store setup.objects in
-    carried_weaker (GoneSo P calls) (HasGoneUp calls) st (λ n g. (g.0, g.1))
-    (subst (Carried (GoneSo P calls)) (sym h.run)
-    (gone_steps P setup s packets calls (all_frames calls) (first_state begin) events (all_asked setup s packets events calls st h)
-    (carried_first (GoneSo P calls) begin)))
+    subst (Carried (HasGoneUp calls)) (sym h.run)
+    (cover_steps setup s packets calls (first_state begin) events (all_asked setup s packets events calls st h) (carried_first (HasGoneUp calls) begin))
 
 pub a_run_is_answered_by_its_calls-found : (calls : List Call) (n : ℕ) (answer : UpAnswer)
     → up_answer calls n ≡ Some answer → IsAnswerIn calls n answer
@@ -168,7 +168,7 @@ pub a_told_step_keeps_the_tie-first : (s : SplitProgram) (packets : List Packet)
     → IsSplitProgram s packets → HasFrames s packets
     → IsTied (setup_of s packets manner) s packets [] [] (first_state (start_store s.objects))
 a_told_step_keeps_the_tie-first s packets manner law frames =
-    record { same = refl; framed = carried_first (WentUp s packets []) (start_store s.objects) }
+    record { same = refl; framed = carried_first (IsSentUp s packets []) (start_store s.objects) }
 
 pub a_told_step_keeps_the_tie-step : (s : SplitProgram) (packets : List Packet) (manner : Manner) (events : List Event) (event : Event)
     (calls one : List Call) (st : State)
@@ -223,7 +223,7 @@ every_run_serialises-drained setup a events law drained =
 pub every_run_serialises-newest : (setup : Setup) (a : Answers) (events : List Event)
     → AreSound setup a → IsTrue (is_quiet (state_of setup a events))
     → seen (state_of setup a events) ≡ (state_of setup a events).version
-every_run_serialises-newest setup a events law = newest_from (state_of setup a events) (sane_of setup a events).fine
+every_run_serialises-newest setup a events law = newest_from (state_of setup a events) (every_of setup a events).consistent
 
 -- Drain picks the first event of its list that applies, and none just where the run is drained. Where no run of the
 -- server makes more changes than there are instructions for them, it drains each run, by one list of events, which is
@@ -235,13 +235,13 @@ drain_ends-picks = picks_first
 pub drain_ends-stops : (setup : Setup) (a : Answers) (events : List Event)
     → (next_event setup (state_of setup a events) ≡ None) ↔ (is_drained setup (state_of setup a events) ≡ true)
 drain_ends-stops setup a events =
-    let k = sane_of setup a events in
-    (none_is_drained setup (state_of setup a events) k, drained_has_none setup (state_of setup a events) k.fine)
+    let k = every_of setup a events in
+    (none_is_drained setup (state_of setup a events) k, drained_has_none setup (state_of setup a events) k.consistent)
 
 pub drain_ends-picked : (setup : Setup) (a : Answers) (events : List Event) → AreFew setup a
     → (let st = state_of setup a events in Drains setup a st (drain_events setup a st))
 drain_ends-picked setup a events few =
-    picks_all setup a few (drain_bound setup) (state_of setup a events) (sane_of setup a events) (cost_now setup a few events)
+    picks_all setup a few (drain_bound setup) (state_of setup a events) (every_of setup a events) (cost_now setup a few events)
 
 pub drain_ends-drained : (setup : Setup) (a : Answers) (events : List Event) → AreFew setup a
     → (let st = state_of setup a events in
@@ -249,13 +249,13 @@ pub drain_ends-drained : (setup : Setup) (a : Answers) (events : List Event) →
 drain_ends-drained setup a events few =
     let w = state_of setup a events in
     let more = drain_events setup a w in
-    none_is_drained setup (steps setup a w more) (sane_steps setup a w more (sane_of setup a events)) (drain_ends-picked setup a events few).1
+    none_is_drained setup (steps setup a w more) (every_steps setup a w more (every_of setup a events)) (drain_ends-picked setup a events few).1
 
 pub drain_ends-one : (setup : Setup) (a : Answers) (events more : List Event) → AreFew setup a
     → (let st = state_of setup a events in Drains setup a st more → more ≡ drain_events setup a st)
 drain_ends-one setup a events more few drains =
     let w = state_of setup a events in
-    let within = picks_within setup a few w more (sane_of setup a events) drains.0 in
+    let within = picks_within setup a few w more (every_of setup a events) drains.0 in
     let bound = cost_now setup a few events in
     sym (picked_are setup a (drain_bound setup) w more drains.0 drains.1 (omega arith))
 
@@ -276,11 +276,11 @@ drain_ends-left setup a events few = cost_now setup a few events
 pub drain_ends-falls : (setup : Setup) (a : Answers) (events : List Event) (event : Event) → AreFew setup a
     → (let st = state_of setup a events in
     applies setup st event ≡ true → events_left setup (step setup a st event) < events_left setup st)
-drain_ends-falls setup a events event few t = rw t (lowers setup a few (state_of setup a events) event (sane_of setup a events) t)
+drain_ends-falls setup a events event few t = rw t (lowers setup a few (state_of setup a events) event (every_of setup a events) t)
 
 pub drain_ends-stays : (setup : Setup) (a : Answers) (events : List Event) (event : Event) → AreFew setup a
     → (let st = state_of setup a events in events_left setup (step setup a st event) ≤ events_left setup st)
-drain_ends-stays setup a events event few = cost_step setup a few (state_of setup a events) event (sane_of setup a events)
+drain_ends-stays setup a events event few = cost_step setup a few (state_of setup a events) event (every_of setup a events)
 
 -- At every point of a run, lookups of replicated objects see the store with which the visible version began, and the
 -- next command finds room, also where batches are taken up.
@@ -303,7 +303,7 @@ pub stores_keep_what_was_declared-seen : (setup : Setup) (a : Answers) (events :
     → AreSound setup a → IsKept setup.objects (seen_store (state_of setup a events))
 stores_keep_what_was_declared-seen setup a events law =
     let st = state_of setup a events in
-    stores_keep_what_was_declared-begun setup a events (seen st) law (shown_le st st.done (sane_of setup a events).fine)
+    stores_keep_what_was_declared-begun setup a events (seen st) law (shown_le st st.done (every_of setup a events).consistent)
 
 -- Where nothing is on its way, the switch has the replicated objects of the server, and nothing is staged.
 pub a_quiet_switch_has_the_newest_tables : (setup : Setup) (a : Answers) (events : List Event)
@@ -353,7 +353,7 @@ a_switch_that_tells_its_tables_answers_right-under_way s packets manner events c
 pub packets_are_where_they_are_told : (setup : Setup) (a : Answers) (events : List Event) → HavePlaces (state_of setup a events)
 packets_are_where_they_are_told setup a events =
     let w = state_of setup a events in
-    let k = (sane_of setup a events).fine in
+    let k = (every_of setup a events).consistent in
     record {
       entered = λ j x g t.
           let fate = at_first w j x k.places g t in
@@ -433,14 +433,14 @@ pub the_bit_by_counts : (batches : List Batch) (n : ℕ)
     → (let first = take n (commands_in batches) in bit_behind batches n ≡ nat_lt (offs first) (ons first))
 the_bit_by_counts batches n =
     let first = take n (commands_in batches) in
-    by_counts (bit_behind batches n) (offs first) (ons first) (bit_counts false (commands_in batches) n (batches_alternate batches))
+    by_counts (bit_behind batches n) (offs first) (ons first) (bit_counts false true (commands_in batches) n (turn_all true (updates_in batches)))
 
 -- The commands that were applied are those before an event, and the next one behind them where the event applies it,
 -- also where batches come or take up others.
 pub commands_are_applied_in_order : (setup : Setup) (a : Answers) (events : List Event) (event : Event)
     → (let st = state_of setup a events in
     applied_commands (step setup a st event) ≡ applied_commands st ++ applied_by setup st event)
-commands_are_applied_in_order setup a events event = applied_step setup a (state_of setup a events) event (sane_of setup a events)
+commands_are_applied_in_order setup a events event = applied_step setup a (state_of setup a events) event (every_of setup a events)
 
 -- Runs whose numbers are known from outside.
 pub worked_runs-waits : (main_waits.events ≡ 23) × (main_waits.idle ≡ 1) × (main_waits.version ≡ 1) × (seen main_waits ≡ 1)

@@ -50,10 +50,10 @@ weight_remove f [] j x g = cc
 weight_remove f (y ∷ xs) zero x g = let e = ap f (same_Some _ _ g) in omega arith
 weight_remove f (y ∷ xs) (suc j) x g = let r = weight_remove f xs j x g in omega arith
 
-pub weight_set : {X : Type 0} (f : X → ℕ) (xs : List X) (j : ℕ) (x y : X) → slice_get xs j ≡ Some x → f y ≡ f x → weight f (set xs j y) ≡ weight f xs
-weight_set f [] j x y g e = cc
-weight_set f (z ∷ xs) zero x y g e = let d = ap f (same_Some _ _ g) in omega arith
-weight_set f (z ∷ xs) (suc j) x y g e = let r = weight_set f xs j x y g e in omega arith
+pub weight_change : {X : Type 0} (f : X → ℕ) (xs : List X) (j : ℕ) (x y : X) → slice_get xs j ≡ Some x → weight f (set xs j y) + f x ≡ weight f xs + f y
+weight_change f [] j x y g = cc
+weight_change f (z ∷ xs) zero x y g = let d = ap f (same_Some _ _ g) in omega arith
+weight_change f (z ∷ xs) (suc j) x y g = let r = weight_change f xs j x y g in omega arith
 
 -- two places weigh what both have
 pub weight_two : {X : Type 0} (f : X → ℕ) (xs : List X) (i j : ℕ) (x y : X) → slice_get xs i ≡ Some x → slice_get xs j ≡ Some y → (i ≡ j → ⊥) → f x + f y ≤ weight f xs
@@ -102,8 +102,9 @@ kept_push what xs x same n = elim (cases_eq n (length xs)) [
   | inr d ↦ ap what (get_push_other xs x n d)
 ]
 
-pub kept_set : {X Y : Type 0} (what : Option X → Y) (xs : List X) (k : ℕ) (old x : X) → slice_get xs k ≡ Some old → what (Some x) ≡ what (Some old) → (n : ℕ) → what (slice_get (set xs k x) n) ≡ what (slice_get xs n)
-kept_set what xs k old x there same n = elim (cases_eq n k) [
-  | inl e ↦ rw e (ap what (get_set_same xs k old x there) ∙ same ∙ sym (ap what there))
+pub kept_set : {X Y : Type 0} (what : Option X → Y) (xs : List X) (k : ℕ) (old x : X) → slice_get xs k ≡ Some old
+    → (n : ℕ) → (n ≡ k → what (Some x) ≡ what (Some old)) → what (slice_get (set xs k x) n) ≡ what (slice_get xs n)
+kept_set what xs k old x there n same = elim (cases_eq n k) [
+  | inl e ↦ rw e (ap what (get_set_same xs k old x there) ∙ same e ∙ sym (ap what there))
   | inr d ↦ ap what (get_set_other xs k n x d)
 ]

@@ -1,6 +1,6 @@
 -- One call ends each pass.
-use Rattle.std.proofs.Common.{◌≡◌, ℕ, ◌+◌, Bool, true, false, cond, leb, eqb, List, [], ◌∷◌, ◌++◌, Option, Some, None, inl, inr, refl, sym, ◌∙◌, ap, subst, arith, length, map, set}
-use Rattle.std.specs.Prelude.{slice_get, remove, is_some}
+use Rattle.std.proofs.Common.{◌≡◌, ℕ, ◌+◌, Bool, true, false, cond, leb, eqb, List, [], ◌∷◌, ◌++◌, Option, Some, None, inl, inr, refl, sym, ◌∙◌, ap, subst, arith, length, set}
+use Rattle.std.specs.Prelude.{slice_get, remove}
 use Rattle.std.proofs.lemmas.Bool.{cases_Bool, cases_eq}
 use Rattle.packet_fields.specs.declared.packet.Packet.{Packet}
 use Rattle.packet_fields.specs.declared.verdict.Verdict.{Verdict}
@@ -15,64 +15,17 @@ use Rattle.replay_state.specs.State.{State, Progress, Entered, Up, Held, Slow, F
 use Rattle.replay_state.specs.Step.{applies, happens, step, steps, tick}
 use Rattle.replay_state.specs.Step.{finished, went_up, decided, released, came_in, ended, entered, staged, pass_of, with_changes, ran, served, let_go, came_down}
 use Rattle.replay_state.specs.Program.{SplitProgram}
-use Rattle.replay_state.specs.Journal.{UpAnswer, GoingUp, DownAnswer, Released, GoingDown, Call, CalledUp, CalledStageUp, CalledDown, CalledStageDown}
-use Rattle.replay_state.specs.Journal.{only_for, up_end, down_end, ends_up, ends_down, journal, is_up_end, is_down_end, question_of}
+use Rattle.replay_state.specs.Journal.{Call}
+use Rattle.replay_state.specs.Journal.{journal}
 use Rattle.replay_state.specs.Journal.{Question, asks_stage, asks_command, asks_down, asks, asked, questions, IsAnswered}
-use Rattle.replay_state.specs.Journal.{one_if, up_ends, down_ends, has_passed, has_come_down, EndOnce}
+use Rattle.replay_state.specs.Journal.{one_if, has_passed, has_come_down, EndOnce}
 use Rattle.replay_state.proofs.Lists.{is, is_other, is_self, mark_push, remove_push}
 use Rattle.replay_state.proofs.Fates.{at_first, at_last, at_up}
-use Rattle.replay_state.proofs.Effects.{Fine, fine_let_down, fine_let_in, fine_tick}
-use Rattle.replay_state.proofs.Sane.{Sane, sane_step, sane_first}
+use Rattle.replay_state.proofs.Effects.{Consistent, consistent_let_down, consistent_let_in, consistent_tick}
+use Rattle.replay_state.proofs.EveryState.{EveryState, every_step, every_first}
 use Rattle.replay_state.proofs.Steps.{out_at}
-use Rattle.replay_state.proofs.Answered.{ending, up_of, down_of}
+use Rattle.replay_state.proofs.Asking.{calls_down, calls_up, down_of, ending, mark, marks, marks_append, up_of}
 use Rattle.lemmas.proofs.Lists.{get_pushed, get_set_other, get_set_same}
-
--- ---- questions that end passes
-
-abbrev mark : Option ℕ → ℕ → ℕ
-mark None n = 0
-mark (Some m) n = is m n
-
--- how many of the questions end such a pass of packet n
-abbrev marks : (Question → Option ℕ) → ℕ → List Question → ℕ
-marks of n [] = 0
-marks of n (q ∷ qs) = mark (of q) n + marks of n qs
-
-marks_append : (of : Question → Option ℕ) (n : ℕ) (qs more : List Question) → marks of n (qs ++ more) ≡ marks of n qs + marks of n more
-marks_append of n [] more = omega arith
-marks_append of n (q ∷ qs) more = let r = marks_append of n qs more in omega arith
-
-only_counts : {X : Type 0} (m n : ℕ) (x : X) → one_if (is_some (only_for m n (Some x))) ≡ is m n
-only_counts m n x = elim (cases_Bool (eqb m n)) [ inl t ↦ rw t refl | inr t ↦ rw t refl ]
-
-none_counts : (X : Type 0) (m n : ℕ) → one_if (is_some (only_for {X = X} m n None)) ≡ 0
-none_counts X m n = elim (cases_Bool (eqb m n)) [ inl t ↦ rw t refl | inr t ↦ rw t refl ]
-
-up_counts : (m n : ℕ) (answer : UpAnswer) → one_if (is_some (only_for m n (up_end answer))) ≡ mark (ending (is_up_end answer) m) n
-up_counts m n GoingUp = none_counts UpAnswer m n
-up_counts m n answer = only_counts m n answer
-
-down_counts : (m n : ℕ) (answer : DownAnswer) → one_if (is_some (only_for m n (down_end answer))) ≡ mark (ending (is_down_end answer) m) n
-down_counts m n (Released y) = only_counts m n y
-down_counts m n GoingDown = none_counts Verdict m n
-
-call_ups : (call : Call) (n : ℕ) → one_if (is_some (ends_up n call)) ≡ mark (up_of (question_of call)) n
-call_ups (CalledUp fine m packet answer) n = up_counts m n answer
-call_ups (CalledStageUp m answer) n = up_counts m n answer
-call_ups call n = refl
-
-call_downs : (call : Call) (n : ℕ) → one_if (is_some (ends_down n call)) ≡ mark (down_of (question_of call)) n
-call_downs (CalledDown fine m frame answer) n = down_counts m n answer
-call_downs (CalledStageDown m answer) n = down_counts m n answer
-call_downs call n = refl
-
-calls_up : (calls : List Call) (n : ℕ) → up_ends n calls ≡ marks up_of n (map question_of calls)
-calls_up [] n = refl
-calls_up (call ∷ calls) n = let one = call_ups call n in let rest = calls_up calls n in omega arith
-
-calls_down : (calls : List Call) (n : ℕ) → down_ends n calls ≡ marks down_of n (map question_of calls)
-calls_down [] n = refl
-calls_down (call ∷ calls) n = let one = call_downs call n in let rest = calls_down calls n in omega arith
 
 -- ---- packets whose passes end
 
@@ -122,7 +75,7 @@ gains_set w x k old new up down there same p c = record {
 }
 
 module _ (setup : Setup) (a : Answers) where
-  gains_in : (w : State) (j : ℕ) (x : Pass) (o : Option Verdict) → slice_get w.passes j ≡ Some x → x.pre ≡ true → Fine w
+  gains_in : (w : State) (j : ℕ) (x : Pass) (o : Option Verdict) → slice_get w.passes j ≡ Some x → x.pre ≡ true → Consistent w
       → Gains w (came_in (record w { passes = remove w.passes j }) x.number o) (λ n. is x.number n) (λ n. 0)
   gains_in w j x None g t k =
       let fate = at_first w j x k.places g t in
@@ -134,13 +87,13 @@ module _ (setup : Setup) (a : Answers) where
       (Fast fate.0 w.events fate.1 y) true false fate.2
       (ap (λ o. set w.progress x.number (finished w.events y o)) fate.2) refl refl
 
-  gains_out : (w : State) (j : ℕ) (x : Pass) → slice_get w.passes j ≡ Some x → x.pre ≡ false → Fine w → Gains w (out_at a w j x) (λ n. 0) (λ n. is x.number n)
+  gains_out : (w : State) (j : ℕ) (x : Pass) → slice_get w.passes j ≡ Some x → x.pre ≡ false → Consistent w → Gains w (out_at a w j x) (λ n. 0) (λ n. is x.number n)
   gains_out w j x g t k =
       let fate = at_last w j x k.places g t in
       gains_set w (out_at a w j x) x.number (Held fate.0 fate.1 fate.2 fate.3) (Slow fate.0 fate.1 fate.2 (a.post fate.3 x.number) w.events) false true fate.4
       (ap (λ o. set w.progress x.number (released (λ over. a.post over x.number) w.events o)) fate.4) refl refl
 
-  gains_ended : (w : State) (j : ℕ) (x : Pass) → slice_get w.passes j ≡ Some x → Fine w
+  gains_ended : (w : State) (j : ℕ) (x : Pass) → slice_get w.passes j ≡ Some x → Consistent w
       → Gains w (ended a (record w { passes = remove w.passes j }) x) (up_gain x.pre x.number) (down_gain x.pre x.number)
   gains_ended w j x g k = elim (cases_Bool x.pre) [
     | inl t ↦ rw t (gains_in w j x (a.pre (store_at w.stores x.version) x.number) g t k)
@@ -148,7 +101,7 @@ module _ (setup : Setup) (a : Answers) where
   ]
 
   -- a pass that enters, and may end at once
-  gains_entered : (w : State) (x : Pass) → Fine (record w { passes = w.passes ++ x ∷ [] })
+  gains_entered : (w : State) (x : Pass) → Consistent (record w { passes = w.passes ++ x ∷ [] })
       → Gains w (entered a w x) (λ n. cond (eqb x.left 0) (up_gain x.pre x.number n) 0) (λ n. cond (eqb x.left 0) (down_gain x.pre x.number n) 0)
   gains_entered w x k = elim (cases_Bool (eqb x.left 0)) [
     | inl t ↦ rw t (
@@ -160,18 +113,18 @@ module _ (setup : Setup) (a : Answers) where
   ]
 
   gains_run : (w x : State) (j p v : ℕ) → slice_get w.up j ≡ Some p → x.progress ≡ set w.progress p (decided w.events v w.store (slice_get w.progress p))
-      → Fine w
+      → Consistent w
       → Gains w x (λ n. 0) (λ n. 0)
   gains_run w x j p v g same k =
       let fate = at_up w j p k.places g in
       gains_set w x p (Up fate.0) (Held fate.0 w.events v w.store) false false fate.1 (same
       ∙ ap (λ o. set w.progress p (decided w.events v w.store o)) fate.1) refl refl
 
-  gains_ran : (w : State) (j p : ℕ) (store : Store) (us : List Update) → slice_get w.up j ≡ Some p → Fine w → Gains w (ran a w (with_changes store us w) j p) (λ n. 0) (λ n. 0)
+  gains_ran : (w : State) (j p : ℕ) (store : Store) (us : List Update) → slice_get w.up j ≡ Some p → Consistent w → Gains w (ran a w (with_changes store us w) j p) (λ n. 0) (λ n. 0)
   gains_ran w j p store [] g k = gains_run w (ran a w (with_changes store [] w) j p) j p w.version g refl k
   gains_ran w j p store (u ∷ us) g k = gains_run w (ran a w (with_changes store (u ∷ us) w) j p) j p (w.version + 1) g refl k
 
-  gains_served : (w : State) (j : ℕ) (o : Option ℕ) → slice_get w.up j ≡ o → Fine w → Gains w (served a w j o) (λ n. 0) (λ n. 0)
+  gains_served : (w : State) (j : ℕ) (o : Option ℕ) → slice_get w.up j ≡ o → Consistent w → Gains w (served a w j o) (λ n. 0) (λ n. 0)
   gains_served w j None g k = gains_none w w refl
   gains_served w j (Some p) g k = gains_ran w j p (a.after w.store p) (a.changes w.store p) g k
 
@@ -196,18 +149,18 @@ ending_mark true m n = refl
 ending_mark false m n = refl
 
 module _ (setup : Setup) (a : Answers) (s : SplitProgram) (packets : List Packet) (calls : List Call) where
-  asked_admit : (w : State) → Fine w → Asked w (happens setup a w Admit) (asks setup s packets calls w Admit)
+  asked_admit : (w : State) → Consistent w → Asked w (happens setup a w Admit) (asks setup s packets calls w Admit)
   asked_admit w k =
       let f : Progress = Entered w.events (seen w) in
       let mid : State = record w { progress = w.progress ++ f ∷ [] } in
       let x = pass_of w true (length w.progress) setup.pre_stages in
-      let g = gains_entered setup a mid x (fine_let_in w setup.pre_stages k) in
+      let g = gains_entered setup a mid x (consistent_let_in w setup.pre_stages k) in
       record {
         up = λ n. let h = g.up n in let m = mark_push passed w.progress n f refl in let e = ending_mark (eqb setup.pre_stages 0) (length w.progress) n in omega arith;
         down = λ n. let h = g.down n in let m = mark_push came w.progress n f refl in let e = no_gain (eqb setup.pre_stages 0) in omega arith;
       }
 
-  asked_stage : (w : State) (j : ℕ) (o : Option Pass) → slice_get w.passes j ≡ o → Fine w → Asked w (staged a w j o) (asks_stage o)
+  asked_stage : (w : State) (j : ℕ) (o : Option Pass) → slice_get w.passes j ≡ o → Consistent w → Asked w (staged a w j o) (asks_stage o)
   asked_stage w j None g k = gains_none w w refl
   asked_stage w j (Some x) g k = elim (cases_Bool (leb x.left 1)) [
     | inl t ↦ rw t (as_asked w (ended a (record w { passes = remove w.passes j }) x) (up_gain x.pre x.number) (down_gain x.pre x.number) _
@@ -224,17 +177,17 @@ module _ (setup : Setup) (a : Answers) (s : SplitProgram) (packets : List Packet
   asked_command w x None same = gains_none w x same
   asked_command w x (Some c) same = gains_none w x same
 
-  asked_down : (w : State) (j : ℕ) (o : Option ℕ) → slice_get w.down j ≡ o → Fine w → Asked w (came_down setup a w j o) (asks_down setup s calls w o)
+  asked_down : (w : State) (j : ℕ) (o : Option ℕ) → slice_get w.down j ≡ o → Consistent w → Asked w (came_down setup a w j o) (asks_down setup s calls w o)
   asked_down w j None g k = gains_none w w refl
   asked_down w j (Some p) g k =
       let mid : State = record w { down = remove w.down j } in
-      let r = gains_entered setup a mid (pass_of w false p setup.post_stages) (fine_let_down w j p setup.post_stages g k) in
+      let r = gains_entered setup a mid (pass_of w false p setup.post_stages) (consistent_let_down w j p setup.post_stages g k) in
       record {
         up = λ n. let h = r.up n in let e = no_gain (eqb setup.post_stages 0) in omega arith;
         down = λ n. let h = r.down n in let e = ending_mark (eqb setup.post_stages 0) p n in omega arith;
       }
 
-  asked_happens : (w : State) (e : Event) → Fine w → Asked w (happens setup a w e) (asks setup s packets calls w e)
+  asked_happens : (w : State) (e : Event) → Consistent w → Asked w (happens setup a w e) (asks setup s packets calls w e)
   asked_happens w Admit k = asked_admit w k
   asked_happens w (Stage j) k = asked_stage w j (slice_get w.passes j) refl k
   asked_happens w (Serve j) k = gains_served setup a w j (slice_get w.up j) refl k
@@ -243,20 +196,20 @@ module _ (setup : Setup) (a : Answers) (s : SplitProgram) (packets : List Packet
   asked_happens w (Down j) k = asked_down w j (slice_get w.down j) refl k
   asked_happens w e k = gains_none w _ refl
 
-  asked_step : (w : State) (e : Event) → Fine w → Asked w (step setup a w e) (asked setup s packets calls w e)
+  asked_step : (w : State) (e : Event) → Consistent w → Asked w (step setup a w e) (asked setup s packets calls w e)
   asked_step w e k = elim (cases_Bool (applies setup w e)) [
-    | inl t ↦ rw t (let g = asked_happens (tick w) e (fine_tick w k) in record { up = g.up; down = g.down })
+    | inl t ↦ rw t (let g = asked_happens (tick w) e (consistent_tick w k) in record { up = g.up; down = g.down })
     | inr t ↦ rw t (gains_none w _ refl)
   ]
 
 module _ (setup : Setup) (s : SplitProgram) (packets : List Packet) (calls : List Call) where
-  asked_steps : (w : State) (es : List Event) → Sane setup w → Asked w (steps setup (journal s calls) w es) (questions setup s packets calls w es)
+  asked_steps : (w : State) (es : List Event) → EveryState setup w → Asked w (steps setup (journal s calls) w es) (questions setup s packets calls w es)
   asked_steps w [] k = gains_none w w refl
   asked_steps w (e ∷ es) k =
       let a = journal s calls in
       let next = step setup a w e in
-      let one = asked_step setup a s packets calls w e k.fine in
-      let rest = asked_steps next es (sane_step setup a w e k) in
+      let one = asked_step setup a s packets calls w e k.consistent in
+      let rest = asked_steps next es (every_step setup a w e k) in
       record {
         up = λ n. let p = one.up n in let q = rest.up n in let r = marks_append up_of n (asked setup s packets calls w e)
             (questions setup s packets calls next es) in omega arith;
@@ -267,7 +220,7 @@ module _ (setup : Setup) (s : SplitProgram) (packets : List Packet) (calls : Lis
   pub end_once : (events : List Event) (st : State) → IsAnswered setup s packets events calls st → EndOnce calls st
   end_once events st h =
       let begin = first_state (start_store setup.objects) in
-      let g = asked_steps begin events (sane_first setup (journal s calls) (start_store setup.objects)) in
+      let g = asked_steps begin events (every_first setup (journal s calls) (start_store setup.objects)) in
       record {
         up = λ n. calls_up calls n ∙ ap (marks up_of n) h.asked ∙ (let p = g.up n in omega arith)
             ∙ ap (λ (w : State). passed (slice_get w.progress n)) (sym h.run);

@@ -17,11 +17,6 @@ pub member_right : {X : Type 0} (x : X) (l r : List X) → Member x r → Member
 member_right x [] r h = h
 member_right x (y ∷ l) r h = inr (member_right x l r h)
 
-pub member_parts : {X : Type 0} (x : X) (l r : List X) → Member x (l ++ r) → Member x l ⊎ Member x r
-member_parts x [] r h = inr h
-member_parts x (y ∷ l) r (inl e) = inl (inl e)
-member_parts x (y ∷ l) r (inr h) = elim (member_parts x l r h) [ inl a ↦ inl (inr a) | inr b ↦ inr b ]
-
 -- in a list with e put in the middle
 pub member_mid : {X : Type 0} (x e : X) (l r : List X) → Member x (l ++ e ∷ r) → (e ≡ x) ⊎ Member x (l ++ r)
 member_mid x e [] r h = h

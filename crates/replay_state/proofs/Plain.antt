@@ -1,15 +1,12 @@
 -- The answers of whole runs are sound.
-use Rattle.std.proofs.Common.{◌≡◌, ℕ, ◌≤◌, Bool, true, false, cond, leb, List, [], ◌∷◌, Some, None, refl, sym, ◌∙◌}
+use Rattle.std.proofs.Common.{◌≡◌, Bool, true, false, cond, List, Some, None, refl, sym, ◌∙◌}
 use Rattle.std.specs.Prelude.{slice_get}
-use Rattle.std.specs.List.{list_all}
-use Rattle.std.proofs.lemmas.Bool.{le-leb, and_parts}
+use Rattle.std.proofs.lemmas.Bool.{and_parts}
 use Rattle.std.proofs.lemmas.Option.{same_Some, slice_get-get_or}
 use Rattle.packet_fields.specs.declared.packet.Packet.{Packet}
 use Rattle.packet_fields.specs.declared.verdict.Verdict.{Verdict}
-use Rattle.writeback_table.specs.declared.command.Update.{Update}
-use Rattle.writeback_table.specs.Batches.{count_of}
 use Rattle.output_commit.specs.Batches.{fits}
-use Rattle.replay_state.specs.Sound.{AreSound, IsAlike}
+use Rattle.replay_state.specs.SoundAnswers.{AreSound, IsAlike}
 use Rattle.run_model.specs.Meaning.{packet_at}
 use Rattle.replay_state.specs.Program.{IsSplitProgram, Manner, SplitProgram, plain, setup_of}
 use Rattle.output_commit.proofs.Fitting.{few as fits_each}
@@ -17,14 +14,6 @@ use Rattle.output_commit.proofs.Fitting.{few as fits_each}
 chosen : (b : Bool) (x y : Verdict) → cond b (Some x) None ≡ Some y → (b ≡ true) × (x ≡ y)
 chosen true x y h = (refl, same_Some _ _ h)
 chosen false x y h = cc
-
--- what fits has of each object no more than so many
-abbrev has_few : List Update → ℕ → Update → Bool
-has_few all room u = leb (count_of u.object all) room
-
-pub fits_all : (all : List Update) (room : ℕ) → ((o : ℕ) → count_of o all ≤ room) → (us : List Update) → list_all (has_few all room) us ≡ true
-fits_all all room h [] = refl
-fits_all all room h (u ∷ us) = rw (le-leb (count_of u.object all) room (h u.object)) (fits_all all room h us)
 
 pub plain_sound : (s : SplitProgram) (packets : List Packet) (manner : Manner) → IsSplitProgram s packets → AreSound (setup_of s packets manner) (plain s packets)
 plain_sound s packets manner law = record {

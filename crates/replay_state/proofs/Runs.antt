@@ -1,5 +1,5 @@
 -- In every state of a run the order is a serial run of whole packets, which leaves the store of the server.
-use Rattle.std.proofs.Common.{◌≡◌, ℕ, ◌+◌, ◌<◌, ◌≤◌, Bool, true, ltb, leb, List, [], ◌∷◌, ◌++◌, ◌⊎◌, Option, Some, None, inl, inr, refl, sym, ◌∙◌, ap, subst, arith, length, set}
+use Rattle.std.proofs.Common.{◌≡◌, ℕ, ◌+◌, ◌<◌, ◌≤◌, true, ltb, leb, List, [], ◌∷◌, ◌++◌, ◌⊎◌, Option, Some, None, inl, inr, refl, sym, ◌∙◌, ap, subst, arith, length, set}
 use Rattle.std.specs.Prelude.{slice_get}
 use Rattle.std.proofs.lemmas.Bool.{ltb-true, leb-true, cases_lt, cases_eq, lt-leb}
 use Rattle.std.proofs.lemmas.Option.{same_Some, none-some, slice_get_within}
@@ -9,23 +9,23 @@ use Rattle.packet_fields.specs.declared.verdict.Verdict.{Verdict}
 use Rattle.state_store.specs.Kept.{IsKept}
 use Rattle.state_store.specs.Store.{Store, object_at}
 use Rattle.writeback_table.specs.Batches.{changed_by}
-use Rattle.replay_state.specs.Answers.{Answers, Setup}
+use Rattle.replay_state.specs.Answers.{Answers, Setup, meaning_of}
 use Rattle.output_commit.specs.Batches.{Batch, visible}
 use Rattle.replay_state.specs.State.{State, Progress, Entered, Up, Held, Slow, Fast, Pass, store_at}
 use Rattle.replay_state.specs.Step.{finished, decided}
-use Rattle.replay_state.specs.Sound.{IsAlike, IsSoundAt, AreSound}
+use Rattle.replay_state.specs.SoundAnswers.{IsAlike, IsSoundAt, AreSound}
 use Rattle.run_model.specs.declared.serial.Decided.{Decided}
 use Rattle.replay_state.proofs.Words.{entry_of, verdict_at}
 use Rattle.run_model.specs.Members.{Member}
 use Rattle.run_model.proofs.Rising.{Before}
 use Rattle.run_model.proofs.Members.{get_member}
 use Rattle.replay_state.proofs.Words.{upto, beyond}
-use Rattle.replay_state.proofs.Lists.{map_agree}
-use Rattle.replay_state.proofs.Order.{rising_mid, rising_split, member_mid, member_mid_is, member_mid_old, member_left, member_parts, member_filter, upto_all}
+use Rattle.replay_state.proofs.Lists.{map_agree, member_push}
+use Rattle.replay_state.proofs.Order.{rising_mid, rising_split, member_mid, member_mid_is, member_mid_old, member_left, member_filter, upto_all}
 use Rattle.replay_state.proofs.Sorting.{IsOrder}
 use Rattle.replay_state.proofs.Serial.{left_by, said_by, told_by, left_by_push, left_by_mid, said_by_mid, said_by_push, upto_mid}
 use Rattle.replay_state.proofs.Fates.{FateOk, at_first, at_up}
-use Rattle.replay_state.proofs.Effects.{Fine, shown_le}
+use Rattle.replay_state.proofs.Effects.{Consistent, shown_le}
 use Rattle.replay_state.proofs.Steps.{finished_at, run_at}
 use Rattle.lemmas.proofs.Lists.{get_set_other, get_set_same}
 
@@ -76,7 +76,7 @@ entry_ok now version most n (Some (Slow a d v y r)) e ok le h = let is = ap (λ 
 entry_ok now version most n (Some (Fast a d v y)) e ok le h = let is = ap (λ z. z.version) (same_Some _ _ h) in let o = ok _ refl in omega arith
 entry_ok now version most n f e ok le h = cc
 
-pub entry_fact : (w : State) (es : List Decided) (e : Decided) → Fine w → IsOrder w.progress es → Member e es → e.version ≤ w.version
+pub entry_fact : (w : State) (es : List Decided) (e : Decided) → Consistent w → IsOrder w.progress es → Member e es → e.version ≤ w.version
 entry_fact w es e c o m = entry_ok w.events w.version (visible w.batches w.done) e.number (slice_get w.progress e.number) e (c.each e.number) (shown_le w w.done c) (o.sound e m)
 
 pub upto_push_late : (v : ℕ) (l : List Decided) (e : Decided) → v < e.version → upto v (l ++ e ∷ []) ≡ upto v l
@@ -89,24 +89,12 @@ abbrev pub Gains : List Decided → Decided → List Decided → Type 0
 Gains es e more = (x : Decided) → Member x more → (e ≡ x) ⊎ Member x es
 
 pub gains_push : (es : List Decided) (e : Decided) → Gains es e (es ++ e ∷ [])
-gains_push es e x m = elim (member_parts x es (e ∷ []) m) [
-  | inl old ↦ inr old
-  | inr fresh ↦ elim fresh [ inl q ↦ inl q | inr none ↦ absurd none ]
-]
+gains_push es e x m = member_push es e x m
 
-pub here_gain : (total : ℕ) (es more : List Decided) (e : Decided) → ((x : Decided) → Member x es → x.number < total) → e.number < total → Gains es e more
-    → (x : Decided) → Member x more → x.number < total
-here_gain total es more e all here gains x m = elim (gains x m) [
-  | inl p ↦ subst (λ (z : Decided). z.number < total) p here
-  | inr old ↦ all x old
-]
-
-pub past_gain : (now : ℕ) (es more : List Decided) (e : Decided) → ((x : Decided) → Member x es → x.event ≤ now) → e.event ≤ now → Gains es e more
-    → (x : Decided) → Member x more → x.event ≤ now
-past_gain now es more e all here gains x m = elim (gains x m) [
-  | inl p ↦ subst (λ (z : Decided). z.event ≤ now) p here
-  | inr old ↦ all x old
-]
+-- what holds of each entry and of the new one
+gain_all : (P : Decided → Type 0) (es more : List Decided) (e : Decided) → ((x : Decided) → Member x es → P x) → P e → Gains es e more
+    → (x : Decided) → Member x more → P x
+gain_all P es more e all here gains x m = elim (gains x m) [ inl p ↦ subst P p here | inr old ↦ all x old ]
 
 -- no two entries are of one event
 abbrev pub Apart : List Decided → Type 0
@@ -125,22 +113,13 @@ apart_gain now es more e apart fresh is gains x y m n same = elim (gains x m) [
   ]
 ]
 
-pub alike_left : (rep : ℕ → Bool) (a b c : Store) → IsAlike rep a b → b ≡ c → IsAlike rep a c
-alike_left rep a b c h e = subst (λ x. IsAlike rep a x) e h
-
-pub alike_trans : (rep : ℕ → Bool) (a b c : Store) → IsAlike rep a b → IsAlike rep b c → IsAlike rep a c
-alike_trans rep a b c h k o t = h o t ∙ k o t
-
-pub alike_sym : (rep : ℕ → Bool) (a b : Store) → IsAlike rep a b → IsAlike rep b a
-alike_sym rep a b h o t = sym (h o t)
-
 -- The order of the entries, which lead from this start to what the server has now, and its versions and packets.
 pub record Ordered (setup : Setup) (a : Answers) (start now : Store) (version : ℕ) (stores : List Store) (events : ℕ) (fates : List Progress) : Type 0 where
   pub entries : List Decided
   pub order : IsOrder fates entries
-  pub store : left_by a start entries ≡ now
-  pub verdicts : said_by a start entries ≡ told_by (what_at a fates) entries
-  pub begun : (v : ℕ) → v ≤ version → IsAlike setup.replicated (store_at stores v) (left_by a start (upto v entries))
+  pub store : left_by (meaning_of setup a) start entries ≡ now
+  pub verdicts : said_by (meaning_of setup a) start entries ≡ told_by (what_at a fates) entries
+  pub begun : (v : ℕ) → v ≤ version → IsAlike setup.replicated (store_at stores v) (left_by (meaning_of setup a) start (upto v entries))
   pub kept : (v : ℕ) → v ≤ version → IsKept setup.objects (store_at stores v)
   pub here : (e : Decided) → Member e entries → e.number < setup.total
   pub past : (e : Decided) → Member e entries → e.event ≤ events
@@ -160,7 +139,7 @@ Few setup w = length w.progress ≤ setup.total
 abbrev pub run_entry : State → ℕ → ℕ → Decided
 run_entry w p v = record { number = p; version = v; event = w.events }
 
-pub order_run : (w : State) (j p v : ℕ) (es : List Decided) → Fine w → IsOrder w.progress es → Fresh w es → slice_get w.up j ≡ Some p → w.version ≤ v
+pub order_run : (w : State) (j p v : ℕ) (es : List Decided) → Consistent w → IsOrder w.progress es → Fresh w es → slice_get w.up j ≡ Some p → w.version ≤ v
     → IsOrder (set w.progress p (decided w.events v w.store (slice_get w.progress p))) (es ++ run_entry w p v ∷ [])
 order_run w j p v es c o fresh g later =
     let fate = at_up w j p c.places g in
@@ -175,7 +154,7 @@ order_run w j p v es c o fresh g later =
     (λ x m. absurd m))
 
 module _ (setup : Setup) (a : Answers) (start : Store) (law : AreSound setup a) (first : IsKept setup.objects start) where
-  pub left_kept : (s : Store) (es : List Decided) → IsKept setup.objects s → ((e : Decided) → Member e es → e.number < setup.total) → IsKept setup.objects (left_by a s es)
+  pub left_kept : (s : Store) (es : List Decided) → IsKept setup.objects s → ((e : Decided) → Member e es → e.number < setup.total) → IsKept setup.objects (left_by (meaning_of setup a) s es)
   left_kept s [] kept here = kept
   left_kept s (e ∷ es) kept here =
       let r = law.each e.number s (here e (inl refl)) kept in
@@ -184,16 +163,16 @@ module _ (setup : Setup) (a : Answers) (start : Store) (law : AreSound setup a) 
   pub store_kept : (w : State) → InOrder setup a start w → IsKept setup.objects w.store
   store_kept w o = subst (IsKept setup.objects) o.store (left_kept start o.entries first o.here)
 
-  pub up_within : (w : State) (j p : ℕ) → Fine w → Few setup w → slice_get w.up j ≡ Some p → p < setup.total
+  pub up_within : (w : State) (j p : ℕ) → Consistent w → Few setup w → slice_get w.up j ≡ Some p → p < setup.total
   up_within w j p c few g =
       let fate = at_up w j p c.places g in
       let within = slice_get_within w.progress p (Up fate.0) fate.1 in
       omega arith
 
   -- the verdicts, with that of the packet that the server runs
-  pub said_run : (w : State) (j p v : ℕ) (es : List Decided) → Fine w → IsOrder w.progress es → slice_get w.up j ≡ Some p → left_by a start es ≡ w.store
-      → said_by a start es ≡ told_by (what_at a w.progress) es
-      → said_by a start (es ++ run_entry w p v ∷ []) ≡ told_by (what_at a (set w.progress p (decided w.events v w.store (slice_get w.progress p)))) (es ++ run_entry w p v ∷ [])
+  pub said_run : (w : State) (j p v : ℕ) (es : List Decided) → Consistent w → IsOrder w.progress es → slice_get w.up j ≡ Some p → left_by (meaning_of setup a) start es ≡ w.store
+      → said_by (meaning_of setup a) start es ≡ told_by (what_at a w.progress) es
+      → said_by (meaning_of setup a) start (es ++ run_entry w p v ∷ []) ≡ told_by (what_at a (set w.progress p (decided w.events v w.store (slice_get w.progress p)))) (es ++ run_entry w p v ∷ [])
   said_run w j p v es c o g store old =
       let fate = at_up w j p c.places g in
       let f : Progress = Held fate.0 w.events v w.store in
@@ -201,16 +180,16 @@ module _ (setup : Setup) (a : Answers) (start : Store) (law : AreSound setup a) 
       let more = set w.progress p f in
       let there : slice_get more p ≡ Some f = get_set_same w.progress p (Up fate.0) f fate.1 in
       let others = told_gain a w.progress more p es o (ap (entry_of p) fate.1) (λ n d. get_set_other w.progress p n f d) in
-      let says : Some (a.post (left_by a start es) p) ≡ what_at a more p = ap (λ s. Some (a.post s p)) store ∙ sym (ap (verdict_at a p) there) in
-      rw new (said_by_push a (what_at a more) start es (run_entry w p v) (old ∙ others) says)
+      let says : Some (a.post (left_by (meaning_of setup a) start es) p) ≡ what_at a more p = ap (λ s. Some (a.post s p)) store ∙ sym (ap (verdict_at a p) there) in
+      rw new (said_by_push (meaning_of setup a) (what_at a more) start es (run_entry w p v) (old ∙ others) says)
 
   -- a run with no changes leaves the replicated objects
   pub unseen_alike : (store : Store) (p : ℕ) → IsSoundAt setup a store p → a.changes store p ≡ [] → IsAlike setup.replicated (a.after store p) store
   unseen_alike store p r none o rep = r.changed o rep ∙ ap (changed_by o (object_at store o)) none
 
   -- the store of a version that is not before that of the run
-  run_newest : (w : State) (p v u : ℕ) → Fine w → (o : InOrder setup a start w) → w.version ≤ v → v ≤ u
-      → left_by a start (upto u (o.entries ++ run_entry w p v ∷ [])) ≡ a.after w.store p
+  run_newest : (w : State) (p v u : ℕ) → Consistent w → (o : InOrder setup a start w) → w.version ≤ v → v ≤ u
+      → left_by (meaning_of setup a) start (upto u (o.entries ++ run_entry w p v ∷ [])) ≡ a.after w.store p
   run_newest w p v u c o later last =
       let es = o.entries in
       let e = run_entry w p v in
@@ -218,12 +197,12 @@ module _ (setup : Setup) (a : Answers) (start : Store) (law : AreSound setup a) 
         | inl q ↦ subst (λ (z : Decided). z.version ≤ u) q last
         | inr old ↦ let fact = entry_fact w es x c o.order old in omega arith
       ]) in
-      ap (left_by a start) all ∙ left_by_push a start es e ∙ ap (λ s. a.after s p) o.store
+      ap (left_by (meaning_of setup a) start) all ∙ left_by_push (meaning_of setup a) start es e ∙ ap (λ s. a.after s p) o.store
 
   -- the server runs a packet, and has this version and these stores then
-  in_order_run : (w : State) (j p v : ℕ) (stores : List Store) → Fine w → Few setup w → (o : InOrder setup a start w) → Fresh w o.entries
+  in_order_run : (w : State) (j p v : ℕ) (stores : List Store) → Consistent w → Few setup w → (o : InOrder setup a start w) → Fresh w o.entries
       → slice_get w.up j ≡ Some p → w.version ≤ v
-      → ((u : ℕ) → u ≤ v → IsAlike setup.replicated (store_at stores u) (left_by a start (upto u (o.entries ++ run_entry w p v ∷ []))))
+      → ((u : ℕ) → u ≤ v → IsAlike setup.replicated (store_at stores u) (left_by (meaning_of setup a) start (upto u (o.entries ++ run_entry w p v ∷ []))))
       → ((u : ℕ) → u ≤ v → IsKept setup.objects (store_at stores u))
       → Ordered setup a start (a.after w.store p) v stores w.events (set w.progress p (decided w.events v w.store (slice_get w.progress p)))
   in_order_run w j p v stores c few o fresh g later begun kept =
@@ -232,16 +211,16 @@ module _ (setup : Setup) (a : Answers) (start : Store) (law : AreSound setup a) 
       record {
         entries = es ++ e ∷ [];
         order = order_run w j p v es c o.order fresh g later;
-        store = left_by_push a start es e ∙ ap (λ s. a.after s p) o.store;
+        store = left_by_push (meaning_of setup a) start es e ∙ ap (λ s. a.after s p) o.store;
         verdicts = said_run w j p v es c o.order g o.store o.verdicts;
         begun = begun;
         kept = kept;
-        here = here_gain setup.total es (es ++ e ∷ []) e o.here (up_within w j p c few g) (gains_push es e);
-        past = past_gain w.events es (es ++ e ∷ []) e o.past (omega arith) (gains_push es e);
+        here = gain_all (λ z. z.number < setup.total) es (es ++ e ∷ []) e o.here (up_within w j p c few g) (gains_push es e);
+        past = gain_all (λ z. z.event ≤ w.events) es (es ++ e ∷ []) e o.past (omega arith) (gains_push es e);
         apart = apart_gain w.events es (es ++ e ∷ []) e o.apart fresh refl (gains_push es e);
       }
 
-  pub in_order_unseen : (w : State) (j p : ℕ) → Fine w → Few setup w → (o : InOrder setup a start w) → Fresh w o.entries → slice_get w.up j ≡ Some p
+  pub in_order_unseen : (w : State) (j p : ℕ) → Consistent w → Few setup w → (o : InOrder setup a start w) → Fresh w o.entries → slice_get w.up j ≡ Some p
       → a.changes w.store p ≡ []
       → InOrder setup a start (run_at a w j p w.version w.stores w.batches)
   in_order_unseen w j p c few o fresh g none =
@@ -250,19 +229,15 @@ module _ (setup : Setup) (a : Answers) (start : Store) (law : AreSound setup a) 
       let r = law.each p w.store (up_within w j p c few g) (store_kept w o) in
       in_order_run w j p w.version w.stores c few o fresh g (omega arith)
       (λ v h. elim (cases_lt v w.version) [
-        | inl early ↦ subst (λ l. IsAlike setup.replicated (store_at w.stores v) (left_by a start l)) (sym (upto_push_late v es e early)) (o.begun v h)
+        | inl early ↦ subst (λ l. IsAlike setup.replicated (store_at w.stores v) (left_by (meaning_of setup a) start l)) (sym (upto_push_late v es e early)) (o.begun v h)
         | inr last ↦
             let before = upto_all v es (λ x m. let fact = entry_fact w es x c o.order m in omega arith) in
-            let was = alike_left setup.replicated (store_at w.stores v) (left_by a start (upto v es)) w.store (o.begun v h) (ap (left_by a start) before
-            ∙ o.store) in
-            let is = alike_trans setup.replicated (store_at w.stores v) w.store (a.after w.store p) was
-            (alike_sym setup.replicated (a.after w.store p) w.store (unseen_alike w.store p r none)) in
-            alike_left setup.replicated (store_at w.stores v) (a.after w.store p) (left_by a start (upto v (es ++ e ∷ []))) is
-            (sym (run_newest w p w.version v c o (omega arith) last))
+            λ n rep. o.begun v h n rep ∙ ap (λ s. object_at s n) (ap (left_by (meaning_of setup a) start) before ∙ o.store)
+            ∙ sym (unseen_alike w.store p r none n rep) ∙ ap (λ s. object_at s n) (sym (run_newest w p w.version v c o (omega arith) last))
       ])
       o.kept
 
-  pub in_order_seen : (w : State) (j p : ℕ) (batches : List Batch) → Fine w → Few setup w → (o : InOrder setup a start w) → Fresh w o.entries → slice_get w.up j ≡ Some p
+  pub in_order_seen : (w : State) (j p : ℕ) (batches : List Batch) → Consistent w → Few setup w → (o : InOrder setup a start w) → Fresh w o.entries → slice_get w.up j ≡ Some p
       → InOrder setup a start (run_at a w j p (w.version + 1) (w.stores ++ a.after w.store p ∷ []) batches)
   in_order_seen w j p batches c few o fresh g =
       let es = o.entries in
@@ -274,11 +249,11 @@ module _ (setup : Setup) (a : Answers) (start : Store) (law : AreSound setup a) 
       (λ v h. elim (cases_lt v (w.version + 1)) [
         | inl early ↦
             let there = get_or_append_left w.stores (a.after w.store p ∷ []) [] v (omega arith) in
-            subst (λ l. IsAlike setup.replicated (store_at stores v) (left_by a start l)) (sym (upto_push_late v es e early))
-            (subst (λ x. IsAlike setup.replicated x (left_by a start (upto v es))) (sym there) (o.begun v (omega arith)))
+            subst (λ l. IsAlike setup.replicated (store_at stores v) (left_by (meaning_of setup a) start l)) (sym (upto_push_late v es e early))
+            (subst (λ x. IsAlike setup.replicated x (left_by (meaning_of setup a) start (upto v es))) (sym there) (o.begun v (omega arith)))
         | inr last ↦
             let there = get_or_push w.stores (a.after w.store p) [] v (omega arith) in
-            let same : store_at stores v ≡ left_by a start (upto v (es ++ e ∷ [])) = there ∙ sym (run_newest w p (w.version + 1) v c o (omega arith) last) in
+            let same : store_at stores v ≡ left_by (meaning_of setup a) start (upto v (es ++ e ∷ [])) = there ∙ sym (run_newest w p (w.version + 1) v c o (omega arith) last) in
             λ n t. ap (λ x. object_at x n) same
       ])
       (λ v h. elim (cases_lt v (w.version + 1)) [
@@ -287,7 +262,7 @@ module _ (setup : Setup) (a : Answers) (start : Store) (law : AreSound setup a) 
       ])
 
   -- a fast packet stands behind the packets of the version over which it entered
-  pub in_order_fast : (w : State) (j : ℕ) (x : Pass) (y : Verdict) → Fine w → Few setup w → (o : InOrder setup a start w) → Fresh w o.entries → slice_get w.passes j ≡ Some x → x.pre ≡ true
+  pub in_order_fast : (w : State) (j : ℕ) (x : Pass) (y : Verdict) → Consistent w → Few setup w → (o : InOrder setup a start w) → Fresh w o.entries → slice_get w.passes j ≡ Some x → x.pre ≡ true
       → a.pre (store_at w.stores x.version) x.number ≡ Some y → InOrder setup a start (finished_at w j x y)
   in_order_fast w j x y c few o fresh g t quick =
       let es = o.entries in
@@ -308,7 +283,7 @@ module _ (setup : Setup) (a : Answers) (start : Store) (law : AreSound setup a) 
       let below = shown_le w w.done c in
       let most : v0 ≤ w.version = omega arith in
       let within : n < setup.total = let k = slice_get_within w.progress n old fate.2 in omega arith in
-      let mid = left_by a start l in
+      let mid = left_by (meaning_of setup a) start l in
       let mid_kept : IsKept setup.objects mid = left_kept start l first (λ z m. o.here z (member_filter (λ (q : Decided). leb q.version v0) z es m).0) in
       let agree = o.begun v0 most in
       let at = (law.each n seen within (o.kept v0 most)).fast y mid quick mid_kept agree in
@@ -330,13 +305,13 @@ module _ (setup : Setup) (a : Answers) (start : Store) (law : AreSound setup a) 
             (λ z m. let h = early z m in let before = fresh_lr z (member_left z l r m) in
             record { version = h; event = λ k. omega arith; number = λ k q. absurd (omega arith) })
             (λ z m. let h = late z m in record { version = omega arith; event = λ k. absurd (omega arith); number = λ k q. absurd (omega arith) }));
-        store = left_by_mid a start l r e stays ∙ ap (left_by a start) (sym split) ∙ o.store;
-        verdicts = rw new (said_by_mid a (what_at a more) start l r e (subst (λ z. said_by a start z ≡ told_by (what_at a w.progress) z) split o.verdicts ∙ others) stays says);
-        begun = λ v h. subst (λ z. IsAlike setup.replicated (store_at w.stores v) z) (sym (upto_mid a start v l r e early stays))
-            (subst (λ z. IsAlike setup.replicated (store_at w.stores v) (left_by a start (upto v z))) split (o.begun v h));
+        store = left_by_mid (meaning_of setup a) start l r e stays ∙ ap (left_by (meaning_of setup a) start) (sym split) ∙ o.store;
+        verdicts = rw new (said_by_mid (meaning_of setup a) (what_at a more) start l r e (subst (λ z. said_by (meaning_of setup a) start z ≡ told_by (what_at a w.progress) z) split o.verdicts ∙ others) stays says);
+        begun = λ v h. subst (λ z. IsAlike setup.replicated (store_at w.stores v) z) (sym (upto_mid (meaning_of setup a) start v l r e early stays))
+            (subst (λ z. IsAlike setup.replicated (store_at w.stores v) (left_by (meaning_of setup a) start (upto v z))) split (o.begun v h));
         kept = o.kept;
-        here = here_gain setup.total es (l ++ e ∷ r) e o.here within gains;
-        past = past_gain w.events es (l ++ e ∷ r) e o.past (omega arith) gains;
+        here = gain_all (λ z. z.number < setup.total) es (l ++ e ∷ r) e o.here within gains;
+        past = gain_all (λ z. z.event ≤ w.events) es (l ++ e ∷ r) e o.past (omega arith) gains;
         apart = apart_gain w.events es (l ++ e ∷ r) e o.apart fresh refl gains;
       }
 

@@ -15,7 +15,7 @@ use Rattle.run_model.specs.Meaning as meaning
 use Rattle.run_model.specs.Order.{order_of}
 use Rattle.run_model.specs.Parts.{parts_of, parts_where}
 use Rattle.run_model.specs.Serialises as run
-use Rattle.run_model.specs.Serialises.{Serialises, AllReleased, IsDrained, ShowsWhatIsLeft, IsEarlier, times, run_store, run_verdicts}
+use Rattle.run_model.specs.Serialises.{Serialises, AllReleased, ShowsWhatIsLeft, IsEarlier, times, run_store, run_verdicts}
 use Rattle.replay_state.specs.Answers.{Answers, Setup, meaning_of}
 use Rattle.output_commit.specs.Batches.{commands_in, visible}
 use Rattle.replay_state.specs.State.{State, Progress, Entered, Up, Held, Slow, Fast, fate_of, seen}
@@ -24,14 +24,14 @@ use Rattle.replay_state.specs.Run.{run_of, seen_store}
 use Rattle.run_model.proofs.Rising.{rising_places, times_none, times_once, Before, Rising, before_self, before_not_back}
 use Rattle.run_model.proofs.Members.{member_get, get_member}
 use Rattle.run_model.proofs.SerialSort.{order_unique}
-use Rattle.replay_state.proofs.Words.{version_at, entry_of, admitted_at, released_at, verdict_at, is_decided, serial_store, serial_verdicts, upto}
+use Rattle.replay_state.proofs.Words.{version_at, entry_of, admitted_at, released_at, verdict_at, is_decided, upto}
 use Rattle.replay_state.proofs.Order.{upto_all}
 use Rattle.replay_state.proofs.Lists.{weight}
 use Rattle.replay_state.proofs.Sorting.{IsOrder, entry_number, of_fates}
 use Rattle.replay_state.proofs.Visible.{visible_all}
 use Rattle.replay_state.proofs.Fates.{FateOk, Pair, pass_mark, up_mark, held_mark, in_first, in_last, in_up, in_held}
 use Rattle.replay_state.proofs.Serial.{left_by, numbers_of}
-use Rattle.replay_state.proofs.Effects.{Fine}
+use Rattle.replay_state.proofs.Effects.{Consistent}
 use Rattle.replay_state.proofs.Runs.{Apart, entry_fact, what_at}
 use Rattle.replay_state.proofs.Keeping.{Kept}
 use Rattle.lemmas.proofs.Lists.{get_mapped, get_within, map_get}
@@ -126,15 +126,6 @@ released_said a p x r y k = absurd (none-some _ k)
 order_is : (ps : List Progress) (es : List Decided) → IsOrder ps es → order_of (map fate_of ps) ≡ numbers_of es
 order_is ps es o = ap numbers_of (sym (order_unique (map fate_of ps) es (of_fates ps es o)))
 
--- serial runs, by answers and by their meaning
-store_is : (setup : Setup) (a : Answers) (store : Store) (ns : List ℕ) → meaning.serial_store (meaning_of setup a) store ns ≡ serial_store a store ns
-store_is setup a store [] = refl
-store_is setup a store (n ∷ ns) = store_is setup a (a.after store n) ns
-
-verdicts_are : (setup : Setup) (a : Answers) (store : Store) (ns : List ℕ) → meaning.serial_verdicts (meaning_of setup a) store ns ≡ serial_verdicts a store ns
-verdicts_are setup a store [] = refl
-verdicts_are setup a store (n ∷ ns) = ap (λ l. a.post store n ∷ l) (verdicts_are setup a (a.after store n) ns)
-
 -- of two entries in their places the first is decided earlier
 earlier_in : (es : List Decided) (i j : ℕ) (x y : Decided) → Rising es → Apart es → i < j → slice_get es i ≡ Some x → slice_get es j ≡ Some y
     → IsEarlier (x.version, x.event) (y.version, y.event)
@@ -176,17 +167,14 @@ module _ (setup : Setup) (a : Answers) (w : State) (k : Kept setup a w) where
       let es = k.own.entries in
       let told = map_get (λ (e : Decided). what_at a w.progress e.number) es i x h in
       let what : what_at a w.progress x.number ≡ Some y = subst (λ n. what_at a w.progress n ≡ Some y) (sym is) said in
-      let there : slice_get (map (λ z. Some z) (serial_verdicts a start (numbers_of es))) i ≡ Some (Some y) =
+      let there : slice_get (map (λ z. Some z) (meaning.serial_verdicts (meaning_of setup a) start (numbers_of es))) i ≡ Some (Some y) =
       ap (λ l. slice_get l i) k.own.verdicts ∙ told ∙ ap Some what in
-      let found = get_mapped (λ z. Some z) (serial_verdicts a start (numbers_of es)) i (Some y) there in
-      ap (λ l. slice_get (meaning.serial_verdicts (meaning_of setup a) start l) i) numbers_are
-      ∙ ap (λ l. slice_get l i) (verdicts_are setup a start (numbers_of es)) ∙ found.1 ∙ found.2
+      let found = get_mapped (λ z. Some z) (meaning.serial_verdicts (meaning_of setup a) start (numbers_of es)) i (Some y) there in
+      ap (λ l. slice_get (meaning.serial_verdicts (meaning_of setup a) start l) i) numbers_are ∙ found.1 ∙ found.2
 
   -- what the serial run leaves is the server's store
   left_is : run_store (meaning_of setup a) (run_of setup w) ≡ w.store
-  left_is =
-      ap (meaning.serial_store (meaning_of setup a) (start_store setup.objects)) numbers_are
-      ∙ store_is setup a (start_store setup.objects) (numbers_of k.own.entries) ∙ k.own.store
+  left_is = ap (meaning.serial_store (meaning_of setup a) (start_store setup.objects)) numbers_are ∙ k.own.store
 
   pub serialises_from : Serialises (meaning_of setup a) (run_of setup w)
   serialises_from =
@@ -217,8 +205,8 @@ module _ (setup : Setup) (a : Answers) (w : State) (k : Kept setup a w) where
             let told = released_said a p (slice_get ps p) r y (sym (ap run.released_at (fates_at ps p)) ∙ hp) in
             let came = sym (ap run.admitted_at (fates_at ps q)) ∙ hq in
             place_before o.entries i j (x.0) (z.0) o.order.rising
-            (entries_before w.events w.version (visible w.batches w.done) p q r b f.0 g.0 (x.0) (z.0) (k.base.fine.each p f.0 f.1)
-            (k.base.fine.each q g.0 g.1) (k.base.fine.pairs p q f.0 g.0 f.1 g.1)
+            (entries_before w.events w.version (visible w.batches w.done) p q r b f.0 g.0 (x.0) (z.0) (k.base.consistent.each p f.0 f.1)
+            (k.base.consistent.each q g.0 g.1) (k.base.consistent.pairs p q f.0 g.0 f.1 g.1)
             (sym (ap released_at f.1) ∙ told.1) (sym (ap admitted_at g.1) ∙ came) lt
             (sym (ap (entry_of p) f.1) ∙ x.2) (sym (ap (entry_of q) g.1) ∙ z.2))
             x.1 z.1;
@@ -263,9 +251,9 @@ complete_from setup a w k quiet =
     record {
       each = λ p within.
           let f = get_within ps p (omega arith) in
-          let no_pass : pass_mark (slice_get ps p) ≡ 0 = sym (k.base.fine.places.firsts p) ∙ ap (weight (in_first p)) q.passes in
-          let no_up : up_mark (slice_get ps p) ≡ 0 = sym (k.base.fine.places.ups p) ∙ ap (weight (in_up p)) q.up in
-          let held = k.base.fine.places.helds p in
+          let no_pass : pass_mark (slice_get ps p) ≡ 0 = sym (k.base.consistent.places.firsts p) ∙ ap (weight (in_first p)) q.passes in
+          let no_up : up_mark (slice_get ps p) ≡ 0 = sym (k.base.consistent.places.ups p) ∙ ap (weight (in_up p)) q.up in
+          let held = k.base.consistent.places.helds p in
           let none_held = ap (weight (in_held p)) q.held in
           let none_down = ap (weight (in_up p)) q.down in
           let none_last = ap (weight (in_last p)) q.passes in
@@ -285,7 +273,7 @@ complete_from setup a w k quiet =
     }
 
 -- the switch sees the newest version then
-pub newest_from : (w : State) → Fine w → is_quiet w ≡ true → seen w ≡ w.version
+pub newest_from : (w : State) → Consistent w → is_quiet w ≡ true → seen w ≡ w.version
 newest_from w c quiet =
     let q = quiet_parts w quiet in
     let a = c.counts.acked_in in let b = c.counts.done_in in let d = c.counts.sent_in in let e = q.acked in
@@ -320,11 +308,11 @@ pub shown_from : (setup : Setup) (a : Answers) (w : State) → Kept setup a w �
     → ShowsWhatIsLeft (meaning_of setup a) (run_of setup w)
 shown_from setup a w k quiet i shown here =
     let o = k.own in
-    let newest = newest_from w k.base.fine quiet in
+    let newest = newest_from w k.base.consistent quiet in
     let part = part_of setup.replicated 0 setup.objects (seen_store w) i shown here in
     let all : upto (seen w) o.entries ≡ o.entries =
-    upto_all (seen w) o.entries (λ e m. let low = entry_fact w o.entries e k.base.fine o.order m in omega arith) in
-    let begun : object_at (seen_store w) shown.object ≡ object_at (left_by a (start_store setup.objects) o.entries) shown.object =
+    upto_all (seen w) o.entries (λ e m. let low = entry_fact w o.entries e k.base.consistent o.order m in omega arith) in
+    let begun : object_at (seen_store w) shown.object ≡ object_at (left_by (meaning_of setup a) (start_store setup.objects) o.entries) shown.object =
     o.begun (seen w) (omega arith) shown.object part.0
-    ∙ ap (λ es. object_at (left_by a (start_store setup.objects) es) shown.object) all in
+    ∙ ap (λ es. object_at (left_by (meaning_of setup a) (start_store setup.objects) es) shown.object) all in
     part.1 ∙ ap rows_of (begun ∙ ap (λ s. object_at s shown.object) (o.store ∙ sym (left_is setup a w k)))

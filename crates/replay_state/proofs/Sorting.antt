@@ -1,7 +1,6 @@
 -- A list of entries that rises and has those of all decided packets: it is the serial order of their fates.
-use Rattle.std.proofs.Common.{◌≡◌, ℕ, List, Option, Some, None, map, refl, sym, ◌∙◌, ap}
+use Rattle.std.proofs.Common.{◌≡◌, ℕ, List, Option, Some, None, map, sym, ◌∙◌, ap}
 use Rattle.std.specs.Prelude.{slice_get}
-use Rattle.std.specs.Option.{option_map}
 use Rattle.std.proofs.lemmas.Option.{slice_get-map}
 use Rattle.replay_state.specs.State.{Progress, fate_of}
 use Rattle.run_model.specs.declared.serial.Decided.{Decided}
@@ -21,12 +20,8 @@ pub record IsOrder (ps : List Progress) (es : List Decided) : Type 0 where
   pub sound : (e : Decided) → Member e es → entry_of e.number (slice_get ps e.number) ≡ Some e
   pub complete : (e : Decided) → entry_of e.number (slice_get ps e.number) ≡ Some e → Member e es
 
-entry_is : (n : ℕ) (o : Option Progress) → fates.entry_of n (option_map fate_of o) ≡ entry_of n o
-entry_is n None = refl
-entry_is n (Some p) = refl
-
 entry_at : (ps : List Progress) (n : ℕ) → fates.entry_of n (slice_get (map fate_of ps) n) ≡ entry_of n (slice_get ps n)
-entry_at ps n = ap (fates.entry_of n) (slice_get-map fate_of ps n) ∙ entry_is n (slice_get ps n)
+entry_at ps n = ap (fates.entry_of n) (slice_get-map fate_of ps n)
 
 pub of_fates : (ps : List Progress) (es : List Decided) → IsOrder ps es → fates.IsOrder (map fate_of ps) es
 of_fates ps es o = record {

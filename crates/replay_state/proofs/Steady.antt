@@ -1,6 +1,6 @@
 -- Which commands leave what is seen of an object with either bit.
 use Rattle.std.proofs.Common.{◌≡◌, ◌+◌, ℕ, ◌<◌, ◌≤◌, Bool, true, false, ◌&&◌, cond, List, [], ◌∷◌, ◌++◌, Option, Some, None, inl, inr, refl, sym, ◌∙◌, ap, subst, arith, zero, suc, take, map, length}
-use Rattle.std.specs.Prelude.{slice_get}
+use Rattle.std.specs.Prelude.{not, slice_get}
 use Rattle.std.specs.FinMap.{get, get-remove, get-empty, same_map}
 use Rattle.std.specs.Ordering.{eq_by_cmp}
 use Rattle.std.proofs.lemmas.Bool.{cases_Bool, and_parts, and_from}
@@ -17,7 +17,7 @@ use Rattle.writeback_table.specs.Batches.{all_commands, object_after, IsReady}
 use Rattle.replay_state.specs.Step.{disturbs}
 use Rattle.lemmas.proofs.Lists.{get_within, take_next}
 use Rattle.lemmas.proofs.Tests.{true_not_false}
-use Rattle.output_commit.proofs.Bits.{bit_past}
+use Rattle.output_commit.proofs.Bits.{bit_past, bit_whole}
 use Rattle.writeback_table.proofs.Histories.{ons_append}
 use Rattle.writeback_table.proofs.Laws.{batches_are_seen_in_order, what_a_lookup_sees-others, what_a_lookup_sees-staged}
 
@@ -41,7 +41,7 @@ next_ons cs n c h none = ap ons (take_one cs n c h) ∙ ons_append (take n cs) (
 
 -- ---- how commands stand in batches: mains while the bit is set, and clears behind these
 
-abbrev calm_after : Bool → Command → Bool
+abbrev pub calm_after : Bool → Command → Bool
 calm_after calm Off = true
 calm_after calm (Clear o k) = calm
 calm_after calm command = false
@@ -58,13 +58,14 @@ next_calm : (calm : Bool) (cs : List Command) (n : ℕ) (c : Command) → slice_
 next_calm calm cs n c h = ap (calm_through calm) (take_one cs n c h) ∙ calm_append calm (take n cs) (c ∷ [])
 
 -- what must hold where a command comes
-abbrev may_come : Bool → Bool → Command → Bool
+abbrev pub may_come : Bool → Bool → Command → Bool
+may_come bit calm On = not bit
 may_come bit calm (Main u) = bit
 may_come bit calm Off = bit
 may_come bit calm (Clear o k) = calm
 may_come bit calm command = true
 
-abbrev in_turn : Bool → Bool → List Command → Bool
+abbrev pub in_turn : Bool → Bool → List Command → Bool
 in_turn bit calm [] = true
 in_turn bit calm (c ∷ cs) = may_come bit calm c && in_turn (bit_after bit c) (calm_after calm c) cs
 
@@ -86,28 +87,16 @@ turn_stages : (calm : Bool) (us vs : List Update) → in_turn false calm (map (�
 turn_stages calm [] vs = turn_mains vs vs
 turn_stages calm (u ∷ us) vs = turn_stages false us vs
 
-clear_bit : (bit : Bool) (us : List Update) → bit_through bit (map clear_of us) ≡ bit
-clear_bit bit [] = refl
-clear_bit bit (u ∷ us) = clear_bit bit us
-
-main_bit : (bit : Bool) (us vs : List Update) → bit_through bit (map (λ u. Main u) us ++ (Off ∷ map clear_of vs)) ≡ false
-main_bit bit [] vs = clear_bit false vs
-main_bit bit (u ∷ us) vs = main_bit bit us vs
-
-batch_bit : (bit : Bool) (us vs : List Update) → bit_through bit (map (λ u. Stage u) us ++ (On ∷ (map (λ u. Main u) vs ++ (Off ∷ map clear_of vs)))) ≡ false
-batch_bit bit [] vs = main_bit true vs vs
-batch_bit bit (u ∷ us) vs = batch_bit bit us vs
-
 -- the bit is clear after whole batches
 pub all_bit : (batches : List (List Update)) → bit_through false (all_commands batches) ≡ false
 all_bit [] = refl
-all_bit (us ∷ batches) = bit_past false (commands_of us) (all_commands batches) ∙ ap (λ b. bit_through b (all_commands batches)) (batch_bit false us us) ∙ all_bit batches
+all_bit (us ∷ batches) = bit_past false (commands_of us) (all_commands batches) ∙ ap (λ b. bit_through b (all_commands batches)) (bit_whole us) ∙ all_bit batches
 
-turn_all : (calm : Bool) (batches : List (List Update)) → in_turn false calm (all_commands batches) ≡ true
+pub turn_all : (calm : Bool) (batches : List (List Update)) → in_turn false calm (all_commands batches) ≡ true
 turn_all calm [] = refl
 turn_all calm (us ∷ batches) =
     turn_append false calm (commands_of us) (all_commands batches) (turn_stages calm us us)
-    (subst (λ b. in_turn b (calm_through calm (commands_of us)) (all_commands batches) ≡ true) (sym (batch_bit false us us)) (turn_all (calm_through calm (commands_of us)) batches))
+    (subst (λ b. in_turn b (calm_through calm (commands_of us)) (all_commands batches) ≡ true) (sym (bit_whole us)) (turn_all (calm_through calm (commands_of us)) batches))
 
 comes : (bit calm : Bool) (cs : List Command) (n : ℕ) (c : Command) → in_turn bit calm cs ≡ true → slice_get cs n ≡ Some c → may_come (bit_through bit (take n cs)) (calm_through calm (take n cs)) c ≡ true
 comes bit calm [] n c h g = cc

@@ -1,5 +1,5 @@
 -- What the events do, one effect at a time.
-use Rattle.std.proofs.Common.{◌≡◌, refl, ℕ, ◌+◌, ◌-◌, ◌<◌, Bool, true, false, List, [], ◌∷◌, ◌++◌, Option, Some, None, inl, inr, arith, length}
+use Rattle.std.proofs.Common.{◌≡◌, ◌∙◌, refl, ℕ, ◌+◌, ◌-◌, ◌<◌, Bool, true, false, List, [], ◌∷◌, ◌++◌, Option, Some, None, inl, inr, arith, length}
 use Rattle.std.specs.Prelude.{slice_get, slice_set, remove}
 use Rattle.std.proofs.lemmas.Bool.{cases_Bool}
 use Rattle.std.proofs.lemmas.List.{length_push}
@@ -11,7 +11,8 @@ use Rattle.replay_state.specs.Answers.{Answers, Setup}
 use Rattle.output_commit.specs.Batches.{Batch, commands_in, merged}
 use Rattle.replay_state.specs.State.{Entered, Pass, Progress, State, seen, store_at}
 use Rattle.replay_state.specs.Step.{came_in, decided, ended, finished, pass_of, released, step, steps, went_up}
-use Rattle.replay_state.proofs.Counts.{AreCounted, merged_is, long, length_more, sum_push}
+use Rattle.replay_state.proofs.Counts.{AreCounted, length_more}
+use Rattle.output_commit.proofs.Merging.{is_merged, push_versions}
 
 -- the pass before the server enters, and the one behind it
 abbrev pub let_in : State → ℕ → State
@@ -88,13 +89,11 @@ ended_leaves f a same w x = elim (cases_Bool x.pre) [
 
 pub counts_sent : (w : State) (fits : List Update → Bool) → w.sent < length (commands_in w.batches) → AreCounted w → AreCounted (sent_one w fits)
 counts_sent w fits h k =
-    let m = merged_is fits w.sent w.batches in
-    let old = long w.batches in
-    let new = long (merged fits w.sent w.batches) in
+    let m = is_merged fits w.sent w.batches in
     record {
-      versions = let a = m.versions in let b = k.versions in omega arith;
+      versions = m.versions ∙ k.versions;
       all = k.all;
-      sent_in = let g = m.goes_on (omega arith) in omega arith;
+      sent_in = let on = m.goes_on h in omega arith;
       done_in = let g = k.done_in in omega arith;
       acked_in = k.acked_in;
     }
@@ -102,7 +101,7 @@ counts_sent w fits h k =
 -- the server's run of packet p begins a version, with a batch of it
 pub counts_seen : (a : Answers) (w : State) (j p : ℕ) (b : Batch) → b.versions ≡ 1 → AreCounted w → AreCounted (run_at a w j p (w.version + 1) (w.stores ++ a.after w.store p ∷ []) (w.batches ++ b ∷ []))
 counts_seen a w j p b one k = record {
-  versions = let s = sum_push w.batches b in let v = k.versions in omega arith;
+  versions = let s = push_versions w.batches (b ∷ []) in let v = k.versions in omega arith;
   all = let x = length_push w.stores (a.after w.store p) in let y = k.all in omega arith;
   sent_in = let l = length_more w.batches b in let s = k.sent_in in omega arith;
   done_in = k.done_in;

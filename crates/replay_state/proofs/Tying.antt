@@ -16,7 +16,7 @@ use Rattle.run_model.proofs.Members.{get_member}
 use Rattle.replay_state.specs.Program.{IsSplitProgram, Manner, SplitProgram, plain, setup_of}
 use Rattle.replay_state.specs.Journal.{UpAnswer, Finished, SentUp, Call, up_answer, verdict_in, frame_in, journal, over_in}
 use Rattle.replay_state.specs.Carried.{Carried}
-use Rattle.replay_state.specs.Told.{HasFrames, IsRight, EndsRight, Tells, WentUp, IsTied}
+use Rattle.replay_state.specs.Tied.{HasFrames, IsRight, EndsRight, Tells, IsSentUp, IsTied}
 use Rattle.replay_state.proofs.Plain.{plain_sound}
 use Rattle.replay_state.proofs.Runs.{store_kept, up_within}
 use Rattle.replay_state.proofs.Keeping.{Kept}
@@ -50,7 +50,7 @@ module _ (s : SplitProgram) (packets : List Packet) (manner : Manner) (law : IsS
   there n low = slice_get-get_or packets n _ low
 
   module _ (calls : List Call) where
-    end_right : (w : State) (x : Pass) → Kept setup (plain s packets) w → OverAll setup w.progress → (x.pre ≡ false → WentUp s packets calls x.number)
+    end_right : (w : State) (x : Pass) → Kept setup (plain s packets) w → OverAll setup w.progress → (x.pre ≡ false → IsSentUp s packets calls x.number)
         → EndsRight s packets calls w x
         → EndAlike (journal s calls) (plain s packets) w x
     end_right w x k kept up r = record {
@@ -64,16 +64,16 @@ module _ (s : SplitProgram) (packets : List Packet) (manner : Manner) (law : IsS
           r.post t ∙ ap (λ o. s.post (s.serve_down (over_in o) (frame_in (up_answer calls n)))) g ∙ ap (λ z. s.post (s.serve_down over z)) frame ∙ f.verdict;
     }
 
-    run_right : (w : State) (j n : ℕ) → Kept setup (plain s packets) w → Carried (WentUp s packets calls) w → slice_get w.up j ≡ Some n
+    run_right : (w : State) (j n : ℕ) → Kept setup (plain s packets) w → Carried (IsSentUp s packets calls) w → slice_get w.up j ≡ Some n
         → RunAlike (journal s calls) (plain s packets) w n
     run_right w j n k c g =
         let sound = plain_sound s packets manner law in
-        let low = up_within setup (plain s packets) begin sound law.start w j n k.base.fine k.base.few g in
+        let low = up_within setup (plain s packets) begin sound law.start w j n k.base.consistent k.base.few g in
         let f = frames.each n (packet_at packets n) w.store (there n low) (store_kept setup (plain s packets) begin sound law.start w k.own) in
         let frame : frame_in (up_answer calls n) ≡ s.up_frame n (packet_at packets n) = ap frame_in (c.up n (get_member w.up j n g)) in
         record { after = ap (s.serve_after w.store) frame ∙ f.after; changes = ap (s.serve_changes w.store) frame ∙ f.changes }
 
-    agree_told : (w : State) (e : Event) → Kept setup (plain s packets) w → OverAll setup w.progress → Carried (WentUp s packets calls) w
+    agree_told : (w : State) (e : Event) → Kept setup (plain s packets) w → OverAll setup w.progress → Carried (IsSentUp s packets calls) w
         → Tells setup s packets calls w e → AgreeOn setup (journal s calls) (plain s packets) w e
     agree_told w Admit k o c t = λ z. end_right w (pass_of w true (length w.progress) setup.pre_stages) k o (λ f. cc) (t z)
     agree_told w (Stage j) k o c t = λ x low g. end_right w x k o (c.passes x (get_member w.passes j x g)) (t x low g)
@@ -81,21 +81,21 @@ module _ (s : SplitProgram) (packets : List Packet) (manner : Manner) (law : IsS
     agree_told w (Down j) k o c t = λ n z g. end_right w (pass_of w false n setup.post_stages) k o (λ f. c.down n (get_member w.down j n g)) (t n z g)
     agree_told w e k o c t = tt
 
-    ends_told : (w : State) (e : Event) → Tells setup s packets calls w e → EndsWell setup (journal s calls) (WentUp s packets calls) w e
+    ends_told : (w : State) (e : Event) → Tells setup s packets calls w e → EndsWell setup (journal s calls) (IsSentUp s packets calls) w e
     ends_told w Admit t = λ z none. right_frame s (store_at w.stores (seen w)) (length w.progress) (packet_at packets (length w.progress)) (up_answer calls (length w.progress)) ((t z).pre refl) none
     ends_told w (Stage j) t = λ x low g p none. right_frame s (store_at w.stores x.version) x.number (packet_at packets x.number) (up_answer calls x.number) ((t x low g).pre p) none
     ends_told w e t = tt
 
-    one_told : (w : State) (e : Event) → Kept setup (plain s packets) w → OverAll setup w.progress → Carried (WentUp s packets calls) w
+    one_told : (w : State) (e : Event) → Kept setup (plain s packets) w → OverAll setup w.progress → Carried (IsSentUp s packets calls) w
         → (applies setup w e ≡ true → Tells setup s packets calls w e)
-        → (step setup (journal s calls) w e ≡ step setup (plain s packets) w e) × Carried (WentUp s packets calls) (step setup (journal s calls) w e)
+        → (step setup (journal s calls) w e ≡ step setup (plain s packets) w e) × Carried (IsSentUp s packets calls) (step setup (journal s calls) w e)
     one_told w e k o c t = (
       step_alike setup (journal s calls) (plain s packets) w e (λ h. agree_told w e k o c (t h)),
-      carried_step setup (journal s calls) (WentUp s packets calls) w e (λ h. ends_told w e (t h)) c,
+      carried_step setup (journal s calls) (IsSentUp s packets calls) w e (λ h. ends_told w e (t h)) c,
     )
 
-  went_more : (calls more : List Call) (n : ℕ) → WentUp s packets calls n → WentUp s packets (calls ++ more) n
-  went_more calls more n h = sym (up_stays calls more n (_, h)) ∙ h
+  sent_up_more : (calls more : List Call) (n : ℕ) → IsSentUp s packets calls n → IsSentUp s packets (calls ++ more) n
+  sent_up_more calls more n h = sym (up_stays calls more n (_, h)) ∙ h
 
   -- one event more, with its calls
   pub next_tied : (events : List Event) (event : Event) (calls one : List Call) (st : State) → IsTied setup s packets calls events st → (applies setup st event ≡ true → Tells setup s packets (calls ++ one) st event)
@@ -105,7 +105,7 @@ module _ (s : SplitProgram) (packets : List Packet) (manner : Manner) (law : IsS
       let w = steps setup a (first_state begin) events in
       let k = kept_of setup a (plain_sound s packets manner law) events in
       let over = (stored_of setup a (plain_sound s packets manner law) events).own.over in
-      let framed = carried_weaker (WentUp s packets calls) (WentUp s packets (calls ++ one)) st (went_more calls one) t.framed in
+      let framed = carried_weaker (IsSentUp s packets calls) (IsSentUp s packets (calls ++ one)) st (sent_up_more calls one) t.framed in
       let r = one_told (calls ++ one) st event (subst (Kept setup a) (sym t.same) k)
       (subst (λ (x : State). OverAll setup x.progress) (sym t.same) over) framed tells in
       record {

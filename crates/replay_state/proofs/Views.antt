@@ -2,40 +2,31 @@
 use Rattle.std.proofs.Common.{◌≡◌, ℕ, ◌+◌, ◌-◌, ◌<◌, ◌≤◌, Bool, true, false, List, [], ◌∷◌, ◌++◌, Some, inl, inr, sym, ◌∙◌, ap, subst, arith, suc, take, length}
 use Rattle.std.specs.Prelude.{⊤, slice_get, remove}
 use Rattle.std.proofs.lemmas.Bool.{cases_Bool}
-use Rattle.std.proofs.lemmas.List.{take-append-le, append-nil, append_assoc, get_or_append_left}
+use Rattle.std.proofs.lemmas.List.{get_or_append_left}
 use Rattle.state_store.specs.Store.{Store, object_at}
 use Rattle.writeback_table.specs.declared.command.Command.{Command}
 use Rattle.writeback_table.specs.Pair.{visible, first_pair}
-use Rattle.writeback_table.specs.Commands.{commands_of, pair_through}
+use Rattle.writeback_table.specs.Commands.{pair_through}
 use Rattle.replay_state.specs.Answers.{Answers, Setup}
 use Rattle.output_commit.specs.Batches.{Batch, commands_in}
 use Rattle.replay_state.specs.State.{State, Pass, applied_commands, store_at, first_state}
 use Rattle.run_model.specs.declared.event.Event.{Event}
 use Rattle.replay_state.specs.Step.{disturbs, pass_of, state_of, waits}
-use Rattle.replay_state.specs.Sound.{AreSound}
+use Rattle.replay_state.specs.SoundAnswers.{AreSound}
 use Rattle.replay_state.specs.Tables.{pair_now}
 use Rattle.replay_state.specs.Views.{KeepViews}
 use Rattle.run_model.specs.Members.{Member}
 use Rattle.run_model.proofs.Members.{get_member}
 use Rattle.replay_state.proofs.Lists.{member_remove, member_push, member_set}
 use Rattle.replay_state.proofs.Effects.{shown_le}
-use Rattle.replay_state.proofs.History.{commands_are, updates_in}
+use Rattle.replay_state.proofs.History.{updates_in}
 use Rattle.replay_state.proofs.Keeping.{kept_of}
 use Rattle.replay_state.proofs.Seen.{begin, Stored, ready_from, seen_from, stored_closed, stored_first, stored_idle, stored_tick}
 use Rattle.replay_state.proofs.Steps.{applied_one, moved_at, run_at}
 use Rattle.replay_state.proofs.Walk.{Both, Leads, beside, leads_steps}
 use Rattle.replay_state.proofs.Steady.{stays_seen}
 use Rattle.lemmas.proofs.Lists.{get_within}
-use Rattle.output_commit.proofs.Merging.{merged_take}
-
--- ---- the commands so far
-
-commands_push : (bs : List Batch) (b : Batch) → commands_in (bs ++ b ∷ []) ≡ commands_in bs ++ commands_of b.updates
-commands_push [] b = append-nil (commands_of b.updates)
-commands_push (c ∷ bs) b = ap (λ l. commands_of c.updates ++ l) (commands_push bs b) ∙ sym (append_assoc (commands_of c.updates) (commands_in bs) (commands_of b.updates))
-
-pub pushed : (bs : List Batch) (b : Batch) (m : ℕ) → m ≤ length (commands_in bs) → take m (commands_in (bs ++ b ∷ [])) ≡ take m (commands_in bs)
-pushed bs b m low = ap (take m) (commands_push bs b) ∙ take-append-le m (commands_in bs) (commands_of b.updates) low
+use Rattle.output_commit.proofs.Merging.{is_merged, push_take}
 
 -- ---- a command that doesn't wait disturbs no pass
 
@@ -75,7 +66,7 @@ module _ (setup : Setup) (a : Answers) (law : AreSound setup a) where
           | inr old ↦ h.own.views z old o rep
         ];
         low = λ z m. elim (member_push w.passes x z m) [
-          | inl e ↦ subst (λ (q : Pass). q.version ≤ w.version) e (shown_le w w.done h.base.base.fine)
+          | inl e ↦ subst (λ (q : Pass). q.version ≤ w.version) e (shown_le w w.done h.base.base.consistent)
           | inr old ↦ h.own.low z old
         ];
       }
@@ -94,8 +85,8 @@ module _ (setup : Setup) (a : Answers) (law : AreSound setup a) where
 
   one_batch : (w : State) (j p : ℕ) (b : Batch) → Stored setup w → Views setup w → Views setup (run_at a w j p (w.version + 1) (w.stores ++ a.after w.store p ∷ []) (w.batches ++ b ∷ []))
   one_batch w j p b k h =
-      let i1 = k.base.fine.counts.done_in in let i2 = k.base.fine.counts.sent_in in let i3 = k.base.fine.counts.all in
-      let same : take w.done (commands_in (w.batches ++ b ∷ [])) ≡ take w.done (commands_in w.batches) = pushed w.batches b w.done (omega arith) in
+      let i1 = k.base.consistent.counts.done_in in let i2 = k.base.consistent.counts.sent_in in let i3 = k.base.consistent.counts.all in
+      let same : take w.done (commands_in (w.batches ++ b ∷ [])) ≡ take w.done (commands_in w.batches) = push_take w.batches (b ∷ []) w.done (omega arith) in
       record {
         views = λ x m o rep.
             let low = h.low x m in
@@ -106,21 +97,18 @@ module _ (setup : Setup) (a : Answers) (law : AreSound setup a) where
 
   one_applied : (w : State) → w.done < w.sent → waits w.passes (slice_get (commands_in w.batches) w.done) ≡ false → Stored setup w → Views setup w → Views setup (applied_one w)
   one_applied w below free_now k h =
-      let sent = k.base.fine.counts.sent_in in
+      let sent = k.base.consistent.counts.sent_in in
       let g = get_within (commands_in w.batches) w.done (omega arith) in
       let c = g.0 in
       let wait = sym (ap (waits w.passes) g.1) ∙ free_now in
-      let same = commands_are w.batches in
       let count : w.done + 1 ≡ suc w.done = omega arith in
       let low : w.done < length (commands_in w.batches) = omega arith in
       record {
         views = λ x m o rep.
             let ready = ready_from setup w k.own.history o rep in
             let stays = stays_seen o (first_pair setup.objects setup.writeback o) (updates_in w.batches) ready x.bit w.done c
-            (ap (λ l. slice_get l w.done) (sym same) ∙ g.1) (subst (λ l. w.done < length l) same low) (free w.passes c wait x m) in
-            let stays_here : visible x.bit (pair_through o (first_pair setup.objects setup.writeback o) (take (suc w.done) (commands_in w.batches))) ≡ visible x.bit (pair_now setup w o) =
-            subst (λ l. visible x.bit (pair_through o (first_pair setup.objects setup.writeback o) (take (suc w.done) l)) ≡ visible x.bit (pair_through o (first_pair setup.objects setup.writeback o) (take w.done l))) (sym same) stays in
-            ap (λ n. visible x.bit (pair_through o (first_pair setup.objects setup.writeback o) (take n (commands_in w.batches)))) count ∙ stays_here ∙ h.views x m o rep;
+            g.1 low (free w.passes c wait x m) in
+            ap (λ n. visible x.bit (pair_through o (first_pair setup.objects setup.writeback o) (take n (commands_in w.batches)))) count ∙ stays ∙ h.views x m o rep;
         low = h.low;
       }
 
@@ -136,7 +124,7 @@ module _ (setup : Setup) (a : Answers) (law : AreSound setup a) where
     shown = λ w j p u us g e h. one_batch w j p (record { updates = u ∷ us; versions = 1 }) h.base h.own;
     go = λ w j p need g low h. h.own;
     sent = λ w low h.
-        let same = merged_take setup.fits w.sent w.done w.batches h.base.base.fine.counts.done_in in
+        let same = (is_merged setup.fits w.sent w.batches).stays w.done h.base.base.consistent.counts.done_in in
         subst (λ cs. ViewsOf setup w.passes cs w.stores w.version) (sym same) h.own;
     applied = λ w low wait h. one_applied w low wait h.base h.own;
     acked = λ w low h. h.own;
@@ -158,5 +146,5 @@ module _ (setup : Setup) (a : Answers) (law : AreSound setup a) where
       record {
         each = λ j o x g rep. v.views x (get_member w.passes j x g) o rep;
         kept = λ j x g. k.own.kept x.version (v.low x (get_member w.passes j x g));
-        begun = λ j x g. let low = v.low x (get_member w.passes j x g) in let all = k.base.fine.counts.all in omega arith;
+        begun = λ j x g. let low = v.low x (get_member w.passes j x g) in let all = k.base.consistent.counts.all in omega arith;
       }

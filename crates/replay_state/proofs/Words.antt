@@ -1,9 +1,8 @@
 -- The list of decided packets, and what a packet's progress says.
-use Rattle.std.specs.Prelude.{ℕ, Bool, List, [], ◌∷◌, Option, Some, None, filter, is_some, nat_le, nat_lt}
+use Rattle.std.specs.Prelude.{ℕ, Bool, List, Option, Some, None, filter, is_some, nat_le, nat_lt}
 use Rattle.packet_fields.specs.declared.verdict.Verdict.{Verdict}
-use Rattle.state_store.specs.Store.{Store}
 use Rattle.std.specs.Option.{option_map}
-use Rattle.run_model.specs.Order.{decided_of}
+use Rattle.run_model.proofs.SerialSort as fates
 use Rattle.run_model.specs.Serialises as run
 use Rattle.replay_state.specs.Answers.{Answers}
 use Rattle.replay_state.specs.State.{Progress, Entered, Held, Slow, Fast, fate_of}
@@ -26,8 +25,7 @@ version_at o = None
 
 -- where a packet of this number stands, if it is decided
 abbrev pub entry_of : ℕ → Option Progress → Option Decided
-entry_of n None = None
-entry_of n (Some p) = decided_of n (fate_of p)
+entry_of n o = fates.entry_of n (option_map fate_of o)
 
 abbrev pub is_decided : Option Progress → Bool
 is_decided o = is_some (run.decided_at (option_map fate_of o))
@@ -47,12 +45,3 @@ verdict_at a n (Some (Held e d v over)) = Some (a.post over n)
 verdict_at a n (Some (Slow e d v y r)) = Some y
 verdict_at a n (Some (Fast e d v y)) = Some y
 verdict_at a n o = None
-
--- serial runs by answers
-abbrev pub serial_store : Answers → Store → List ℕ → Store
-serial_store a store [] = store
-serial_store a store (n ∷ ns) = serial_store a (a.after store n) ns
-
-abbrev pub serial_verdicts : Answers → Store → List ℕ → List Verdict
-serial_verdicts a store [] = []
-serial_verdicts a store (n ∷ ns) = a.post store n ∷ serial_verdicts a (a.after store n) ns

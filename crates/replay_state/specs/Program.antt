@@ -11,7 +11,7 @@ use Rattle.writeback_table.specs.declared.command.Update.{Update}
 use Rattle.writeback_table.specs.Batches.{changed_by, count_of, TakesAll}
 use Rattle.output_commit.specs.Batches.{fits}
 use Rattle.replay_state.specs.Answers.{Answers, Setup}
-use Rattle.replay_state.specs.Sound.{IsAlike}
+use Rattle.replay_state.specs.SoundAnswers.{IsAlike}
 pub use Rattle.run_model.specs.Meaning.{packet_at}
 
 -- frames are lists of bytes

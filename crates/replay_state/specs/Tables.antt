@@ -5,7 +5,7 @@ use Rattle.state_store.specs.Store.{Store, object_at}
 use Rattle.writeback_table.specs.declared.command.Command.{Command}
 use Rattle.writeback_table.specs.Pair.{Pair, first_pair}
 use Rattle.writeback_table.specs.Commands.{pair_through, room_for}
-use Rattle.writeback_table.specs.Batches.{Shows}
+use Rattle.writeback_table.specs.Batches.{LookupsSee}
 use Rattle.replay_state.specs.Answers.{Setup}
 use Rattle.output_commit.specs.Batches.{commands_in}
 use Rattle.replay_state.specs.State.{State, applied_commands, store_at, seen, bit_behind}
@@ -16,7 +16,7 @@ pair_now setup st o = pair_through o (first_pair setup.objects setup.writeback o
 
 -- lookups of replicated objects see those of a store
 abbrev pub LookupsShow : Setup → State → Store → Type 0
-LookupsShow setup st store = Shows setup.replicated setup.objects setup.writeback (commands_in st.batches) st.done store
+LookupsShow setup st store = LookupsSee setup.replicated setup.objects setup.writeback (commands_in st.batches) st.done store
 
 pub record IsSeen (setup : Setup) (st : State) : Type 0 where
   -- lookups see the objects of the visible version

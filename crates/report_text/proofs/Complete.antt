@@ -1,6 +1,6 @@
 -- The lines of a report in the form are read, to its run.
 use Rattle.std.proofs.Common.{◌≡◌, ℕ, zero, suc, ◌+◌, ◌≤◌, ◌<◌, Bool, true, false, ◌||◌, cond, eqb, leb, ltb, List, [], ◌∷◌, ◌++◌, length, drop, map, Option, Some, None, refl, sym, ap, ◌∙◌, subst, arith, append_assoc, length-append}
-use Rattle.std.specs.Prelude.{IsTrue, codes, slice_get}
+use Rattle.std.specs.Prelude.{codes, slice_get}
 use Rattle.std.specs.Str.{bytes_eq}
 use Rattle.std.specs.List.{AllByRecursion}
 use Rattle.std.specs.Ordering.{is_lt}
@@ -28,13 +28,10 @@ use Rattle.report_text.proofs.FateLines.{fate_back}
 use Rattle.report_text.proofs.PartLines.{AreBelow, count_back, order_back, order_told, part_told}
 use Rattle.report_text.proofs.RowLines.{row_back, row_told}
 use Rattle.report_text.proofs.Told.{counts_in, events_in, fates_told, head_told, name_of, parts_told, report_told, versions_in}
-use Rattle.report_text.proofs.Declared.{AreKnown, IsKnown, next_gone, next_is, next_kept, shown_back}
+use Rattle.report_text.proofs.Declared.{AreKnown, IsKnown, next_is, next_kept, shown_back}
 use Rattle.report_text.proofs.Keys.{fewer_above, first_most}
 use Rattle.report_text.proofs.Sound.{keys_suc, last_more, numbers_of}
 use Rattle.lemmas.proofs.Tests.{or_true}
-
-pub truth : (b : Bool) → IsTrue b → b ≡ true
-truth b h = h
 
 -- ---- the first lines
 
@@ -90,7 +87,7 @@ rows_fit : (object : ObjectDecl) (row : Row) (rows : List Row) → are_widths ob
 rows_fit object row [] wide fit rising = omega arith
 rows_fit object row (next ∷ rows) wide fit rising =
     let more = rows_fit object next rows wide fit.1 rising.1 in
-    let fewer = fewer_above object.keys row.keys next.keys 0 wide (truth _ fit.0.0) (truth _ fit.1.0.0) rising.0 in
+    let fewer = fewer_above object.keys row.keys next.keys 0 wide fit.0.0 fit.1.0.0 rising.0 in
     omega (arith, more, fewer)
 
 row_step : (declared : List ObjectDecl) (s : State) (side : Side) (m behind : ℕ) (object : ObjectDecl) (row : Row) → s.stage ≡ Table side m behind → slice_get declared m ≡ Some object → IsKnown object
@@ -99,7 +96,7 @@ row_step : (declared : List ObjectDecl) (s : State) (side : Side) (m behind : �
 row_step declared s side m behind object row st is k fit follows room =
     ap (step_at declared s (row_told row)) st
     ∙ ap (row_read side m behind s (row_told row)) is
-    ∙ ap (row_put side m behind s object) (row_back object.keys object.values row k.keys k.values (truth _ fit.0) (truth _ fit.1))
+    ∙ ap (row_put side m behind s object) (row_back object.keys object.values row k.keys k.values fit.0 fit.1)
     ∙ ap (λ b. cond b (Some (with_left side m behind (record s { rows = s.rows ++ row ∷ [] }))) None)
     (and_from (is_after s.rows row.keys) (leb behind (keys_above 0 object.keys row.keys)) follows (le-leb behind (keys_above 0 object.keys row.keys) room))
 
@@ -177,14 +174,11 @@ gone_read : (declared : List ObjectDecl) (c : PacketCounts) (e : EventCounts) (v
     → resume declared (at_server c e v d fs o ps n) ls ≡ resume declared (at_switch c e v d fs o ps [] 0) ls
 gone_read declared c e v d fs o ps n [] none = refl
 gone_read declared c e v d fs o ps n (l ∷ ls) none =
-    ap (λ x. server_by declared (at_server c e v d fs o ps n) l x >>= (λ t. resume declared t ls)) (next_gone n (drop n declared) none)
+    ap (λ x. server_by declared (at_server c e v d fs o ps n) l x >>= (λ t. resume declared t ls)) (next_kept n (drop n declared) [] none)
     ∙ ap (λ x. x >>= (λ t. resume declared t ls)) (switch_same declared (at_switch c e v d fs o ps [] 0) (Server n) 0 l)
 
 part_begun : (declared : List ObjectDecl) (word : List ℕ) (m count : ℕ) (object : ObjectDecl) → slice_get declared m ≡ Some object → part_told word (name_of declared m) count ≡ part_told word object.name count
 part_begun declared word m count object is = ap (λ x. part_told word (name_in x) count) is
-
-tail_of : (xs ys : List ℕ) (m : ℕ) → m ∷ xs ≡ m ∷ ys → xs ≡ ys
-tail_of xs ys m e = ap (drop 1) e
 
 server_parts : (declared : List ObjectDecl) (k : AreKnown declared) (c : PacketCounts) (e : EventCounts) (v : Versions) (d : Bool) (fs : List Fate) (o : List ℕ) (before ps : List ObjectRows) (n : ℕ) (ls : List (List ℕ)) → AllByRecursion (IsPart declared) ps → numbers_of ps ≡ kept_from n (drop n declared)
     → resume declared (at_server c e v d fs o before n) (parts_told (codes "object ") declared ps ++ ls) ≡ resume declared (at_switch c e v d fs o (before ++ ps) [] 0) ls
@@ -194,7 +188,7 @@ server_parts declared k c e v d fs o before (p ∷ ps) n ls h numbers =
     let s = at_server c e v d fs o before n in
     let m = p.object in
     let x = h.0 in
-    let next = next_kept n (drop n declared) m (numbers_of ps) (sym numbers) in
+    let next = next_kept n (drop n declared) (m ∷ numbers_of ps) (sym numbers) in
     let place = next_is n (drop n declared) declared m refl next in
     let begin = part_told (codes "object ") (name_of declared m) (length p.rows) in
     let rest = parts_told (codes "object ") declared ps ++ ls in
@@ -206,7 +200,7 @@ server_parts declared k c e v d fs o before (p ∷ ps) n ls h numbers =
     let later : numbers_of ps ≡ kept_from (m + 1) (drop (m + 1) declared) =
     let tails : m ∷ numbers_of ps ≡ m ∷ kept_from (suc m) (drop (suc m) declared) = numbers ∙ place.kept in
     let up : suc m ≡ m + 1 = omega arith in
-    tail_of (numbers_of ps) (kept_from (suc m) (drop (suc m) declared)) m tails ∙ ap (λ j. kept_from j (drop j declared)) up in
+    ap (drop 1) tails ∙ ap (λ j. kept_from j (drop j declared)) up in
     ap (λ l. step declared s begin >>= (λ t. resume declared t l)) (append_assoc (map row_told p.rows) (parts_told (codes "object ") declared ps) ls)
     ∙ ap (λ o. o >>= (λ t. resume declared t (map row_told p.rows ++ rest))) one
     ∙ opened_read declared s OnServer m x.object p.rows rest refl x.is (k.each m x.object x.is) x.rows x.rising
@@ -235,7 +229,7 @@ switch_parts declared k c e v d fs o server before (p ∷ ps) n h order =
 
 -- ---- the whole
 
-counts_small : (declared : List ObjectDecl) (run : Run) → InForm declared run → AreCounts (counts_in run)
+pub counts_small : (declared : List ObjectDecl) (run : Run) → InForm declared run → AreCounts (counts_in run)
 counts_small declared run h = record { total = omega (arith, h.total); admitted = omega (arith, h.admitted); decided = omega (arith, h.decided); released = omega (arith, h.released) }
 
 can_order : (order : List ℕ) (admitted decided : ℕ) → length order ≡ decided → AreBelow admitted order → (eqb decided 0 || ltb 0 admitted) ≡ true

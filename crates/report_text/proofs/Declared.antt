@@ -1,9 +1,9 @@
 -- What is known of declared objects.
-use Rattle.std.proofs.Common.{◌≡◌, ℕ, zero, suc, ◌+◌, ◌-◌, ◌^◌, ◌≤◌, ◌<◌, Bool, true, false, not, ◌&&◌, ◌||◌, cond, ltb, List, [], ◌∷◌, ◌++◌, length, drop, Option, Some, None, refl, sym, ap, ◌∙◌, subst, arith}
+use Rattle.std.proofs.Common.{◌≡◌, ℕ, zero, suc, ◌+◌, ◌-◌, ◌^◌, ◌≤◌, ◌<◌, Bool, true, false, not, ◌&&◌, cond, ltb, List, [], ◌∷◌, ◌++◌, length, drop, Option, Some, None, refl, sym, ap, ◌∙◌, subst, arith}
 use Rattle.std.specs.Prelude.{codes, slice_get, slice_index}
 use Rattle.std.specs.Str.{bytes_eq}
 use Rattle.std.specs.List.{list_all, list_any}
-use Rattle.std.proofs.lemmas.Bool.{and_parts}
+use Rattle.std.proofs.lemmas.Bool.{and_parts, or_parts, not-true}
 use Rattle.std.proofs.lemmas.Bool.Decides.{nat_tests}
 use Rattle.state_store.specs.declared.object.ObjectDecl.{ObjectDecl}
 use Rattle.state_store.specs.Kinds.{is_table}
@@ -14,6 +14,7 @@ use Rattle.report_text.proofs.PartLines.{HasCount, count_back, count_is, part_to
 use Rattle.run_text.specs.Trace.{largest}
 use Rattle.std.proofs.lemmas.Slice.Eq.{bytes_eq-Decides}
 use Rattle.std.proofs.lemmas.Option.{same_Some}
+use Rattle.lemmas.proofs.Lists.{drop_got}
 
 -- the facts of one object
 pub record IsKnown (o : ObjectDecl) : Type 0 where
@@ -46,19 +47,13 @@ all_known declared h =
 
 -- ---- a list from a place on
 
-pub got_drop : (declared : List ObjectDecl) (n : ℕ) (o : ObjectDecl) → slice_get declared n ≡ Some o → drop n declared ≡ o ∷ drop (suc n) declared
-got_drop [] n o e = cc e
-got_drop (d ∷ ds) zero o e = ap (λ x. x ∷ ds) (same_Some d o e)
-got_drop (d ∷ ds) (suc n) o e = got_drop ds n o e
-
-pub drop_got : (declared : List ObjectDecl) (n : ℕ) (o : ObjectDecl) (rest : List ObjectDecl) → drop n declared ≡ o ∷ rest → slice_get declared n ≡ Some o
-drop_got [] zero o rest e = cc e
-drop_got [] (suc n) o rest e = cc e
-drop_got (d ∷ ds) zero o rest e = cc e
-drop_got (d ∷ ds) (suc n) o rest e = drop_got ds n o rest e
+pub got_dropped : (declared : List ObjectDecl) (n : ℕ) (o : ObjectDecl) (rest : List ObjectDecl) → drop n declared ≡ o ∷ rest → slice_get declared n ≡ Some o
+got_dropped (d ∷ ds) (suc n) o rest e = got_dropped ds n o rest e
+got_dropped [] zero o rest e = cc e
+got_dropped _ _ o rest e = cc e
 
 pub drop_next : (declared : List ObjectDecl) (n : ℕ) (o : ObjectDecl) (rest : List ObjectDecl) → drop n declared ≡ o ∷ rest → drop (suc n) declared ≡ rest
-drop_next declared n o rest e = let g = got_drop declared n o (drop_got declared n o rest e) in let both : o ∷ drop (suc n) declared ≡ o ∷ rest = sym g ∙ e in cc both
+drop_next declared n o rest e = let g = drop_got declared n o (got_dropped declared n o rest e) in let both : o ∷ drop (suc n) declared ≡ o ∷ rest = sym g ∙ e in cc both
 
 -- ---- the next object that is no table
 
@@ -78,7 +73,7 @@ next_by true n o objects declared m t e more h =
 next_by false n o objects declared m t e more h =
     subst (IsNext n (o ∷ objects) declared) (same_Some n m h) (record {
       object = o;
-      is = drop_got declared n o objects e;
+      is = got_dropped declared n o objects e;
       kind = t;
       later = omega arith;
       kept = rw t (ap (λ l. n ∷ kept_from (suc n) l) (sym (drop_next declared n o objects e)));
@@ -89,33 +84,24 @@ next_is n [] declared m e h = cc h
 next_is n (o ∷ objects) declared m e h =
     next_by (is_table o.kind) n o objects declared m refl e (λ k. next_is (suc n) objects declared m (drop_next declared n o objects e) k) h
 
-none_by : (t : Bool) (n : ℕ) (o : ObjectDecl) (objects : List ObjectDecl) → (next_from (suc n) objects ≡ None → kept_from (suc n) objects ≡ [])
-    → cond t (next_from (suc n) objects) (Some n) ≡ None → cond t (kept_from (suc n) objects) (n ∷ kept_from (suc n) objects) ≡ []
-none_by true n o objects more h = more h
-none_by false n o objects more h = cc h
+-- the next object is the first that is kept
+next_first : (n : ℕ) (objects : List ObjectDecl) → next_from n objects ≡ slice_get (kept_from n objects) 0
+next_first n [] = refl
+next_first n (o ∷ objects) =
+    elim (is_table o.kind) as (λ t. cond t (next_from (suc n) objects) (Some n) ≡ slice_get (cond t (kept_from (suc n) objects) (n ∷ kept_from (suc n) objects)) 0) [
+      | true ↦ next_first (suc n) objects
+      | false ↦ refl
+    ]
+
+pub next_kept : (n : ℕ) (objects : List ObjectDecl) (ms : List ℕ) → kept_from n objects ≡ ms → next_from n objects ≡ slice_get ms 0
+next_kept n objects ms h = next_first n objects ∙ ap (λ ks. slice_get ks 0) h
+
+no_first : (ms : List ℕ) → slice_get ms 0 ≡ None → ms ≡ []
+no_first [] h = refl
+no_first (m ∷ ms) h = cc
 
 pub next_none : (n : ℕ) (objects : List ObjectDecl) → next_from n objects ≡ None → kept_from n objects ≡ []
-next_none n [] h = refl
-next_none n (o ∷ objects) h = none_by (is_table o.kind) n o objects (next_none (suc n) objects) h
-
--- the first number that is kept is that of the next object
-kept_by : (t : Bool) (n : ℕ) (o : ObjectDecl) (objects : List ObjectDecl) (m : ℕ) (ms : List ℕ) → (kept_from (suc n) objects ≡ m ∷ ms → next_from (suc n) objects ≡ Some m)
-    → cond t (kept_from (suc n) objects) (n ∷ kept_from (suc n) objects) ≡ m ∷ ms → cond t (next_from (suc n) objects) (Some n) ≡ Some m
-kept_by true n o objects m ms more h = more h
-kept_by false n o objects m ms more h = cc h
-
-pub next_kept : (n : ℕ) (objects : List ObjectDecl) (m : ℕ) (ms : List ℕ) → kept_from n objects ≡ m ∷ ms → next_from n objects ≡ Some m
-next_kept n [] m ms h = cc h
-next_kept n (o ∷ objects) m ms h = kept_by (is_table o.kind) n o objects m ms (next_kept (suc n) objects m ms) h
-
-gone_by : (t : Bool) (n : ℕ) (o : ObjectDecl) (objects : List ObjectDecl) → (kept_from (suc n) objects ≡ [] → next_from (suc n) objects ≡ None)
-    → cond t (kept_from (suc n) objects) (n ∷ kept_from (suc n) objects) ≡ [] → cond t (next_from (suc n) objects) (Some n) ≡ None
-gone_by true n o objects more h = more h
-gone_by false n o objects more h = cc h
-
-pub next_gone : (n : ℕ) (objects : List ObjectDecl) → kept_from n objects ≡ [] → next_from n objects ≡ None
-next_gone n [] h = refl
-next_gone n (o ∷ objects) h = gone_by (is_table o.kind) n o objects (next_gone (suc n) objects) h
+next_none n objects h = no_first (kept_from n objects) (sym (next_first n objects) ∙ h)
 
 -- ---- the object of a switch line
 
@@ -130,7 +116,7 @@ shown_here : (t : Bool) (n : ℕ) (o : ObjectDecl) (objects declared : List Obje
     → cond t None (count_of (codes "switch ") o.name l) ≡ Some count → IsShown n declared l n count
 shown_here true n o objects declared l count t e h = cc h
 shown_here false n o objects declared l count t e h =
-    record { object = o; is = drop_got declared n o objects e; kind = t; later = omega arith; line = count_is (codes "switch ") o.name l count h }
+    record { object = o; is = got_dropped declared n o objects e; kind = t; later = omega arith; line = count_is (codes "switch ") o.name l count h }
 
 shown_by : (c : Option ℕ) (n : ℕ) (o : ObjectDecl) (objects declared : List ObjectDecl) (l : List ℕ) (x : ℕ × ℕ) → shown_count o l ≡ c → drop n declared ≡ o ∷ objects
     → (shown_from (suc n) objects l ≡ Some x → IsShown (suc n) declared l x.0 x.1)
@@ -175,21 +161,11 @@ other_none : (t : Bool) (o : ObjectDecl) (name : List ℕ) (count : ℕ) → is_
 other_none true o name count t hn ho d = refl
 other_none false o name count t hn ho d = other_by (count_of (codes "switch ") o.name (part_told (codes "switch ") name count)) name o.name count hn ho d refl
 
-first_not : (a b : Bool) → not (a || b) ≡ true → a ≡ false
-first_not true b h = cc h
-first_not false b h = refl
-
-rest_not : (a b : Bool) → not (a || b) ≡ true → not b ≡ true
-rest_not true b h = cc h
-rest_not false b h = h
-
-differs : (name : List ℕ) (objects : List ObjectDecl) (k : ℕ) (o : ObjectDecl) → not (list_any (λ (p : ObjectDecl). bytes_eq name p.name) objects) ≡ true → slice_get objects k ≡ Some o → bytes_eq name o.name ≡ false
+differs : (name : List ℕ) (objects : List ObjectDecl) (k : ℕ) (o : ObjectDecl) → list_any (λ (p : ObjectDecl). bytes_eq name p.name) objects ≡ false → slice_get objects k ≡ Some o → bytes_eq name o.name ≡ false
 differs name [] k o h e = cc e
 differs name (d ∷ ds) zero o h e =
-    let same = same_Some d o e in
-    let first : bytes_eq name d.name ≡ false = first_not (bytes_eq name d.name) (list_any (λ (p : ObjectDecl). bytes_eq name p.name) ds) h in
-    subst (λ (p : ObjectDecl). bytes_eq name p.name ≡ false) same first
-differs name (d ∷ ds) (suc k) o h e = differs name ds k o (rest_not (bytes_eq name d.name) (list_any (λ (p : ObjectDecl). bytes_eq name p.name) ds) h) e
+    subst (λ (p : ObjectDecl). bytes_eq name p.name ≡ false) (same_Some d o e) (or_parts (bytes_eq name d.name) (list_any (λ (p : ObjectDecl). bytes_eq name p.name) ds) h).0
+differs name (d ∷ ds) (suc k) o h e = differs name ds k o (or_parts (bytes_eq name d.name) (list_any (λ (p : ObjectDecl). bytes_eq name p.name) ds) h).1 e
 
 pub shown_found : (objects : List ObjectDecl) (n k : ℕ) (o : ObjectDecl) (count : ℕ) → list_all is_declared objects ≡ true → are_apart objects ≡ true → slice_get objects k ≡ Some o → is_table o.kind ≡ false → count ≤ largest
     → shown_from n objects (part_told (codes "switch ") o.name count) ≡ Some (n + k, count)
@@ -203,7 +179,7 @@ shown_found (d ∷ ds) n zero o count h a e t small =
 shown_found (d ∷ ds) n (suc k) o count h a e t small =
     let hp = and_parts (is_declared d) (list_all is_declared ds) h in
     let ap2 = and_parts (not (list_any (λ (p : ObjectDecl). bytes_eq d.name p.name) ds)) (are_apart ds) a in
-    let differ = differs d.name ds k o ap2.0 e in
+    let differ = differs d.name ds k o (not-true (list_any (λ (p : ObjectDecl). bytes_eq d.name p.name) ds) ap2.0) e in
     let plain = (known_at ds k o hp.1 e).name in
     let none : shown_count d (part_told (codes "switch ") o.name count) ≡ None = other_none (is_table d.kind) d o.name count refl plain (known d hp.0).name differ in
     let later : suc n + k ≡ n + suc k = omega arith in

@@ -6,8 +6,8 @@ use Rattle.run_text.specs.Trace.{largest}
 use Rattle.report_text.specs.declared.head.PacketCounts.{PacketCounts}
 use Rattle.report_text.specs.declared.head.EventCounts.{EventCounts}
 use Rattle.report_text.specs.declared.head.Versions.{Versions}
-use Rattle.report_text.specs.Parse.{counts_of, events_of, versions_of, labelled}
-use Rattle.report_text.proofs.Pieces.{bound, labelled_back, labelled_is, whole_is}
+use Rattle.report_text.specs.Parse.{counts_of, events_of, versions_of}
+use Rattle.report_text.proofs.Pieces.{labelled_back, whole_is, numbered, IsTextOf}
 
 abbrev pub counts_text : PacketCounts → List ℕ
 counts_text c =
@@ -34,25 +34,17 @@ counts_back c h =
       labelled_back largest c.released (codes " released ") r4 h.released (omega arith) refl,
     ) refl
 
-pub record HasCounts (line : List ℕ) (c : PacketCounts) : Type 0 where
-  pub are : AreCounts c
-  pub is : line ≡ counts_text c
-
-pub counts_is : (line : List ℕ) (c : PacketCounts) → counts_of line ≡ Some c → HasCounts line c
+pub counts_is : (line : List ℕ) (c : PacketCounts) → counts_of line ≡ Some c → IsTextOf AreCounts counts_text line c
 unfolding counts_of
 counts_is line c h =
-    bound (labelled largest (codes "packets ") line) _ c h (λ t et ht.
-    bound (labelled largest (codes " admitted ") t.1) _ c ht (λ a ea ha.
-    bound (labelled largest (codes " decided ") a.1) _ c ha (λ d ed hd.
-    bound (labelled largest (codes " released ") d.1) _ c hd (λ r er hr.
-    let e = whole_is _ c r.1 hr in
-    let lt = labelled_is largest t (codes "packets ") line (omega arith) et in
-    let la = labelled_is largest a (codes " admitted ") t.1 (omega arith) ea in
-    let ld = labelled_is largest d (codes " decided ") a.1 (omega arith) ed in
-    let lr = labelled_is largest r (codes " released ") d.1 (omega arith) er in
-    subst (HasCounts line) e.1 (record {
-      are = record { total = lt.0; admitted = la.0; decided = ld.0; released = lr.0 };
-      is = rw (lt.1, la.1, ld.1, lr.1, e.0) refl;
+    numbered largest (codes "packets ") line _ c (omega arith) h (λ t total et ht.
+    numbered largest (codes " admitted ") t.1 _ c (omega arith) ht (λ a admitted ea ha.
+    numbered largest (codes " decided ") a.1 _ c (omega arith) ha (λ d decided ed hd.
+    numbered largest (codes " released ") d.1 _ c (omega arith) hd (λ r released er hr.
+    let end = whole_is _ c r.1 hr in
+    subst (IsTextOf AreCounts counts_text line) end.1 (record {
+      are = record { total = total; admitted = admitted; decided = decided; released = released };
+      is = rw (et, ea, ed, er, end.0) refl;
     })))))
 
 abbrev pub events_text : EventCounts → List ℕ
@@ -70,22 +62,13 @@ events_back e h =
       labelled_back largest e.idle (codes " idle ") [] h.idle (omega arith) refl,
     ) refl
 
-pub record HasEvents (line : List ℕ) (e : EventCounts) : Type 0 where
-  pub are : AreEvents e
-  pub is : line ≡ events_text e
-
-pub events_is : (line : List ℕ) (e : EventCounts) → events_of line ≡ Some e → HasEvents line e
+pub events_is : (line : List ℕ) (e : EventCounts) → events_of line ≡ Some e → IsTextOf AreEvents events_text line e
 unfolding events_of
 events_is line e h =
-    bound (labelled largest (codes "events ") line) _ e h (λ t et ht.
-    bound (labelled largest (codes " idle ") t.1) _ e ht (λ a ea ha.
-    let w = whole_is _ e a.1 ha in
-    let lt = labelled_is largest t (codes "events ") line (omega arith) et in
-    let la = labelled_is largest a (codes " idle ") t.1 (omega arith) ea in
-    subst (HasEvents line) w.1 (record {
-      are = record { events = lt.0; idle = la.0 };
-      is = rw (lt.1, la.1, w.0) refl;
-    })))
+    numbered largest (codes "events ") line _ e (omega arith) h (λ t events et ht.
+    numbered largest (codes " idle ") t.1 _ e (omega arith) ht (λ a idle ea ha.
+    let end = whole_is _ e a.1 ha in
+    subst (IsTextOf AreEvents events_text line) end.1 (record { are = record { events = events; idle = idle }; is = rw (et, ea, end.0) refl })))
 
 abbrev pub versions_text : Versions → List ℕ
 versions_text v = codes "version " ++ (decimal v.version ++ (codes " visible " ++ (decimal v.visible ++ [])))
@@ -102,19 +85,10 @@ versions_back v h =
       labelled_back largest v.visible (codes " visible ") [] h.visible (omega arith) refl,
     ) refl
 
-pub record HasVersions (line : List ℕ) (v : Versions) : Type 0 where
-  pub are : AreVersions v
-  pub is : line ≡ versions_text v
-
-pub versions_is : (line : List ℕ) (v : Versions) → versions_of line ≡ Some v → HasVersions line v
+pub versions_is : (line : List ℕ) (v : Versions) → versions_of line ≡ Some v → IsTextOf AreVersions versions_text line v
 unfolding versions_of
 versions_is line v h =
-    bound (labelled largest (codes "version ") line) _ v h (λ t et ht.
-    bound (labelled largest (codes " visible ") t.1) _ v ht (λ a ea ha.
-    let w = whole_is _ v a.1 ha in
-    let lt = labelled_is largest t (codes "version ") line (omega arith) et in
-    let la = labelled_is largest a (codes " visible ") t.1 (omega arith) ea in
-    subst (HasVersions line) w.1 (record {
-      are = record { version = lt.0; visible = la.0 };
-      is = rw (lt.1, la.1, w.0) refl;
-    })))
+    numbered largest (codes "version ") line _ v (omega arith) h (λ t version et ht.
+    numbered largest (codes " visible ") t.1 _ v (omega arith) ht (λ a visible ea ha.
+    let end = whole_is _ v a.1 ha in
+    subst (IsTextOf AreVersions versions_text line) end.1 (record { are = record { version = version; visible = visible }; is = rw (et, ea, end.0) refl })))

@@ -4,7 +4,7 @@ use Rattle.std.specs.Prelude.{slice_index}
 use Rattle.std.specs.declared.cmp.Ordering.TheVariants.{Less, Greater}
 use Rattle.std.proofs.lemmas.Bool.{and_parts}
 use Rattle.std.proofs.lemmas.Nat.{pow_pos}
-use Rattle.std.proofs.Math.Nat.{mul-le-mul_left, mul_comm, mul_assoc, mod-lt, div-add-mod, div-lt_iff_lt-mul}
+use Rattle.std.proofs.Math.Nat.{mul-le-mul_left, mul_comm, mul_assoc, mod-lt, div-add-mod, div-lt_iff_lt-mul, mul-le-mul_right}
 use Rattle.std.proofs.lemmas.Bool.Decides.{nat_tests}
 use Rattle.state_store.specs.Kept.{have_widths}
 use Rattle.state_store.specs.Store.{key_cmp}
@@ -18,18 +18,12 @@ use Rattle.lemmas.proofs.Numbers.{below_same_above, cmp_equal, cmp_greater, cmp_
 
 stepped : (p g h d e : ℕ) → g < h → d < p → g * p + d < h * p + e
 stepped p g h d e less small =
-    let up : p * (g + 1) ≤ p * h = mul-le-mul_left p (omega arith) in
-    let a : p * (g + 1) ≡ (g + 1) * p = mul_comm p (g + 1) in
-    let b : p * h ≡ h * p = mul_comm p h in
-    let c : (g + 1) * p ≡ g * p + p = grind arith in
-    omega (arith, up, a, b, c)
+    let up : (g + 1) * p ≤ h * p = mul-le-mul_right p (omega arith) in
+    let one : (g + 1) * p ≡ g * p + p = grind arith in
+    omega (arith, up, one)
 
 level : (p g h d e : ℕ) → g ≤ h → d ≤ e → g * p + d ≤ h * p + e
-level p g h d e less small =
-    let up : p * g ≤ p * h = mul-le-mul_left p less in
-    let a : p * g ≡ g * p = mul_comm p g in
-    let b : p * h ≡ h * p = mul_comm p h in
-    omega (arith, up, a, b)
+level p g h d e less small = let up : g * p ≤ h * p = mul-le-mul_right p less in omega (arith, up)
 
 pub in_front_less : (ws a b : List ℕ) (g h : ℕ) → are_widths ws ≡ true → g < h → keys_above g ws a < keys_above h ws b
 in_front_less [] a b g h wide less = less
@@ -49,11 +43,6 @@ first_most (w ∷ ws) key g h less =
 -- ---- a greater key has fewer above it
 
 pub fewer_above : (ws a b : List ℕ) (g : ℕ) → are_widths ws ≡ true → have_widths ws a ≡ true → have_widths ws b ≡ true → key_cmp a b ≡ Less → keys_above g ws b < keys_above g ws a
-fewer_above [] [] [] g wide ha hb h = cc h
-fewer_above [] [] (y ∷ b) g wide ha hb h = cc hb
-fewer_above [] (x ∷ a) b g wide ha hb h = cc ha
-fewer_above (w ∷ ws) [] b g wide ha hb h = cc ha
-fewer_above (w ∷ ws) (x ∷ a) [] g wide ha hb h = cc hb
 fewer_above (w ∷ ws) (x ∷ a) (y ∷ b) g wide ha hb h =
     let wp = and_parts (is_width w) (are_widths ws) wide in
     let hap = and_parts (ltb x (2 ^ w)) (have_widths ws a) ha in
@@ -67,12 +56,12 @@ fewer_above (w ∷ ws) (x ∷ a) (y ∷ b) g wide ha hb h =
           rw e (fewer_above ws a b (g * 2 ^ w + (most_of w - y)) wp.1 hap.1 hbp.1 same)
       | inr (inr more) ↦ let wrong : Greater ≡ Less = rw (cmp_greater x y more) at h in cc wrong
     ]
+fewer_above [] [] [] g wide ha hb h = cc
+fewer_above _ _ _ g wide ha hb h = cc
 
 -- and a key with fewer above it is greater
 pub less_of : (ws a b : List ℕ) (g : ℕ) → are_widths ws ≡ true → have_widths ws a ≡ true → have_widths ws b ≡ true → keys_above g ws b < keys_above g ws a → key_cmp a b ≡ Less
 less_of [] a b g wide ha hb h = absurd (omega (arith, h))
-less_of (w ∷ ws) [] b g wide ha hb h = cc ha
-less_of (w ∷ ws) (x ∷ a) [] g wide ha hb h = cc hb
 less_of (w ∷ ws) (x ∷ a) (y ∷ b) g wide ha hb h =
     let wp = and_parts (is_width w) (are_widths ws) wide in
     let hap = and_parts (ltb x (2 ^ w)) (have_widths ws a) ha in
@@ -85,6 +74,7 @@ less_of (w ∷ ws) (x ∷ a) (y ∷ b) g wide ha hb h =
       | inr (inr more) ↦
           absurd (omega (arith, h, in_front_less ws a b (g * 2 ^ w + (most_of w - x)) (g * 2 ^ w + (most_of w - y)) wp.1 (omega (arith, more, inside, most))))
     ]
+less_of _ _ _ g wide ha hb h = cc
 
 -- ---- there is a key with so many above it
 
@@ -147,8 +137,6 @@ above_inside (w ∷ ws) key g wide =
     let ih = above_inside ws (drop 1 key) (g * 2 ^ w + d) wp.1 in
     let c : (g + 1) * 2 ^ w ≡ g * 2 ^ w + 2 ^ w = grind arith in
     let fits : g * 2 ^ w + d + 1 ≤ (g + 1) * 2 ^ w = omega (arith, c, small) in
-    let up : size ws * (g * 2 ^ w + d + 1) ≤ size ws * ((g + 1) * 2 ^ w) = mul-le-mul_left (size ws) fits in
-    let a : size ws * (g * 2 ^ w + d + 1) ≡ (g * 2 ^ w + d + 1) * size ws = mul_comm (size ws) (g * 2 ^ w + d + 1) in
-    let b : size ws * ((g + 1) * 2 ^ w) ≡ (g + 1) * 2 ^ w * size ws = mul_comm (size ws) ((g + 1) * 2 ^ w) in
+    let up : (g * 2 ^ w + d + 1) * size ws ≤ (g + 1) * 2 ^ w * size ws = mul-le-mul_right (size ws) fits in
     let e : (g + 1) * 2 ^ w * size ws ≡ (g + 1) * (2 ^ w * size ws) = mul_assoc (g + 1) (2 ^ w) (size ws) in
-    omega (arith, ih, up, a, b, e)
+    omega (arith, ih, up, e)

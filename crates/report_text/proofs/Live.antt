@@ -27,7 +27,9 @@ use Rattle.report_text.proofs.RowLines.{row_back, row_told}
 use Rattle.report_text.proofs.Declared.{AreKnown, IsKnown, next_is}
 use Rattle.report_text.proofs.Keys.{above_inside, key_above, key_fits, key_with, less_of, size}
 use Rattle.report_text.proofs.Sound.{CanOrder, HasRoom, Stands, last_more, last_of}
-use Rattle.report_text.proofs.Complete.{truth}
+use Rattle.std.proofs.lemmas.Option.{slice_get_within}
+use Rattle.std.proofs.Math.ListN.{replicate}
+use Rattle.std.proofs.lemmas.List.{length-replicate}
 
 -- there are lines that end it
 pub record IsLive (declared : List ObjectDecl) (s : State) : Type 0 where
@@ -48,11 +50,6 @@ live_ended declared s = record { more = []; run = run_of s; is = refl }
 live_switch : (declared : List ObjectDecl) (s : State) (n : ℕ) → s.stage ≡ Switch n → IsLive declared s
 live_switch declared s n e = live_by declared s (record s { stage = Ended }) (codes "end") (Switch n) e refl (live_ended declared s)
 
-got_inside : (declared : List ObjectDecl) (m : ℕ) (o : ObjectDecl) → slice_get declared m ≡ Some o → m < length declared
-got_inside [] m o e = cc e
-got_inside (d ∷ ds) zero o e = omega arith
-got_inside (d ∷ ds) (suc m) o e = omega (arith, got_inside ds m o e)
-
 no_part : (declared : List ObjectDecl) (k : AreKnown declared) (s : State) (m : ℕ) (o : ObjectDecl) → slice_get declared m ≡ Some o
     → server_opened declared s m (count_by (part_told (codes "object ") o.name 0) (slice_get declared m)) ≡ Some (with_left OnServer m 0 s)
 no_part declared k s m o e =
@@ -68,7 +65,7 @@ live_next declared k (Some m) s n e next ih =
     let x = next_is n (drop n declared) declared m refl next in
     let l = part_told (codes "object ") x.object.name 0 in
     live_by declared s (with_left OnServer m 0 s) l (Server n) e (ap (server_by declared s l) next ∙ no_part declared k s m x.object x.is)
-    (ih (with_left OnServer m 0 s) m x.later (got_inside declared m x.object x.is) refl)
+    (ih (with_left OnServer m 0 s) m x.later (slice_get_within declared m x.object x.is) refl)
 
 live_server : (declared : List ObjectDecl) (k : AreKnown declared) (fuel : ℕ) (s : State) (n : ℕ) → length declared ≤ n + fuel → s.stage ≡ Server n → IsLive declared s
 live_server declared k zero s n h e = live_next declared k (next_from n (drop n declared)) s n e refl (λ t m later inside st. absurd (omega (arith, h, later, inside)))
@@ -127,25 +124,17 @@ live_table declared k side (suc behind) s m o is e room fit =
 
 -- ---- packets
 
-abbrev zeros : ℕ → List ℕ
-zeros zero = []
-zeros (suc n) = 0 ∷ zeros n
-
-zeros_long : (n : ℕ) → length (zeros n) ≡ n
-zeros_long zero = refl
-zeros_long (suc n) = ap suc (zeros_long n)
-
-zeros_below : (n bound : ℕ) → (0 < n → 0 < bound) → AreBelow bound (zeros n)
+zeros_below : (n bound : ℕ) → (0 < n → 0 < bound) → AreBelow bound (replicate n 0)
 zeros_below zero bound h = tt
 zeros_below (suc n) bound h = (h (omega arith), zeros_below n bound (λ some. h (omega arith)))
 
 live_order : (declared : List ObjectDecl) (k : AreKnown declared) (s : State) → s.stage ≡ Fates → AreCounts s.counts → CanOrder s.counts → s.counts.admitted ≤ length s.fates → IsLive declared s
 live_order declared k s e hc can all =
-    let o = zeros s.counts.decided in
+    let o = replicate s.counts.decided 0 in
     let u = record s { order = o; stage = Server 0 } in
     let done : ltb (length s.fates) s.counts.admitted ≡ false = grind (arith, nat_tests, all) in
     let found : order_of s.counts.decided s.counts.admitted (order_told o) ≡ Some o =
-    subst (λ n. order_of n s.counts.admitted (order_told o) ≡ Some o) (zeros_long s.counts.decided) (order_back o s.counts.admitted (omega (arith, hc.admitted)) (zeros_below s.counts.decided s.counts.admitted can)) in
+    subst (λ n. order_of n s.counts.admitted (order_told o) ≡ Some o) (length-replicate s.counts.decided 0) (order_back o s.counts.admitted (omega (arith, hc.admitted)) (zeros_below s.counts.decided s.counts.admitted can)) in
     live_by declared s u (order_told o) Fates e
     (ap (λ b. cond b (fate_read s (fate_of (length s.fates) (order_told o))) (order_read s (order_of s.counts.decided s.counts.admitted (order_told o)))) done ∙ ap (order_read s) found)
     (live_server declared k (length declared) u 0 (omega arith) refl)
@@ -198,7 +187,7 @@ live_title declared k s e = live_by declared s (record s { stage = Packets }) (c
 
 last_fits : (o : ObjectDecl) (rows : List Row) → AllByRecursion (IsRowOf o) rows → Fits o (last_of rows)
 last_fits o [] h = tt
-last_fits o (row ∷ []) h = truth _ h.0.0
+last_fits o (row ∷ []) h = h.0.0
 last_fits o (row ∷ (next ∷ rows)) h =
     let e : length (row ∷ (next ∷ rows)) - 1 ≡ suc (length (next ∷ rows) - 1) = omega arith in
     subst (λ i. Fits o (slice_get (row ∷ (next ∷ rows)) i)) (sym e) (last_fits o (next ∷ rows) h.1)

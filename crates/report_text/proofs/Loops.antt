@@ -1,14 +1,15 @@
 -- What loops over a line, over widths and over objects go on with.
-use Rattle.std.proofs.Common.{◌≡◌, ℕ, zero, suc, ◌+◌, ◌*◌, ◌-◌, ◌^◌, ◌≤◌, ◌<◌, true, false, leb, List, [], ◌∷◌, ◌++◌, length, drop, get_or, Some, None, refl, ap, ◌∙◌, arith, drop-cons}
+use Rattle.std.proofs.Common.{◌≡◌, ℕ, suc, ◌+◌, ◌*◌, ◌-◌, ◌^◌, ◌≤◌, ◌<◌, true, false, leb, List, [], ◌∷◌, ◌++◌, length, drop, get_or, Some, None, refl, ap, ◌∙◌, arith, drop-cons, add-zero}
 use Rattle.std.specs.Prelude.{slice_index}
 use Rattle.std.proofs.lemmas.Nat.{pow_pos}
 use Rattle.std.proofs.Math.Pow.{pow_mono}
-use Rattle.std.proofs.Math.Nat.{mul-le-mul_left, mul_comm}
+use Rattle.std.proofs.Math.Nat.{mul-le-mul_left, mul-le-mul_right}
 use Rattle.std.proofs.lemmas.Bool.{le-leb}
 use Rattle.state_store.specs.declared.object.ObjectDecl.{ObjectDecl}
 use Rattle.state_store.specs.Kinds.{is_table}
 use Rattle.report_text.specs.Parse.{number_below, numbers_at, key_number, keys_at, labelled, most_of, values_at}
 use Rattle.report_text.specs.Machine.{keys_above, next_from, shown_count, shown_from}
+use Rattle.std.proofs.lemmas.List.{get_or-drop, drop-drop}
 
 -- ---- numbers of the order
 
@@ -44,29 +45,17 @@ pub above_more : (above : ℕ) (ws key : List ℕ) → above ≤ keys_above abov
 above_more above [] key = omega arith
 above_more above (w ∷ ws) key =
     let more = above_more (above * 2 ^ w + (most_of w - slice_index key 0)) ws (drop 1 key) in
-    let positive : 1 ≤ 2 ^ w = omega (arith, pow_pos w) in
-    let times : above * 1 ≤ above * 2 ^ w = mul-le-mul_left above positive in
+    let times : above * 1 ≤ above * 2 ^ w = mul-le-mul_left above (omega (arith, pow_pos w)) in
     omega (arith, more, times)
-
-drop_one : {X : Type 0} (i : ℕ) (xs : List X) → drop 1 (drop i xs) ≡ drop (suc i) xs
-drop_one zero [] = refl
-drop_one (suc i) [] = refl
-drop_one zero (x ∷ xs) = refl
-drop_one (suc i) (x ∷ xs) = drop_one i xs
-
-first_dropped : (i : ℕ) (xs : List ℕ) → slice_index (drop i xs) 0 ≡ slice_index xs i
-first_dropped zero [] = refl
-first_dropped (suc i) [] = refl
-first_dropped zero (x ∷ xs) = refl
-first_dropped (suc i) (x ∷ xs) = first_dropped i xs
 
 pub leaves_on : (above i : ℕ) (ws key : List ℕ) → i < length ws
     → keys_above above (drop i ws) (drop i key) ≡ keys_above (above * 2 ^ slice_index ws i + (most_of (slice_index ws i) - slice_index key i)) (drop (suc i) ws) (drop (suc i) key)
 leaves_on above i ws key h =
     let w = slice_index ws i in
+    let place : i + 1 ≡ suc i = omega arith in
     ap (λ l. keys_above above l (drop i key)) (drop-cons ws i 0 h)
-    ∙ ap (λ k. keys_above (above * 2 ^ w + (most_of w - k)) (drop (suc i) ws) (drop 1 (drop i key))) (first_dropped i key)
-    ∙ ap (λ k. keys_above (above * 2 ^ w + (most_of w - slice_index key i)) (drop (suc i) ws) k) (drop_one i key)
+    ∙ ap (λ k. keys_above (above * 2 ^ w + (most_of w - k)) (drop (suc i) ws) (drop 1 (drop i key))) (get_or-drop i key 0 0 ∙ ap (slice_index key) (add-zero i))
+    ∙ ap (λ k. keys_above (above * 2 ^ w + (most_of w - slice_index key i)) (drop (suc i) ws) k) (drop-drop 1 i key ∙ ap (λ n. drop n key) place)
 
 pub leaves_many : (rows above : ℕ) (ws key : List ℕ) → rows ≤ above → leb rows (keys_above above ws key) ≡ true
 leaves_many rows above ws key h = le-leb rows (keys_above above ws key) (omega (arith, above_more above ws key))
@@ -74,11 +63,9 @@ leaves_many rows above ws key h = le-leb rows (keys_above above ws key) (omega (
 pub leaves_wide : (rows above i : ℕ) (ws key : List ℕ) → rows < 2 ^ 32 → 0 < above → 32 ≤ slice_index ws i → i < length ws → leb rows (keys_above above (drop i ws) (drop i key)) ≡ true
 leaves_wide rows above i ws key small some wide h =
     let top : 2 ^ 32 ≤ 2 ^ slice_index ws i = pow_mono wide in
-    let one : 1 ≤ above = omega arith in
-    let times : 2 ^ slice_index ws i * 1 ≤ 2 ^ slice_index ws i * above = mul-le-mul_left (2 ^ slice_index ws i) one in
-    let turned : 2 ^ slice_index ws i * above ≡ above * 2 ^ slice_index ws i = mul_comm (2 ^ slice_index ws i) above in
+    let times : 1 * 2 ^ slice_index ws i ≤ above * 2 ^ slice_index ws i = mul-le-mul_right (2 ^ slice_index ws i) (omega arith) in
     rw (leaves_on above i ws key h)
-    (leaves_many rows (above * 2 ^ slice_index ws i + (most_of (slice_index ws i) - slice_index key i)) (drop (suc i) ws) (drop (suc i) key) (omega (arith, top, times, turned)))
+    (leaves_many rows (above * 2 ^ slice_index ws i + (most_of (slice_index ws i) - slice_index key i)) (drop (suc i) ws) (drop (suc i) key) (omega (arith, top, times)))
 
 -- ---- objects
 

@@ -10,10 +10,11 @@ use Rattle.std.proofs.lemmas.Option.{same_Some}
 use Rattle.gal_io.specs.Number.{spaced_numbers}
 use Rattle.run_text.specs.Report.{order_text}
 use Rattle.run_text.specs.Trace.{largest}
-use Rattle.report_text.specs.Parse.{after, all_numbers, below, count_of, labelled, number_below, numbers_at, order_at, order_of, whole}
-use Rattle.report_text.proofs.Pieces.{after_back, after_is, bound, labelled_back, labelled_is, whole_is}
+use Rattle.report_text.specs.Parse.{after, all_numbers, below, count_of, number_below, numbers_at, order_at, order_of, whole}
+use Rattle.report_text.proofs.Pieces.{after_back, after_is, bound, labelled_back, whole_is, numbered, IsTextOf}
 use Rattle.lemmas.proofs.Lists.{bytes_eq_true}
-use Rattle.report_text.proofs.RowLines.{spaced_cut}
+use Rattle.report_text.proofs.RowLines.{spaced_cut, AreRead}
+use Rattle.lemmas.proofs.Tests.{some_of_cond}
 
 -- ---- the order
 
@@ -29,39 +30,31 @@ numbers_back before (n ∷ ns) bound most h =
     rw (labelled_back largest n (codes " ") (spaced_numbers ns) (omega arith) (omega arith) (spaced_cut ns), small)
     (numbers_back (before ++ n ∷ []) ns bound most h.1 ∙ ap (λ l. Some (l, [])) (append_assoc before (n ∷ []) ns))
 
-record AreNumbers (before : List ℕ) (count bound : ℕ) (line : List ℕ) (x : List ℕ × List ℕ) : Type 0 where
-  read : List ℕ
-  many : length read ≡ count
-  below : AreBelow bound read
-  all : x.0 ≡ before ++ read
-  is : line ≡ spaced_numbers read ++ x.1
-
 record IsBelow (bound : ℕ) (line : List ℕ) (x : ℕ × List ℕ) : Type 0 where
   below : x.0 < bound
   is : line ≡ codes " " ++ (decimal x.0 ++ x.1)
 
-below_by : (t : Bool) (bound : ℕ) (line : List ℕ) (y x : ℕ × List ℕ) → ltb y.0 bound ≡ t → line ≡ codes " " ++ (decimal y.0 ++ y.1) → cond t (Some y) None ≡ Some x → IsBelow bound line x
-below_by true bound line y x t e h = subst (IsBelow bound line) (same_Some y x h) (record { below = grind (arith, nat_tests); is = e })
-below_by false bound line y x t e h = cc h
-
 number_is : (limit : ℕ) (line : List ℕ) (x : ℕ × List ℕ) → number_below limit line ≡ Some x → IsBelow limit line x
 unfolding number_below
 number_is limit line x h =
-    bound (labelled largest (codes " ") line) (below limit) x h (λ y ey hy.
-    let l = labelled_is largest y (codes " ") line (omega arith) ey in
-    below_by (ltb y.0 limit) limit line y x refl l.1 hy)
+    numbered largest (codes " ") line (below limit) x (omega arith) h (λ y small is more.
+    some_of_cond (ltb y.0 limit) x (Some y) more (λ low same.
+    subst (IsBelow limit line) (same_Some y x same) (record { below = grind (arith, nat_tests); is = is })))
 
-numbers_are : (before : List ℕ) (count limit : ℕ) (line : List ℕ) (x : List ℕ × List ℕ) → numbers_at before count limit line ≡ Some x → AreNumbers before count limit line x
+-- so many numbers below a bound
+abbrev AreMany : ℕ → ℕ → List ℕ → Type 0
+AreMany count limit ns = (length ns ≡ count) × AreBelow limit ns
+
+numbers_are : (before : List ℕ) (count limit : ℕ) (line : List ℕ) (x : List ℕ × List ℕ) → numbers_at before count limit line ≡ Some x → AreRead (AreMany count limit) spaced_numbers before line x
 numbers_are before zero limit line x h =
-    subst (AreNumbers before zero limit line) (same_Some (before, line) x h) (record { read = []; many = refl; below = tt; all = sym (append-nil before); is = refl })
+    subst (AreRead (AreMany zero limit) spaced_numbers before line) (same_Some (before, line) x h) (record { read = []; fit = (refl, tt); all = sym (append-nil before); is = refl })
 numbers_are before (suc count) limit line x h =
     bound (number_below limit line) (λ y. numbers_at (before ++ y.0 ∷ []) count limit y.1) x h (λ y ey hy.
     let one = number_is limit line y ey in
     let more = numbers_are (before ++ y.0 ∷ []) count limit y.1 x hy in
     record {
       read = y.0 ∷ more.read;
-      many = ap suc more.many;
-      below = (one.below, more.below);
+      fit = (ap suc more.fit.0, (one.below, more.fit.1));
       all = more.all ∙ append_assoc before (y.0 ∷ []) more.read;
       is = one.is ∙ ap (λ l. codes " " ++ (decimal y.0 ++ l)) more.is ∙ ap (λ l. codes " " ++ l) (sym (append_assoc (decimal y.0) (spaced_numbers more.read) x.1));
     })
@@ -80,10 +73,8 @@ pub order_back : (order : List ℕ) (limit : ℕ) → limit ≤ 2 ^ 32 → AreBe
 unfolding order_of
 order_back order limit most h = rw (after_back (codes "order") (order_text order)) (order_at_back order limit most h)
 
-pub record HasOrder (count limit : ℕ) (line order : List ℕ) : Type 0 where
-  pub many : length order ≡ count
-  pub below : AreBelow limit order
-  pub is : line ≡ order_told order
+abbrev pub HasOrder : ℕ → ℕ → List ℕ → List ℕ → Type 0
+HasOrder count limit = IsTextOf (AreMany count limit) order_told
 
 some_text : (ns : List ℕ) → 0 < length ns → order_text ns ≡ spaced_numbers ns
 some_text [] h = absurd (omega arith)
@@ -97,17 +88,14 @@ order_by true count limit line rest order t e h =
     let l = numbers_are [] count limit rest x ex in
     let same : l.read ≡ order = sym l.all ∙ w.1 in
     let positive : 0 < count = grind (arith, nat_tests) in
-    let is : rest ≡ order_text l.read = l.is ∙ ap (λ r. spaced_numbers l.read ++ r) w.0 ∙ append-nil (spaced_numbers l.read) ∙ sym (some_text l.read (omega (arith, l.many))) in
-    subst (HasOrder count limit line) same (record { many = l.many; below = l.below; is = e ∙ ap (λ r. codes "order" ++ r) is }))
+    let is : rest ≡ order_text l.read = l.is ∙ ap (λ r. spaced_numbers l.read ++ r) w.0 ∙ append-nil (spaced_numbers l.read) ∙ sym (some_text l.read (omega (arith, l.fit.0))) in
+    subst (HasOrder count limit line) same (record { are = l.fit; is = e ∙ ap (λ r. codes "order" ++ r) is }))
 order_by false count limit line rest order t e h =
-    elim (bytes_eq rest (codes " -")) as (λ b. bytes_eq rest (codes " -") ≡ b → cond b (Some []) None ≡ Some order → HasOrder count limit line order) [
-      | true ↦ λ b k. subst (HasOrder count limit line) (same_Some [] order k) (record {
-        many = grind (arith, nat_tests);
-        below = tt;
-        is = e ∙ ap (λ r. codes "order" ++ r) (bytes_eq_true rest (codes " -") b);
-      })
-      | false ↦ λ b k. cc k
-    ] refl h
+    some_of_cond (bytes_eq rest (codes " -")) order (Some []) h (λ none same.
+    subst (HasOrder count limit line) (same_Some [] order same) (record {
+      are = (grind (arith, nat_tests), tt);
+      is = e ∙ ap (λ r. codes "order" ++ r) (bytes_eq_true rest (codes " -") none);
+    }))
 
 pub order_is : (count limit : ℕ) (line order : List ℕ) → order_of count limit line ≡ Some order → HasOrder count limit line order
 unfolding order_of
@@ -130,19 +118,15 @@ count_back word name count small =
       labelled_back largest count (codes " ") [] small (omega arith) refl,
     ) refl
 
-pub record HasCount (word name line : List ℕ) (count : ℕ) : Type 0 where
-  pub small : count ≤ largest
-  pub is : line ≡ part_told word name count
+-- the line begins the part of an object with so many rows
+abbrev pub HasCount : List ℕ → List ℕ → List ℕ → ℕ → Type 0
+HasCount word name = IsTextOf (λ count. count ≤ largest) (part_told word name)
 
 pub count_is : (word name line : List ℕ) (count : ℕ) → count_of word name line ≡ Some count → HasCount word name line count
 unfolding count_of
 count_is word name line count h =
     bound (after word line) _ count h (λ r er hr.
     bound (after name r) _ count hr (λ s es hs.
-    bound (labelled largest (codes " ") s) _ count hs (λ c ec hc.
-    let w = whole_is c.0 count c.1 hc in
-    let l = labelled_is largest c (codes " ") s (omega arith) ec in
-    subst (HasCount word name line) w.1 (record {
-      small = l.0;
-      is = rw (after_is word line r er, after_is name r s es, l.1, w.0) refl;
-    }))))
+    numbered largest (codes " ") s _ count (omega arith) hs (λ c small ec hc.
+    let end = whole_is c.0 count c.1 hc in
+    subst (HasCount word name line) end.1 (record { are = small; is = rw (after_is word line r er, after_is name r s es, ec, end.0) refl }))))

@@ -1,19 +1,17 @@
 -- Pieces of lines, printed and read.
-use Rattle.std.proofs.Common.{◌≡◌, ℕ, ◌<◌, ◌≤◌, ◌^◌, Bool, true, false, cond, eqb, ltb, List, [], ◌∷◌, ◌++◌, length, take, drop, Option, Some, None, refl, sym, ap, ◌∙◌, arith, length-append}
+use Rattle.std.proofs.Common.{◌≡◌, ℕ, ◌<◌, ◌≤◌, ◌^◌, Bool, true, false, cond, ltb, List, [], ◌∷◌, ◌++◌, length, take, drop, Option, Some, None, refl, sym, ap, ◌∙◌, arith, length-append}
 use Rattle.std.specs.Fmt.{decimal}
 use Rattle.std.specs.Str.{bytes_eq}
-use Rattle.std.specs.List.{list_all, position_or_len}
+use Rattle.std.specs.List.{position_or_len}
 use Rattle.std.proofs.Math.Seq.{take-append_seam, drop-append_seam}
 use Rattle.std.proofs.lemmas.List.{take-append-drop}
 use Rattle.std.proofs.lemmas.Bool.Decides.{nat_tests}
 use Rattle.std.proofs.lemmas.Option.{same_Some}
 use Rattle.gal_io.specs.Number.{number_up_to}
-use Rattle.run_text.specs.Trace.{is_space}
+use Rattle.gal_io.specs.Lines.{is_space}
 use Rattle.report_text.specs.Parse.{◌>>=◌, after, labelled, number_at, number_with, whole}
-use Rattle.run_text.proofs.Numbers.{decimal_digits, read_again}
-use Rattle.run_text.proofs.PrintedLines.{unspaced}
-use Rattle.run_text.proofs.PrintedBack.{digits_unspaced}
-use Rattle.report_text.proofs.Numbers.{number_printed, number_small}
+use Rattle.gal_io.proofs.NumberLemmas.{decimal_digits, number_back, number_small, number_printed}
+use Rattle.gal_io.proofs.Spaces.{is_cut, space_place, digits_unspaced}
 use Rattle.lemmas.proofs.Lists.{bytes_eq_same, bytes_eq_true}
 
 -- ---- options
@@ -51,23 +49,11 @@ after_is word line rest h =
 
 -- ---- numbers
 
--- nothing, or a space and more
-abbrev pub is_cut : List ℕ → Bool
-is_cut [] = true
-is_cut (b ∷ bs) = eqb b 32
-
-pub cut_at : (front rest : List ℕ) → list_all unspaced front ≡ true → is_cut rest ≡ true → position_or_len is_space (front ++ rest) ≡ length front
-cut_at [] [] h cut = refl
-cut_at [] (b ∷ rest) h cut = rw cut refl
-cut_at (byte ∷ front) rest h cut =
-    let later = cut_at front rest in
-    grind (arith, nat_tests, later, h, cut)
-
 pub number_at_back : (most n : ℕ) (rest : List ℕ) → n ≤ most → most < 2 ^ 64 → is_cut rest ≡ true → number_at most (decimal n ++ rest) ≡ Some (n, rest)
 unfolding number_at
 number_at_back most n rest small fits cut =
-    let at = cut_at (decimal n) rest (digits_unspaced (decimal n) (decimal_digits n (omega arith))) cut in
-    rw (at, take-append_seam (decimal n) rest, drop-append_seam (decimal n) rest, read_again most n small fits) refl
+    let at = space_place (decimal n) rest (digits_unspaced (decimal n) (decimal_digits n (omega arith))) cut in
+    rw (at, take-append_seam (decimal n) rest, drop-append_seam (decimal n) rest, number_back most n small fits) refl
 
 number_by : (most : ℕ) (o : Option ℕ) (rest found : List ℕ) (n : ℕ) → number_with o rest ≡ Some (n, found) → (o ≡ Some n) × (rest ≡ found)
 number_by most None rest found n h = cc
@@ -97,3 +83,16 @@ labelled_is most x word line fits h =
     bound (after word line) (number_at most) x h (λ rest e f.
     let found = number_at_is most x.0 rest x.1 fits f in
     (found.small, after_is word line rest e ∙ ap (λ l. word ++ l) found.is))
+
+-- ---- lines
+
+-- the line is the text of a value that may be told
+pub record IsTextOf {A : Type 0} (MayBe : A → Type 0) (text : A → List ℕ) (line : List ℕ) (a : A) : Type 0 where
+  pub are : MayBe a
+  pub is : line ≡ text a
+
+-- a chain goes on with the number behind a word, and with what follows that
+pub numbered : {B P : Type 0} (most : ℕ) (word line : List ℕ) (f : ℕ × List ℕ → Option B) (b : B) → most < 2 ^ 64 → (labelled most word line >>= f) ≡ Some b
+    → ((x : ℕ × List ℕ) → x.0 ≤ most → line ≡ word ++ (decimal x.0 ++ x.1) → f x ≡ Some b → P) → P
+numbered most word line f b fits h k =
+    bound (labelled most word line) f b h (λ x e more. let l = labelled_is most x word line fits e in k x l.0 l.1 more)

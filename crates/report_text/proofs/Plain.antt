@@ -1,51 +1,31 @@
 -- Each line of a printed report is one line, and isn't skipped.
-use Rattle.std.proofs.Common.{◌≡◌, ℕ, ◌^◌, ◌<◌, true, false, ltb, List, [], ◌∷◌, ◌++◌, refl, ap, ◌∙◌, arith, append_assoc}
+use Rattle.std.proofs.Common.{◌≡◌, ℕ, ◌^◌, ◌<◌, true, false, ltb, List, [], ◌∷◌, ◌++◌, refl, ap, arith, append_assoc}
 use Rattle.std.specs.Prelude.{codes}
 use Rattle.std.specs.Fmt.{decimal}
 use Rattle.std.specs.List.{AllByRecursion, list_all}
 use Rattle.std.proofs.lemmas.Bool.{and_parts}
 use Rattle.std.proofs.lemmas.Bool.Decides.{nat_tests}
 use Rattle.std.proofs.lemmas.Fmt.{decimal_nonempty}
-use Rattle.gal_io.specs.Lines.{lines, is_skipped, told_of}
+use Rattle.gal_io.specs.Lines.{is_skipped}
 use Rattle.gal_io.specs.Number.{spaced_numbers}
 use Rattle.packet_fields.specs.declared.verdict.Verdict.{Verdict}
 use Rattle.packet_fields.specs.declared.verdict.Verdict.TheVariants.{Drop, Send}
 use Rattle.state_store.specs.declared.object.Row.{Row}
 use Rattle.run_model.specs.declared.fate.Fate.{Fate}
 use Rattle.run_model.specs.declared.fate.Fate.TheVariants.{Pass, Up, Held, Slow, Fast}
-use Rattle.run_text.specs.Printed.{lined}
 use Rattle.run_text.specs.Report.{body_text, key_text}
 use Rattle.report_text.specs.declared.head.PacketCounts.{PacketCounts}
 use Rattle.report_text.specs.declared.head.EventCounts.{EventCounts}
 use Rattle.report_text.specs.declared.head.Versions.{Versions}
 use Rattle.report_text.specs.Form.{IsFate, IsVerdict, is_plain}
-use Rattle.run_text.proofs.Numbers.{decimal_digits}
-use Rattle.run_text.proofs.PrintedLines.{line_plain, plain}
-use Rattle.run_text.proofs.PrintedBack.{body_plain, digits_plain, digits_told}
+use Rattle.gal_io.proofs.NumberLemmas.{decimal_digits}
+use Rattle.gal_io.proofs.ToldLines.{IsTold, plain, digits_plain, digits_told}
+use Rattle.run_text.proofs.PrintedBack.{body_plain}
 use Rattle.report_text.proofs.HeadLines.{AreCounts, AreEvents, AreVersions, counts_text, events_text, versions_text}
 use Rattle.report_text.proofs.FateLines.{fate_told, path_with, released_with, stamps_of, stamps_with, verdict_with}
 use Rattle.report_text.proofs.PartLines.{order_told, part_told}
 use Rattle.report_text.proofs.RowLines.{row_told}
 use Rattle.lemmas.proofs.Lists.{list_all_append}
-
--- a line that a text can hold, and that is told
-pub record IsTold (line : List ℕ) : Type 0 where
-  pub whole : list_all plain line ≡ true
-  pub told : is_skipped line ≡ false
-
--- ---- such lines, each with its end, are the lines of a text
-
-pub lines_lined : (ls : List (List ℕ)) → AllByRecursion IsTold ls → lines (lined ls) ≡ ls
-lines_lined [] h = refl
-lines_lined (l ∷ ls) h = line_plain l (lined ls) h.0.whole ∙ ap (λ m. l ∷ m) (lines_lined ls h.1)
-
-pub all_told : (ls : List (List ℕ)) → AllByRecursion IsTold ls → told_of ls ≡ ls
-all_told [] h = refl
-all_told (l ∷ ls) h = rw h.0.told (ap (λ m. l ∷ m) (all_told ls h.1))
-
-pub told_both : (xs ys : List (List ℕ)) → AllByRecursion IsTold xs → AllByRecursion IsTold ys → AllByRecursion IsTold (xs ++ ys)
-told_both [] ys h k = k
-told_both (x ∷ xs) ys h k = (h.0, told_both xs ys h.1 k)
 
 -- ---- bytes of lines
 
@@ -109,16 +89,11 @@ name_plain : (name : List ℕ) → is_plain name ≡ true → list_all plain nam
 name_plain [] h = refl
 name_plain (b ∷ bs) h = let hp = and_parts (ltb 32 b) (is_plain bs) h in let rest = name_plain bs hp.1 in grind (arith, nat_tests, rest, hp.0)
 
-pub object_plain : (name : List ℕ) (count : ℕ) → is_plain name ≡ true → count < 2 ^ 32 → IsTold (part_told (codes "object ") name count)
-object_plain name count h small = record {
-  whole = list_all_append plain name _ (name_plain name h) (number_plain count [] (omega arith) refl);
-  told = refl;
-}
-
-pub switch_plain : (name : List ℕ) (count : ℕ) → is_plain name ≡ true → count < 2 ^ 32 → IsTold (part_told (codes "switch ") name count)
-switch_plain name count h small = record {
-  whole = list_all_append plain name _ (name_plain name h) (number_plain count [] (omega arith) refl);
-  told = refl;
+pub part_plain : (word name : List ℕ) (count : ℕ) → list_all plain word ≡ true → ((rest : List ℕ) → is_skipped (word ++ rest) ≡ false) → is_plain name ≡ true → count < 2 ^ 32
+    → IsTold (part_told word name count)
+part_plain word name count plain_word told h small = record {
+  whole = list_all_append plain word _ plain_word (list_all_append plain name _ (name_plain name h) (number_plain count [] (omega arith) refl));
+  told = told (name ++ (codes " " ++ (decimal count ++ [])));
 }
 
 keys_plain : (ns rest : List ℕ) → AllByRecursion (λ n. n < 2 ^ 64) ns → list_all plain rest ≡ true → list_all plain (key_text ns ++ rest) ≡ true

@@ -27,32 +27,32 @@ use Rattle.report_text.proofs.Pieces.{bound}
 use Rattle.report_text.proofs.PartLines.{order_told, part_told}
 use Rattle.report_text.proofs.RowLines.{is_width, row_told, width_small}
 use Rattle.report_text.proofs.Told.{counts_in, drained_text, events_in, fates_told, head_told, name_of, parts_told, report_both, report_told, versions_in}
-use Rattle.report_text.proofs.Plain.{IsTold, all_told, counts_plain, events_plain, fate_plain, lines_lined, object_plain, order_plain, row_plain, switch_plain, told_both, versions_plain}
+use Rattle.gal_io.proofs.ToldLines.{IsTold, all_told, told_lines}
+use Rattle.report_text.proofs.Plain.{counts_plain, events_plain, fate_plain, order_plain, row_plain, versions_plain, part_plain}
 use Rattle.report_text.proofs.Walked.{resumed_both, walked, walked_both}
 use Rattle.report_text.proofs.Declared.{AreKnown, IsKnown}
 use Rattle.report_text.proofs.Sound.{Goes, Stands, told}
 use Rattle.report_text.proofs.Steps.{step_goes}
-use Rattle.report_text.proofs.Complete.{all_read, truth}
+use Rattle.report_text.proofs.Complete.{all_read, counts_small}
 use Rattle.report_text.proofs.Live.{all_live}
-use Rattle.lemmas.proofs.Lists.{line_within, lines_passed, take_fewer, take_line, take_lines}
+use Rattle.lemmas.proofs.Lists.{line_within, lines_passed, take_fewer, take_line, take_lines, each_append, each_weaker}
 
 -- ---- the lines of a report in the form are those of its text
 
 rows_wide : (ws ns : List ℕ) → are_widths ws ≡ true → have_widths ws ns ≡ true → AllByRecursion (λ n. n < 2 ^ 64) ns
 rows_wide [] [] wide h = tt
-rows_wide [] (n ∷ ns) wide h = cc h
-rows_wide (w ∷ ws) [] wide h = cc h
 rows_wide (w ∷ ws) (n ∷ ns) wide h =
     let wp = and_parts (is_width w) (are_widths ws) wide in
     let hp = and_parts (ltb n (2 ^ w)) (have_widths ws ns) h in
     let inside : n < 2 ^ w = grind (arith, nat_tests, hp.0) in
     let top : 2 ^ w ≤ 2 ^ 64 = pow_mono (width_small w wp.0) in
     (omega (arith, inside, top), rows_wide ws ns wp.1 hp.1)
+rows_wide _ _ wide h = cc
 
 rows_told : (object : ObjectDecl) (rows : List Row) → IsKnown object → AllByRecursion (IsRowOf object) rows → AllByRecursion IsTold (map row_told rows)
 rows_told object [] k h = tt
 rows_told object (row ∷ rows) k h =
-    (row_plain row (rows_wide object.keys row.keys k.keys (truth _ h.0.0)) (rows_wide object.values row.values k.values (truth _ h.0.1)), rows_told object rows k h.1)
+    (row_plain row (rows_wide object.keys row.keys k.keys h.0.0) (rows_wide object.values row.values k.values h.0.1), rows_told object rows k h.1)
 
 parts_plain : (declared : List ObjectDecl) (k : AreKnown declared) (word : List ℕ) (ps : List ObjectRows) → ((o : ObjectDecl) (count : ℕ) → IsKnown o → count < 2 ^ 32 → IsTold (part_told word o.name count)) → AllByRecursion (IsPart declared) ps → AllByRecursion IsTold (parts_told word declared ps)
 parts_plain declared k word [] line h = tt
@@ -61,15 +61,11 @@ parts_plain declared k word (p ∷ ps) line h =
     let known = k.each p.object x.object x.is in
     let first : IsTold (part_told word (name_of declared p.object) (length p.rows)) =
     subst (λ o. IsTold (part_told word (name_in o) (length p.rows))) (sym x.is) (line x.object (length p.rows) known x.few) in
-    (first, told_both (map row_told p.rows) (parts_told word declared ps) (rows_told x.object p.rows known x.rows) (parts_plain declared k word ps line h.1))
+    (first, each_append IsTold (map row_told p.rows) (parts_told word declared ps) (rows_told x.object p.rows known x.rows) (parts_plain declared k word ps line h.1))
 
 fates_plain : (n : ℕ) (fs : List Fate) → n + length fs < 2 ^ 32 → AllByRecursion IsFate fs → AllByRecursion IsTold (fates_told n fs)
 fates_plain n [] few h = tt
 fates_plain n (f ∷ fs) few h = (fate_plain n f (omega (arith, few)) h.0, fates_plain (suc n) fs (omega (arith, few)) h.1)
-
-order_small : (order : List ℕ) (limit : ℕ) → limit < 2 ^ 32 → AllByRecursion (λ n. n < limit) order → AllByRecursion (λ n. n < 2 ^ 64) order
-order_small [] limit small h = tt
-order_small (n ∷ ns) limit small h = (omega (arith, small, h.0), order_small ns limit small h.1)
 
 drained_plain : (d : Bool) → IsTold (drained_text d)
 drained_plain true = record { whole = refl; told = refl }
@@ -79,33 +75,18 @@ pub form_told : (declared : List ObjectDecl) (k : AreKnown declared) (run : Run)
 form_told declared k run h =
     let title : IsTold (codes "report 1") = record { whole = refl; told = refl } in
     let last : IsTold (codes "end") = record { whole = refl; told = refl } in
-    let counts = counts_plain (counts_in run) (record { total = omega (arith, h.total); admitted = omega (arith, h.admitted); decided = omega (arith, h.decided); released = omega (arith, h.released) }) in
+    let counts = counts_plain (counts_in run) (counts_small declared run h) in
     let events = events_plain (events_in run) (record { events = omega (arith, h.events); idle = omega (arith, h.idle) }) in
     let versions = versions_plain (versions_in run) (record { version = omega (arith, h.version); visible = omega (arith, h.visible) }) in
-    let fates = fates_plain 0 run.fates (omega (arith, h.admitted)) h.fates in
-    let order = order_plain run.order (order_small run.order (length run.fates) h.admitted h.order) in
-    let server = parts_plain declared k (codes "object ") run.objects (λ o count known small. object_plain o.name count known.name small) h.server in
-    let switch = parts_plain declared k (codes "switch ") run.switch (λ o count known small. switch_plain o.name count known.name small) h.switch in
-    let tables = told_both (parts_told (codes "object ") declared run.objects) (parts_told (codes "switch ") declared run.switch ++ (codes "end" ∷ [])) server
-    (told_both (parts_told (codes "switch ") declared run.switch) (codes "end" ∷ []) switch (last, tt)) in (
-      title,
-      (
-        counts,
-        (
-          events,
-          (
-            versions,
-            (
-              drained_plain run.drained,
-              told_both (fates_told 0 run.fates) (order_told run.order ∷ (parts_told (codes "object ") declared run.objects ++ (parts_told (codes "switch ") declared run.switch ++ (codes "end" ∷ [])))) fates (order, tables),
-            ),
-          ),
-        ),
-      ),
-    )
+    let order = order_plain run.order (each_weaker (λ n. n < length run.fates) (λ n. n < 2 ^ 64) (λ n low. omega (arith, low, h.admitted)) run.order h.order) in
+    let server = parts_plain declared k (codes "object ") run.objects (λ o count known small. part_plain (codes "object ") o.name count refl (λ rest. refl) known.name small) h.server in
+    let switch = parts_plain declared k (codes "switch ") run.switch (λ o count known small. part_plain (codes "switch ") o.name count refl (λ rest. refl) known.name small) h.switch in
+    let tables = each_append IsTold (parts_told (codes "object ") declared run.objects) _ server (each_append IsTold (parts_told (codes "switch ") declared run.switch) _ switch (last, tt)) in
+    let packets = each_append IsTold (fates_told 0 run.fates) _ (fates_plain 0 run.fates (omega (arith, h.admitted)) h.fates) (order, tables) in
+    (title, (counts, (events, (versions, (drained_plain run.drained, packets)))))
 
 pub form_lines : (declared : List ObjectDecl) (k : AreKnown declared) (run : Run) → InForm declared run → lines (report_of declared run) ≡ report_told declared run
-form_lines declared k run h = ap lines (sym (report_both declared run)) ∙ lines_lined (report_told declared run) (form_told declared k run h)
+form_lines declared k run h = ap lines (sym (report_both declared run)) ∙ told_lines (report_told declared run) (form_told declared k run h)
 
 -- what is printed is a report
 pub printed_is : (declared : List ObjectDecl) (k : AreKnown declared) (run : Run) → InForm declared run → IsReport declared (report_of declared run) run
@@ -136,7 +117,7 @@ pub record Tells (declared : List ObjectDecl) (ls : List (List ℕ)) (run : Run)
 
 ended_form : (declared : List ObjectDecl) (s : State) → Stands declared s Ended → InForm declared (run_of s)
 ended_form declared s f =
-    let o = f.0 in
+    let o = f.0.head in
     record {
       total = omega (arith, o.counts.total);
       admitted = omega (arith, o.admitted, o.counts.admitted);
@@ -150,9 +131,9 @@ ended_form declared s f =
       ordered = o.decided;
       order = subst (λ n. AllByRecursion (λ m. m < n) s.order) (sym o.admitted) o.order;
       numbers = f.1;
-      server = o.server;
+      server = f.0.server;
       shown = f.2;
-      switch = o.switch;
+      switch = f.0.switch;
     }
 
 ended_told : (declared : List ObjectDecl) (s : State) → Stands declared s Ended → told declared s Ended ≡ report_told declared (run_of s)
@@ -162,7 +143,7 @@ ended_told declared s f =
     let rest = fates_told 0 s.fates ++ (order_told s.order ∷ (objects ++ (shown ++ (codes "end" ∷ [])))) in
     let c : ℕ → PacketCounts = λ n. record { total = s.counts.total; admitted = n; decided = s.counts.decided; released = s.counts.released } in
     ap (λ l. head_told s.counts s.events s.versions s.drained ++ (fates_told 0 s.fates ++ (order_told s.order ∷ l))) (append_assoc objects shown (codes "end" ∷ []))
-    ∙ ap (λ n. head_told (c n) s.events s.versions s.drained ++ rest) (sym f.0.admitted)
+    ∙ ap (λ n. head_told (c n) s.events s.versions s.drained ++ rest) (sym f.0.head.admitted)
 
 pub walked_tells : (declared : List ObjectDecl) (k : AreKnown declared) (ls : List (List ℕ)) (s : State) (run : Run) → walked declared at_start ls ≡ Some s → ended s ≡ Some run → Tells declared ls run
 walked_tells declared k ls s run w h =
@@ -258,23 +239,18 @@ ends_early declared k ls s w stops = record {
 
 -- ---- one turn of the reader
 
-pub turn_skipped : (declared : List ObjectDecl) (n : ℕ) (ls rest : List (List ℕ)) (l : List ℕ) (o : Option State) → drop n ls ≡ l ∷ rest → is_skipped l ≡ true → walked declared at_start (told_of (take n ls)) ≡ o → walked declared at_start (told_of (take (suc n) ls)) ≡ o
-turn_skipped declared n ls rest l o e told w =
-    let none : told_of (l ∷ []) ≡ [] = rw told refl in
-    ap (λ m. walked declared at_start (told_of m)) (take_line n l ls rest e) ∙ ap (walked declared at_start) (told_append (take n ls) (l ∷ []) ∙ ap (λ m. told_of (take n ls) ++ m) none ∙ append-nil (told_of (take n ls))) ∙ w
-
-pub turn_taken : (declared : List ObjectDecl) (n : ℕ) (ls rest : List (List ℕ)) (l : List ℕ) (s t : State) → drop n ls ≡ l ∷ rest → is_skipped l ≡ false → walked declared at_start (told_of (take n ls)) ≡ Some s → step declared s l ≡ Some t
-    → walked declared at_start (told_of (take (suc n) ls)) ≡ Some t
-turn_taken declared n ls rest l s t e told w h =
-    let one : told_of (l ∷ []) ≡ l ∷ [] = rw told refl in
-    ap (λ m. walked declared at_start (told_of m)) (take_line n l ls rest e)
-    ∙ ap (walked declared at_start) (told_append (take n ls) (l ∷ []) ∙ ap (λ m. told_of (take n ls) ++ m) one)
-    ∙ walked_both declared at_start (told_of (take n ls)) (l ∷ []) ∙ ap (λ o. o >>= (λ u. walked declared u (l ∷ []))) w ∙ ap (λ o. o >>= (λ u. Some u)) h
+told_next : (n : ℕ) (ls rest : List (List ℕ)) (l : List ℕ) → drop n ls ≡ l ∷ rest → told_of (take (suc n) ls) ≡ told_of (take n ls) ++ told_of (l ∷ [])
+told_next n ls rest l e = ap told_of (take_line n l ls rest e) ∙ told_append (take n ls) (l ∷ [])
 
 line_by : (declared : List ObjectDecl) (b : Bool) (n : ℕ) (ls rest : List (List ℕ)) (l : List ℕ) (s t : State) → is_skipped l ≡ b → drop n ls ≡ l ∷ rest → walked declared at_start (told_of (take n ls)) ≡ Some s → cond b (Some s) (step declared s l) ≡ Some t
     → walked declared at_start (told_of (take (suc n) ls)) ≡ Some t
-line_by declared true n ls rest l s t told e w h = turn_skipped declared n ls rest l (Some t) e told (w ∙ h)
-line_by declared false n ls rest l s t told e w h = turn_taken declared n ls rest l s t e told w h
+line_by declared true n ls rest l s t told e w h =
+    let none : told_of (l ∷ []) ≡ [] = rw told refl in
+    ap (walked declared at_start) (told_next n ls rest l e ∙ ap (λ m. told_of (take n ls) ++ m) none ∙ append-nil (told_of (take n ls))) ∙ w ∙ h
+line_by declared false n ls rest l s t told e w h =
+    let one : told_of (l ∷ []) ≡ l ∷ [] = rw told refl in
+    ap (walked declared at_start) (told_next n ls rest l e ∙ ap (λ m. told_of (take n ls) ++ m) one)
+    ∙ walked_both declared at_start (told_of (take n ls)) (l ∷ []) ∙ ap (λ o. o >>= (λ u. walked declared u (l ∷ []))) w ∙ ap (λ o. o >>= (λ u. Some u)) h
 
 pub line_on : (declared : List ObjectDecl) (n : ℕ) (ls rest : List (List ℕ)) (l : List ℕ) (s t : State) → drop n ls ≡ l ∷ rest → walked declared at_start (told_of (take n ls)) ≡ Some s → line_read declared s l ≡ Some t
     → walked declared at_start (told_of (take (n + 1) ls)) ≡ Some t

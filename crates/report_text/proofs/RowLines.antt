@@ -13,8 +13,9 @@ use Rattle.state_store.specs.declared.object.Row.{Row}
 use Rattle.state_store.specs.Kept.{have_widths}
 use Rattle.run_text.specs.Report.{key_text}
 use Rattle.report_text.specs.Form.{are_widths}
-use Rattle.report_text.specs.Parse.{after, key_number, keys_at, labelled, most_of, number_at, row_of, values_at}
-use Rattle.report_text.proofs.Pieces.{after_back, after_is, bound, is_cut, labelled_back, labelled_is, number_at_back, number_at_is, whole_is}
+use Rattle.report_text.specs.Parse.{after, key_number, keys_at, most_of, number_at, row_of, values_at}
+use Rattle.gal_io.proofs.Spaces.{is_cut}
+use Rattle.report_text.proofs.Pieces.{after_back, after_is, bound, labelled_back, number_at_back, number_at_is, whole_is, numbered}
 
 -- ---- widths
 
@@ -48,20 +49,23 @@ key_back w n rest h inside =
 
 keys_back : (before ws ks rest : List ℕ) → are_widths ws ≡ true → have_widths ws ks ≡ true → keys_at before ws (key_text ks ++ rest) ≡ Some (before ++ ks, rest)
 keys_back before [] [] rest wide h = ap (λ l. Some (l, rest)) (sym (append-nil before))
-keys_back before [] (k ∷ ks) rest wide h = cc h
-keys_back before (w ∷ ws) [] rest wide h = cc h
 keys_back before (w ∷ ws) (k ∷ ks) rest wide h =
     let wp = and_parts (is_width w) (are_widths ws) wide in
     let hp = and_parts (ltb k (2 ^ w)) (have_widths ws ks) h in
     let inside : k < 2 ^ w = grind (arith, nat_tests, hp.0) in
     rw (append_assoc (decimal k) (codes " " ++ key_text ks) rest) (rw (key_back w k (key_text ks ++ rest) (width_small w wp.0) inside)
     (keys_back (before ++ k ∷ []) ws ks rest wp.1 hp.1 ∙ ap (λ l. Some (l, rest)) (append_assoc before (k ∷ []) ks)))
+keys_back _ _ _ rest wide h = cc
 
-record AreKeys (before ws line : List ℕ) (x : List ℕ × List ℕ) : Type 0 where
-  read : List ℕ
-  fit : have_widths ws read ≡ true
-  all : x.0 ≡ before ++ read
-  is : line ≡ key_text read ++ x.1
+-- what was read behind others, and what is left of the line
+pub record AreRead (Fit : List ℕ → Type 0) (text : List ℕ → List ℕ) (before line : List ℕ) (x : List ℕ × List ℕ) : Type 0 where
+  pub read : List ℕ
+  pub fit : Fit read
+  pub all : x.0 ≡ before ++ read
+  pub is : line ≡ text read ++ x.1
+
+abbrev HaveWidths : List ℕ → List ℕ → Type 0
+HaveWidths ws ns = have_widths ws ns ≡ true
 
 record IsKey (w : ℕ) (line : List ℕ) (x : ℕ × List ℕ) : Type 0 where
   inside : ltb x.0 (2 ^ w) ≡ true
@@ -79,9 +83,9 @@ key_is w line x wide h =
       is = l.is ∙ ap (λ t. decimal n.0 ++ t) (after_is (codes " ") n.1 r er);
     })))
 
-keys_are : (before ws line : List ℕ) (x : List ℕ × List ℕ) → are_widths ws ≡ true → keys_at before ws line ≡ Some x → AreKeys before ws line x
+keys_are : (before ws line : List ℕ) (x : List ℕ × List ℕ) → are_widths ws ≡ true → keys_at before ws line ≡ Some x → AreRead (HaveWidths ws) key_text before line x
 keys_are before [] line x wide h =
-    subst (AreKeys before [] line) (same_Some (before, line) x h) (record { read = []; fit = refl; all = sym (append-nil before); is = refl })
+    subst (AreRead (HaveWidths []) key_text before line) (same_Some (before, line) x h) (record { read = []; fit = refl; all = sym (append-nil before); is = refl })
 keys_are before (w ∷ ws) line x wide h =
     let wp = and_parts (is_width w) (are_widths ws) wide in
     bound (key_number w line) (λ y. keys_at (before ++ y.0 ∷ []) ws y.1) x h (λ y ey hy.
@@ -98,8 +102,6 @@ keys_are before (w ∷ ws) line x wide h =
 
 values_back : (before ws vs : List ℕ) → are_widths ws ≡ true → have_widths ws vs ≡ true → values_at before ws (spaced_numbers vs) ≡ Some (before ++ vs, [])
 values_back before [] [] wide h = ap (λ l. Some (l, [])) (sym (append-nil before))
-values_back before [] (k ∷ ks) wide h = cc h
-values_back before (w ∷ ws) [] wide h = cc h
 values_back before (w ∷ ws) (k ∷ ks) wide h =
     let wp = and_parts (is_width w) (are_widths ws) wide in
     let hp = and_parts (ltb k (2 ^ w)) (have_widths ws ks) h in
@@ -107,29 +109,23 @@ values_back before (w ∷ ws) (k ∷ ks) wide h =
     let small = width_small w wp.0 in
     rw (labelled_back (most_of w) k (codes " ") (spaced_numbers ks) (omega (arith, most_is w small)) (most_fits w small) (spaced_cut ks))
     (values_back (before ++ k ∷ []) ws ks wp.1 hp.1 ∙ ap (λ l. Some (l, [])) (append_assoc before (k ∷ []) ks))
+values_back _ _ _ wide h = cc
 
-record AreValues (before ws line : List ℕ) (x : List ℕ × List ℕ) : Type 0 where
-  read : List ℕ
-  fit : have_widths ws read ≡ true
-  all : x.0 ≡ before ++ read
-  is : line ≡ spaced_numbers read ++ x.1
-
-values_are : (before ws line : List ℕ) (x : List ℕ × List ℕ) → are_widths ws ≡ true → values_at before ws line ≡ Some x → AreValues before ws line x
+values_are : (before ws line : List ℕ) (x : List ℕ × List ℕ) → are_widths ws ≡ true → values_at before ws line ≡ Some x → AreRead (HaveWidths ws) spaced_numbers before line x
 values_are before [] line x wide h =
-    subst (AreValues before [] line) (same_Some (before, line) x h) (record { read = []; fit = refl; all = sym (append-nil before); is = refl })
+    subst (AreRead (HaveWidths []) spaced_numbers before line) (same_Some (before, line) x h) (record { read = []; fit = refl; all = sym (append-nil before); is = refl })
 values_are before (w ∷ ws) line x wide h =
     let wp = and_parts (is_width w) (are_widths ws) wide in
     let small = width_small w wp.0 in
-    bound (labelled (most_of w) (codes " ") line) (λ y. values_at (before ++ y.0 ∷ []) ws y.1) x h (λ y ey hy.
-    let one = labelled_is (most_of w) y (codes " ") line (most_fits w small) ey in
+    numbered (most_of w) (codes " ") line (λ y. values_at (before ++ y.0 ∷ []) ws y.1) x (most_fits w small) h (λ y low is hy.
     let more = values_are (before ++ y.0 ∷ []) ws y.1 x wp.1 hy in
-    let inside : y.0 < 2 ^ w = omega (arith, one.0, most_is w small) in
+    let inside : y.0 < 2 ^ w = omega (arith, low, most_is w small) in
     let tested : ltb y.0 (2 ^ w) ≡ true = grind (arith, nat_tests) in
     record {
       read = y.0 ∷ more.read;
       fit = rw (tested, more.fit) refl;
       all = more.all ∙ append_assoc before (y.0 ∷ []) more.read;
-      is = one.1 ∙ ap (λ l. codes " " ++ (decimal y.0 ++ l)) more.is ∙ ap (λ l. codes " " ++ l) (sym (append_assoc (decimal y.0) (spaced_numbers more.read) x.1));
+      is = is ∙ ap (λ l. codes " " ++ (decimal y.0 ++ l)) more.is ∙ ap (λ l. codes " " ++ l) (sym (append_assoc (decimal y.0) (spaced_numbers more.read) x.1));
     })
 
 -- ---- rows

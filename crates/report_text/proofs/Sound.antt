@@ -5,7 +5,7 @@ use Rattle.std.specs.List.{AllByRecursion}
 use Rattle.std.specs.Ordering.{is_lt}
 use Rattle.std.specs.declared.cmp.Ordering.{Ordering}
 use Rattle.std.specs.declared.cmp.Ordering.TheVariants.{Less}
-use Rattle.std.proofs.lemmas.List.{append-nil}
+use Rattle.std.proofs.lemmas.List.{append-nil, map_push}
 use Rattle.std.proofs.lemmas.Bool.Decides.{nat_tests}
 use Rattle.state_store.specs.declared.object.ObjectDecl.{ObjectDecl}
 use Rattle.state_store.specs.declared.object.Row.{Row}
@@ -25,7 +25,7 @@ use Rattle.report_text.proofs.FateLines.{fate_told}
 use Rattle.report_text.proofs.PartLines.{AreBelow, order_told, part_told}
 use Rattle.report_text.proofs.RowLines.{row_told}
 use Rattle.report_text.proofs.Told.{fates_told, head_told, name_of, parts_told}
-use Rattle.lemmas.proofs.Lists.{each_pushed}
+use Rattle.lemmas.proofs.Lists.{each_pushed, get_pushed}
 
 -- ---- one more at the end
 
@@ -41,14 +41,6 @@ parts_more word declared (q ∷ ps) p =
     ap (λ l. part_told word (name_of declared q.object) (length q.rows) ∷ l)
     (ap (λ l. map row_told q.rows ++ l) (parts_more word declared ps p)
     ∙ sym (append_assoc (map row_told q.rows) (parts_told word declared ps) (part_told word (name_of declared p.object) (length p.rows) ∷ map row_told p.rows)))
-
-pub rows_more : (rows : List Row) (row : Row) → map row_told (rows ++ row ∷ []) ≡ map row_told rows ++ row_told row ∷ []
-rows_more [] row = refl
-rows_more (r ∷ rows) row = ap (λ l. row_told r ∷ l) (rows_more rows row)
-
-pub numbers_more : (ps : List ObjectRows) (p : ObjectRows) → map (λ (q : ObjectRows). q.object) (ps ++ p ∷ []) ≡ map (λ (q : ObjectRows). q.object) ps ++ p.object ∷ []
-numbers_more [] p = refl
-numbers_more (q ∷ ps) p = ap (λ l. q.object ∷ l) (numbers_more ps p)
 
 -- ---- rising rows
 
@@ -95,23 +87,21 @@ abbrev pub numbers_of : List ObjectRows → List ℕ
 numbers_of ps = map (λ (p : ObjectRows). p.object) ps
 
 -- nothing of the lines behind the first ones was read
-pub record IsFresh (s : State) : Type 0 where
-  pub fates : s.fates ≡ []
-  pub server : s.server ≡ []
-  pub switch : s.switch ≡ []
-  pub rows : s.rows ≡ []
+pub record AreEmpty (fs : List Fate) (ps qs : List ObjectRows) (rs : List Row) : Type 0 where
+  pub fates : fs ≡ []
+  pub server : ps ≡ []
+  pub switch : qs ≡ []
+  pub rows : rs ≡ []
 
-pub record IsNew (s : State) : Type 0 where
-  pub server : s.server ≡ []
-  pub switch : s.switch ≡ []
-  pub rows : s.rows ≡ []
+abbrev pub IsFresh : State → Type 0
+IsFresh s = AreEmpty s.fates s.server s.switch s.rows
 
 -- packets can be named on the order line, if any are to be
 abbrev pub CanOrder : PacketCounts → Type 0
 CanOrder c = 0 < c.decided → 0 < c.admitted
 
 -- the lines up to the order line were read
-pub record IsOrdered (declared : List ObjectDecl) (s : State) : Type 0 where
+pub record IsOrderRead (s : State) : Type 0 where
   pub counts : AreCounts s.counts
   pub events : AreEvents s.events
   pub versions : AreVersions s.versions
@@ -119,15 +109,23 @@ pub record IsOrdered (declared : List ObjectDecl) (s : State) : Type 0 where
   pub admitted : length s.fates ≡ s.counts.admitted
   pub decided : length s.order ≡ s.counts.decided
   pub order : AreBelow s.counts.admitted s.order
+
+-- and these parts were read
+pub record HasParts (declared : List ObjectDecl) (s : State) : Type 0 where
+  pub head : IsOrderRead (record s { server = []; switch = [] })
   pub server : AllByRecursion (IsPart declared) s.server
   pub switch : AllByRecursion (IsPart declared) s.switch
 
--- the rows of a part so far, of an object, where so many are to come behind the next one
-pub record IsPartly (declared : List ObjectDecl) (rows : List Row) (number behind : ℕ) : Type 0 where
+-- whatever is awaited
+abbrev pub IsOrdered : List ObjectDecl → State → Type 0
+IsOrdered declared s = HasParts declared (record s { rows = []; stage = Ended })
+
+-- the rows of a part so far, of an object, where so many are to come
+pub record IsPartly (declared : List ObjectDecl) (rows : List Row) (number left : ℕ) : Type 0 where
   pub object : ObjectDecl
   pub is : slice_get declared number ≡ Some object
   pub kind : is_table object.kind ≡ false
-  pub few : length rows + suc behind < 2 ^ 32
+  pub few : length rows + left < 2 ^ 32
   pub fit : AllByRecursion (IsRowOf object) rows
   pub rising : AreRising rows
 
@@ -145,37 +143,41 @@ HasRoom object behind (Some row) = suc behind ≤ keys_above 0 object.keys row.k
 abbrev pub last_of : List Row → Option Row
 last_of rows = slice_get rows (length rows - 1)
 
-got_last : (rows : List Row) (row : Row) → slice_get (rows ++ row ∷ []) (length rows) ≡ Some row
-got_last [] row = refl
-got_last (r ∷ rows) row = got_last rows row
-
 pub last_more : (rows : List Row) (row : Row) → last_of (rows ++ row ∷ []) ≡ Some row
 last_more rows row =
     let e : length (rows ++ row ∷ []) - 1 ≡ length rows = omega (arith, length-append rows (row ∷ [])) in
-    ap (slice_get (rows ++ row ∷ [])) e ∙ got_last rows row
+    ap (slice_get (rows ++ row ∷ [])) e ∙ get_pushed rows row
+
+-- a part of object m may be read, behind these parts
+abbrev pub MayFollow : List ObjectDecl → List ObjectRows → List ObjectRows → ℕ → Side → Type 0
+MayFollow declared server switch m OnServer = (switch ≡ []) × (numbers_of server ++ (m ∷ kept_from (suc m) (drop (suc m) declared)) ≡ kept_from 0 declared)
+MayFollow declared server switch m OnSwitch = (numbers_of server ≡ kept_from 0 declared) × AreWithin 0 switch m
 
 abbrev pub Before : List ObjectDecl → State → ℕ → Side → Type 0
-Before declared s m OnServer = (s.switch ≡ []) × (numbers_of s.server ++ (m ∷ kept_from (suc m) (drop (suc m) declared)) ≡ kept_from 0 declared)
-Before declared s m OnSwitch = (numbers_of s.server ≡ kept_from 0 declared) × AreWithin 0 s.switch m
+Before declared s m side = MayFollow declared s.server s.switch m side
 
-pub record IsHead (declared : List ObjectDecl) (s : State) : Type 0 where
-  pub fresh : IsFresh s
-  pub counts : AreCounts s.counts
-  pub can : CanOrder s.counts
+-- the line of counts was read, and no packet
+pub record IsHeadOf (c : PacketCounts) (Fresh : Type 0) : Type 0 where
+  pub fresh : Fresh
+  pub counts : AreCounts c
+  pub can : CanOrder c
+
+abbrev pub IsHead : State → Type 0
+IsHead s = IsHeadOf s.counts (IsFresh s)
 
 abbrev pub Stands : List ObjectDecl → State → Stage → Type 0
-Stands declared s Events = IsHead declared s
-Stands declared s Version = IsHead declared s × AreEvents s.events
-Stands declared s Drained = IsHead declared s × AreEvents s.events × AreVersions s.versions
+Stands declared s Events = IsHead s
+Stands declared s Version = IsHead s × AreEvents s.events
+Stands declared s Drained = IsHead s × AreEvents s.events × AreVersions s.versions
 Stands declared s Fates =
-    IsNew s × AreCounts s.counts × CanOrder s.counts × AreEvents s.events × AreVersions s.versions
+    AreEmpty [] s.server s.switch s.rows × AreCounts s.counts × CanOrder s.counts × AreEvents s.events × AreVersions s.versions
     × AllByRecursion IsFate s.fates × (length s.fates ≤ s.counts.admitted)
 Stands declared s (Server n) =
     IsOrdered declared s × (s.rows ≡ []) × (s.switch ≡ []) × (numbers_of s.server ++ kept_from n (drop n declared) ≡ kept_from 0 declared)
 Stands declared s (Switch n) =
     IsOrdered declared s × (s.rows ≡ []) × (numbers_of s.server ≡ kept_from 0 declared) × AreWithin 0 s.switch n
 Stands declared s (Table side m behind) =
-    IsOrdered declared s × Before declared s m side × ((p : IsPartly declared s.rows m behind) × HasRoom p.object behind (last_of s.rows))
+    IsOrdered declared s × Before declared s m side × ((p : IsPartly declared s.rows m (suc behind)) × HasRoom p.object behind (last_of s.rows))
 Stands declared s Ended =
     IsOrdered declared s × (numbers_of s.server ≡ kept_from 0 declared) × AreInOrder 0 s.switch
 Stands declared s _ = IsFresh s
@@ -187,17 +189,18 @@ abbrev pub front : State → List (List ℕ) → List (List ℕ)
 front s ls = head_told s.counts s.events s.versions s.drained ++ (fates_told 0 s.fates ++ (order_told s.order ∷ ls))
 
 pub front_on : (s : State) (xs ys : List (List ℕ)) → front s (xs ++ ys) ≡ front s xs ++ ys
-front_on s xs ys =
-    let head = head_told s.counts s.events s.versions s.drained in
-    ap (λ l. head ++ l) (sym (append_assoc (fates_told 0 s.fates) (order_told s.order ∷ xs) ys)) ∙ sym (append_assoc head (fates_told 0 s.fates ++ (order_told s.order ∷ xs)) ys)
+front_on s xs ys = simp append_assoc refl
 
 abbrev pub word_of : Side → List ℕ
 word_of OnServer = codes "object "
 word_of OnSwitch = codes "switch "
 
+abbrev pub base_of : List ObjectDecl → List ObjectRows → List ObjectRows → Side → List (List ℕ)
+base_of declared server switch OnServer = parts_told (codes "object ") declared server
+base_of declared server switch OnSwitch = parts_told (codes "object ") declared server ++ parts_told (codes "switch ") declared switch
+
 abbrev pub base : List ObjectDecl → State → Side → List (List ℕ)
-base declared s OnServer = parts_told (codes "object ") declared s.server
-base declared s OnSwitch = parts_told (codes "object ") declared s.server ++ parts_told (codes "switch ") declared s.switch
+base declared s side = base_of declared s.server s.switch side
 
 -- with a part that is to have so many rows
 abbrev pub with_part : List ObjectDecl → State → Side → ℕ → ℕ → List (List ℕ)
@@ -221,41 +224,23 @@ pub record Goes (declared : List ObjectDecl) (lines : List (List ℕ)) (t : Stat
 
 -- ---- a part is closed, or its rows go on
 
-pub record IsRead (declared : List ObjectDecl) (s : State) (m left : ℕ) (object : ObjectDecl) : Type 0 where
-  pub ordered : IsOrdered declared s
-  pub is : slice_get declared m ≡ Some object
-  pub kind : is_table object.kind ≡ false
-  pub few : length s.rows + left < 2 ^ 32
-  pub fit : AllByRecursion (IsRowOf object) s.rows
-  pub rising : AreRising s.rows
-
 abbrev part_of : State → ℕ → ObjectRows
 part_of s m = record { object = m; rows = s.rows }
 
-part_made : (declared : List ObjectDecl) (s : State) (m : ℕ) (o : ObjectDecl) → IsRead declared s m 0 o → IsPart declared (part_of s m)
-part_made declared s m o r = record { object = o; is = r.is; kind = r.kind; few = omega (arith, r.few); rows = r.fit; rising = r.rising }
+part_made : (declared : List ObjectDecl) (s : State) (m : ℕ) → IsPartly declared s.rows m 0 → IsPart declared (part_of s m)
+part_made declared s m p = record { object = p.object; is = p.is; kind = p.kind; few = omega (arith, p.few); rows = p.fit; rising = p.rising }
 
-closed_server : (declared : List ObjectDecl) (s : State) (m : ℕ) (o : ObjectDecl) → IsRead declared s m 0 o → Before declared s m OnServer
+closed_server : (declared : List ObjectDecl) (s : State) (m : ℕ) → IsOrdered declared s → IsPartly declared s.rows m 0 → Before declared s m OnServer
     → Goes declared (with_part declared s OnServer m (length s.rows + 0)) (closed_by OnServer (part_of s m) s)
-closed_server declared s m o r b =
+closed_server declared s m o p b =
     let same : length s.rows + 0 ≡ length s.rows = omega arith in
     let next : m + 1 ≡ suc m = omega arith in
     record {
       stands = (
-        record {
-          counts = r.ordered.counts;
-          events = r.ordered.events;
-          versions = r.ordered.versions;
-          fates = r.ordered.fates;
-          admitted = r.ordered.admitted;
-          decided = r.ordered.decided;
-          order = r.ordered.order;
-          switch = r.ordered.switch;
-          server = each_pushed (IsPart declared) s.server (part_of s m) r.ordered.server (part_made declared s m o r);
-        },
+        record { head = o.head; server = each_pushed (IsPart declared) s.server (part_of s m) o.server (part_made declared s m p); switch = o.switch },
         refl,
         b.0,
-        ap (λ l. l ++ kept_from (m + 1) (drop (m + 1) declared)) (numbers_more s.server (part_of s m))
+        ap (λ l. l ++ kept_from (m + 1) (drop (m + 1) declared)) (map_push (λ (q : ObjectRows). q.object) s.server (part_of s m))
             ∙ append_assoc (numbers_of s.server) (m ∷ []) (kept_from (m + 1) (drop (m + 1) declared))
             ∙ ap (λ k. numbers_of s.server ++ (m ∷ kept_from k (drop k declared))) next ∙ b.1,
       );
@@ -263,25 +248,15 @@ closed_server declared s m o r b =
           ∙ ap (λ k. front s (parts_told (codes "object ") declared s.server ++ (part_told (codes "object ") (name_of declared m) k ∷ map row_told s.rows))) (sym same);
     }
 
-closed_switch : (declared : List ObjectDecl) (s : State) (m : ℕ) (o : ObjectDecl) → IsRead declared s m 0 o → Before declared s m OnSwitch
+closed_switch : (declared : List ObjectDecl) (s : State) (m : ℕ) → IsOrdered declared s → IsPartly declared s.rows m 0 → Before declared s m OnSwitch
     → Goes declared (with_part declared s OnSwitch m (length s.rows + 0)) (closed_by OnSwitch (part_of s m) s)
-closed_switch declared s m o r b =
+closed_switch declared s m o p b =
     let same : length s.rows + 0 ≡ length s.rows = omega arith in
     let objects = parts_told (codes "object ") declared s.server in
     let shown = parts_told (codes "switch ") declared s.switch in
     record {
       stands = (
-        record {
-          counts = r.ordered.counts;
-          events = r.ordered.events;
-          versions = r.ordered.versions;
-          fates = r.ordered.fates;
-          admitted = r.ordered.admitted;
-          decided = r.ordered.decided;
-          order = r.ordered.order;
-          server = r.ordered.server;
-          switch = each_pushed (IsPart declared) s.switch (part_of s m) r.ordered.switch (part_made declared s m o r);
-        },
+        record { head = o.head; server = o.server; switch = each_pushed (IsPart declared) s.switch (part_of s m) o.switch (part_made declared s m p) },
         refl,
         b.0,
         within_more 0 s.switch m (part_of s m) b.1 (omega arith),
@@ -295,29 +270,8 @@ abbrev pub IsLeft : ObjectDecl → State → ℕ → Type 0
 IsLeft o s zero = Unit {0}
 IsLeft o s (suc behind) = HasRoom o behind (last_of s.rows)
 
--- what is awaited is no matter
-at_stage : (declared : List ObjectDecl) (s : State) (st : Stage) → IsOrdered declared s → IsOrdered declared (record s { stage = st })
-at_stage declared s st o = record {
-  counts = o.counts;
-  events = o.events;
-  versions = o.versions;
-  fates = o.fates;
-  admitted = o.admitted;
-  decided = o.decided;
-  order = o.order;
-  server = o.server;
-  switch = o.switch;
-}
-
-pub left_read : (declared : List ObjectDecl) (side : Side) (s : State) (m left : ℕ) (o : ObjectDecl) → IsRead declared s m left o → Before declared s m side → IsLeft o s left
+pub left_read : (declared : List ObjectDecl) (side : Side) (s : State) (m left : ℕ) → IsOrdered declared s → (p : IsPartly declared s.rows m left) → Before declared s m side → IsLeft p.object s left
     → Goes declared (with_part declared s side m (length s.rows + left)) (with_left side m left s)
-left_read declared OnServer s m zero o r b h = closed_server declared s m o r b
-left_read declared OnSwitch s m zero o r b h = closed_switch declared s m o r b
-left_read declared OnServer s m (suc behind) o r b h = record {
-  stands = (at_stage declared s (Table OnServer m behind) r.ordered, b, (record { object = o; is = r.is; kind = r.kind; few = r.few; fit = r.fit; rising = r.rising }, h));
-  told = refl;
-}
-left_read declared OnSwitch s m (suc behind) o r b h = record {
-  stands = (at_stage declared s (Table OnSwitch m behind) r.ordered, b, (record { object = o; is = r.is; kind = r.kind; few = r.few; fit = r.fit; rising = r.rising }, h));
-  told = refl;
-}
+left_read declared OnServer s m zero o p b h = closed_server declared s m o p b
+left_read declared OnSwitch s m zero o p b h = closed_switch declared s m o p b
+left_read declared side s m (suc behind) o p b h = record { stands = (o, b, (p, h)); told = refl }

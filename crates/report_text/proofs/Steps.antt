@@ -1,10 +1,10 @@
 -- One line more keeps what holds of what was read.
 use Rattle.std.proofs.Common.{◌≡◌, ℕ, zero, suc, ◌+◌, ◌≤◌, ◌<◌, Bool, true, false, ◌&&◌, ◌||◌, cond, eqb, leb, ltb, List, [], ◌∷◌, ◌++◌, length, drop, map, Option, Some, None, refl, sym, ap, ◌∙◌, subst, arith, append_assoc, length-append}
-use Rattle.std.specs.Prelude.{IsTrue, codes, slice_get}
+use Rattle.std.specs.Prelude.{codes, slice_get}
 use Rattle.std.specs.Str.{bytes_eq}
 use Rattle.std.specs.List.{AllByRecursion}
 use Rattle.std.proofs.lemmas.Bool.{and_parts, leb-true}
-use Rattle.std.proofs.lemmas.List.{append-nil}
+use Rattle.std.proofs.lemmas.List.{append-nil, map_push}
 use Rattle.std.proofs.lemmas.Bool.Decides.{nat_tests}
 use Rattle.std.proofs.lemmas.Option.{same_Some}
 use Rattle.state_store.specs.declared.object.ObjectDecl.{ObjectDecl}
@@ -13,8 +13,6 @@ use Rattle.state_store.specs.Kinds.{is_table}
 use Rattle.run_text.specs.Report.{name_in}
 use Rattle.run_text.specs.Trace.{largest}
 use Rattle.report_text.specs.declared.head.PacketCounts.{PacketCounts}
-use Rattle.report_text.specs.declared.head.EventCounts.{EventCounts}
-use Rattle.report_text.specs.declared.head.Versions.{Versions}
 use Rattle.report_text.specs.declared.stage.Side.{Side}
 use Rattle.report_text.specs.declared.stage.Side.TheVariants.{OnServer, OnSwitch}
 use Rattle.report_text.specs.declared.stage.Stage.{Stage}
@@ -28,20 +26,13 @@ use Rattle.report_text.proofs.PartLines.{count_is, order_is, part_told}
 use Rattle.report_text.proofs.RowLines.{row_is, row_told}
 use Rattle.report_text.proofs.Told.{drained_text, fates_told, head_told, name_of, parts_told}
 use Rattle.report_text.proofs.Declared.{AreKnown, IsNext, next_is, next_none, shown_is}
-use Rattle.report_text.proofs.Sound.{AreWithin, Before, CanOrder, Goes, HasRoom, IsFresh, IsHead, IsLeft, IsOrdered, IsPartly, IsRead, Stands, base, fates_more, front, front_on, in_order, keys_suc, last_more, last_of, left_read, numbers_of, rising_more, rows_more, told, with_part, within_later, word_of}
+use Rattle.report_text.proofs.Sound.{AreWithin, Before, CanOrder, Goes, HasRoom, IsFresh, IsHead, IsLeft, IsOrdered, IsPartly, Stands, base, fates_more, front, front_on, in_order, keys_suc, last_more, last_of, left_read, numbers_of, rising_more, told, with_part, within_later, word_of}
 use Rattle.lemmas.proofs.Lists.{bytes_eq_true, each_pushed}
 use Rattle.lemmas.proofs.Tests.{some_of_cond as chosen}
-
-fresh : (s : State) (c : PacketCounts) (e : EventCounts) (v : Versions) (d : Bool) (st : Stage) → IsFresh s → IsFresh (record s { counts = c; events = e; versions = v; drained = d; stage = st })
-fresh s c e v d st f = record { fates = f.fates; server = f.server; switch = f.switch; rows = f.rows }
 
 then_is : {X : Type 0} (put : X → State) (o : Option X) (t : State) {P : Type 0} → then_put put o ≡ Some t → ((x : X) → o ≡ Some x → put x ≡ t → P) → P
 then_is put None t h k = cc h
 then_is put (Some x) t h k = k x refl (same_Some (put x) t h)
-
--- a test that passed
-fits : (b : Bool) → b ≡ true → IsTrue b
-fits b h = h
 
 -- ---- the first lines
 
@@ -49,7 +40,7 @@ title_goes : (declared : List ObjectDecl) (s t : State) (l : List ℕ) → IsFre
 title_goes declared s t l f h =
     chosen (bytes_eq l (codes "report 1")) t (Some (record s { stage = Packets })) h (λ same e.
     subst (Goes declared (l ∷ [])) (same_Some (record s { stage = Packets }) t e) (record {
-      stands = fresh s s.counts s.events s.versions s.drained Packets f;
+      stands = f;
       told = ap (λ x. x ∷ []) (sym (bytes_eq_true l (codes "report 1") same));
     }))
 
@@ -63,27 +54,27 @@ counts_goes declared (Some c) s t l f e h =
     chosen (eqb c.decided 0 || ltb 0 c.admitted) t (Some (record s { counts = c; stage = Events })) h (λ can k.
     let r = counts_is l c e in
     subst (Goes declared (codes "report 1" ∷ (l ∷ []))) (same_Some (record s { counts = c; stage = Events }) t k) (record {
-      stands = record { fresh = fresh s c s.events s.versions s.drained Events f; counts = r.are; can = can_order c can };
+      stands = record { fresh = f; counts = r.are; can = can_order c can };
       told = ap (λ x. codes "report 1" ∷ (x ∷ [])) (sym r.is);
     }))
 
-events_goes : (declared : List ObjectDecl) (s t : State) (l : List ℕ) → IsHead declared s → events_read s (events_of l) ≡ Some t
+events_goes : (declared : List ObjectDecl) (s t : State) (l : List ℕ) → IsHead s → events_read s (events_of l) ≡ Some t
     → Goes declared (codes "report 1" ∷ (counts_text s.counts ∷ (l ∷ []))) t
 events_goes declared s t l f h =
     then_is (λ e. record s { events = e; stage = Version }) (events_of l) t h (λ x e k.
     let r = events_is l x e in
     subst (Goes declared (codes "report 1" ∷ (counts_text s.counts ∷ (l ∷ [])))) k (record {
-      stands = (record { fresh = fresh s s.counts x s.versions s.drained Version f.fresh; counts = f.counts; can = f.can }, r.are);
+      stands = (f, r.are);
       told = ap (λ y. codes "report 1" ∷ (counts_text s.counts ∷ (y ∷ []))) (sym r.is);
     }))
 
-versions_goes : (declared : List ObjectDecl) (s t : State) (l : List ℕ) → IsHead declared s → AreEvents s.events → versions_read s (versions_of l) ≡ Some t
+versions_goes : (declared : List ObjectDecl) (s t : State) (l : List ℕ) → IsHead s → AreEvents s.events → versions_read s (versions_of l) ≡ Some t
     → Goes declared (codes "report 1" ∷ (counts_text s.counts ∷ (events_text s.events ∷ (l ∷ [])))) t
 versions_goes declared s t l f g h =
     then_is (λ e. record s { versions = e; stage = Drained }) (versions_of l) t h (λ x e k.
     let r = versions_is l x e in
     subst (Goes declared (codes "report 1" ∷ (counts_text s.counts ∷ (events_text s.events ∷ (l ∷ []))))) k (record {
-      stands = (record { fresh = fresh s s.counts s.events x s.drained Drained f.fresh; counts = f.counts; can = f.can }, g, r.are);
+      stands = (f, g, r.are);
       told = ap (λ y. codes "report 1" ∷ (counts_text s.counts ∷ (events_text s.events ∷ (y ∷ [])))) (sym r.is);
     }))
 
@@ -94,7 +85,7 @@ drained_to declared s d l f e =
     let none : AllByRecursion IsFate s.fates = subst (AllByRecursion IsFate) (sym f.0.fresh.fates) tt in
     let few : length s.fates ≤ s.counts.admitted = rw f.0.fresh.fates (omega arith) in
     record {
-      stands = (record { server = f.0.fresh.server; switch = f.0.fresh.switch; rows = f.0.fresh.rows }, f.0.counts, f.0.can, f.1, f.2, none, few);
+      stands = (record { fates = refl; server = f.0.fresh.server; switch = f.0.fresh.switch; rows = f.0.fresh.rows }, f.0.counts, f.0.can, f.1, f.2, none, few);
       told = ap (λ fs. head ++ fates_told 0 fs) f.0.fresh.fates ∙ ap (λ y. codes "report 1" ∷ (counts_text s.counts ∷ (events_text s.events ∷ (versions_text s.versions ∷ (y ∷ []))))) (sym e);
     }
 
@@ -119,7 +110,7 @@ fate_goes declared s t l st f less h =
     let start : 0 + length s.fates ≡ length s.fates = omega arith in
     let long : length (s.fates ++ x ∷ []) ≤ s.counts.admitted = omega (arith, less, length-append s.fates (x ∷ [])) in
     let stands : Stands declared u Fates =
-    (record { server = f.0.server; switch = f.0.switch; rows = f.0.rows }, f.1, f.2, f.3, f.4, each_pushed IsFate s.fates x f.5 r.are, long) in
+    (f.0, f.1, f.2, f.3, f.4, each_pushed IsFate s.fates x f.5 r.are, long) in
     let is : told declared u Fates ≡ told declared s Fates ++ l ∷ [] =
     ap (λ m. head ++ m) (fates_more 0 s.fates x) ∙ ap (λ n. head ++ (fates_told 0 s.fates ++ fate_told n x ∷ [])) start ∙ ap (λ y. head ++ (fates_told 0 s.fates ++ y ∷ [])) (sym r.is) ∙ sym (append_assoc head (fates_told 0 s.fates) (l ∷ [])) in
     subst (Goes declared (told declared s Fates ++ l ∷ [])) k (record {
@@ -138,13 +129,7 @@ order_goes declared s t l f many h =
     subst (Goes declared (told declared s Fates ++ l ∷ [])) k (record {
       stands = (
         record {
-          counts = f.1;
-          events = f.3;
-          versions = f.4;
-          fates = f.5;
-          admitted = all;
-          decided = r.many;
-          order = r.below;
+          head = record { counts = f.1; events = f.3; versions = f.4; fates = f.5; admitted = all; decided = r.are.0; order = r.are.1 };
           server = subst (AllByRecursion (IsPart declared)) (sym f.0.server) tt;
           switch = subst (AllByRecursion (IsPart declared)) (sym f.0.switch) tt;
         },
@@ -178,15 +163,15 @@ open_goes : (declared : List ObjectDecl) (side : Side) (s t : State) (m count : 
 open_goes declared side s t m count o l f r b is kind small line h =
     chosen (has_keys count o.keys) t (Some (with_left side m count s)) h (λ keys k.
     let none : length s.rows ≡ 0 = ap length r in
-    let read : IsRead declared s m count o = record {
-      ordered = f;
+    let read : IsPartly declared s.rows m count = record {
+      object = o;
       is = is;
       kind = kind;
       few = omega (arith, none, small);
       fit = subst (AllByRecursion (IsRowOf o)) (sym r) tt;
       rising = subst AreRising (sym r) tt;
     } in
-    let g = left_read declared side s m count o read b (has_room o s count r keys) in
+    let g = left_read declared side s m count f read b (has_room o s count r keys) in
     let total : length s.rows + count ≡ count = omega (arith, none) in
     let lines : with_part declared s side m (length s.rows + count) ≡ front s (base declared s side) ++ l ∷ [] =
     ap (λ n. front s (base declared s side ++ (part_told (word_of side) (name_of declared m) n ∷ map row_told s.rows))) total
@@ -200,21 +185,7 @@ end_goes : (declared : List ObjectDecl) (s t : State) (l : List ℕ) (n : ℕ) �
     → Goes declared (front s (base declared s OnSwitch) ++ l ∷ []) t
 end_goes declared s t l n f e h =
     subst (Goes declared (front s (base declared s OnSwitch) ++ l ∷ [])) (same_Some (record s { stage = Ended }) t h) (record {
-      stands = (
-        record {
-          counts = f.0.counts;
-          events = f.0.events;
-          versions = f.0.versions;
-          fates = f.0.fates;
-          admitted = f.0.admitted;
-          decided = f.0.decided;
-          order = f.0.order;
-          server = f.0.server;
-          switch = f.0.switch;
-        },
-        f.2,
-        in_order 0 s.switch n f.3,
-      );
+      stands = (f.0, f.2, in_order 0 s.switch n f.3);
       told = ap (λ y. front s (base declared s OnSwitch ++ (y ∷ []))) (sym e) ∙ front_on s (base declared s OnSwitch) (l ∷ []);
     })
 
@@ -224,7 +195,7 @@ shown_goes declared None s t l n f e h = cc h
 shown_goes declared (Some x) s t l n f e h =
     let y = shown_is n (drop n declared) declared l x refl e in
     let opened : part_opened OnSwitch x.0 x.1 s (Some y.object) ≡ Some t = rw y.is at h in
-    open_goes declared OnSwitch s t x.0 x.1 y.object l f.0 f.1 (f.2, within_later 0 s.switch n x.0 f.3 y.later) y.is y.kind y.line.small y.line.is opened
+    open_goes declared OnSwitch s t x.0 x.1 y.object l f.0 f.1 (f.2, within_later 0 s.switch n x.0 f.3 y.later) y.is y.kind y.line.are y.line.is opened
 
 switch_by : (declared : List ObjectDecl) (b : Bool) (s t : State) (l : List ℕ) (n : ℕ) → Stands declared s (Switch n) → bytes_eq l (codes "end") ≡ b
     → cond b (Some (record s { stage = Ended })) (shown_opened declared s (shown_from n (drop n declared) l)) ≡ Some t → Goes declared (front s (base declared s OnSwitch) ++ l ∷ []) t
@@ -240,7 +211,7 @@ server_count declared None s t l n m x f e h = cc h
 server_count declared (Some count) s t l n m x f e h =
     let y = count_is (codes "object ") x.object.name l count e in
     let opened : part_opened OnServer m count s (Some x.object) ≡ Some t = rw x.is at h in
-    open_goes declared OnServer s t m count x.object l f.0 f.1 (f.2, ap (λ ks. numbers_of s.server ++ ks) (sym x.kept) ∙ f.3) x.is x.kind y.small y.is opened
+    open_goes declared OnServer s t m count x.object l f.0 f.1 (f.2, ap (λ ks. numbers_of s.server ++ ks) (sym x.kept) ∙ f.3) x.is x.kind y.are y.is opened
 
 server_next : (declared : List ObjectDecl) (o : Option ℕ) (s t : State) (l : List ℕ) (n : ℕ) → Stands declared s (Server n) → next_from n (drop n declared) ≡ o → server_by declared s l o ≡ Some t
     → Goes declared (front s (base declared s OnServer) ++ l ∷ []) t
@@ -262,19 +233,7 @@ goes_on : (o : ObjectDecl) (u : State) (behind : ℕ) (row : Row) → last_of u.
 goes_on o u zero row e h = tt
 goes_on o u (suc behind) row e h = subst (HasRoom o behind) (sym e) h
 
-before : (declared : List ObjectDecl) (side : Side) (s u : State) (m : ℕ) → s.server ≡ u.server → s.switch ≡ u.switch → Before declared s m side → Before declared u m side
-before declared OnServer s u m e g b = (sym g ∙ b.0, ap (λ ps. numbers_of ps ++ (m ∷ kept_from (suc m) (drop (suc m) declared))) (sym e) ∙ b.1)
-before declared OnSwitch s u m e g b = (ap numbers_of (sym e) ∙ b.0, subst (λ ps. AreWithin 0 ps m) g b.1)
-
-same_base : (declared : List ObjectDecl) (side : Side) (s : State) (row : Row) (total m : ℕ)
-    → with_part declared (record s { rows = s.rows ++ row ∷ [] }) side m total
-    ≡ front s (base declared s side ++ (part_told (word_of side) (name_of declared m) total ∷ (map row_told s.rows ++ row_told row ∷ [])))
-same_base declared OnServer s row total m =
-    ap (λ ls. front s (base declared s OnServer ++ (part_told (word_of OnServer) (name_of declared m) total ∷ ls))) (rows_more s.rows row)
-same_base declared OnSwitch s row total m =
-    ap (λ ls. front s (base declared s OnSwitch ++ (part_told (word_of OnSwitch) (name_of declared m) total ∷ ls))) (rows_more s.rows row)
-
-row_goes : (declared : List ObjectDecl) (k : AreKnown declared) (side : Side) (s t : State) (l : List ℕ) (m behind : ℕ) (p : IsPartly declared s.rows m behind) (row : Row) → IsOrdered declared s → Before declared s m side
+row_goes : (declared : List ObjectDecl) (k : AreKnown declared) (side : Side) (s t : State) (l : List ℕ) (m behind : ℕ) (p : IsPartly declared s.rows m (suc behind)) (row : Row) → IsOrdered declared s → Before declared s m side
     → row_of p.object.keys p.object.values l ≡ Some row → row_put side m behind s p.object (Some row) ≡ Some t
     → Goes declared (with_part declared s side m (length s.rows + suc behind) ++ l ∷ []) t
 row_goes declared k side s t l m behind p row f b e h =
@@ -285,36 +244,26 @@ row_goes declared k side s t l m behind p row f b e h =
     let r = row_is o.keys o.values l row facts.keys facts.values e in
     let u = record s { rows = s.rows ++ row ∷ [] } in
     let long = length-append s.rows (row ∷ []) in
-    let read : IsRead declared u m behind o = record {
-      ordered = record {
-        counts = f.counts;
-        events = f.events;
-        versions = f.versions;
-        fates = f.fates;
-        admitted = f.admitted;
-        decided = f.decided;
-        order = f.order;
-        server = f.server;
-        switch = f.switch;
-      };
+    let read : IsPartly declared u.rows m behind = record {
+      object = o;
       is = p.is;
       kind = p.kind;
       few = omega (arith, long, p.few);
-      fit = each_pushed (IsRowOf o) s.rows row p.fit (fits _ r.keys, fits _ r.values);
+      fit = each_pushed (IsRowOf o) s.rows row p.fit (r.keys, r.values);
       rising = rising_more s.rows row both.0 p.rising;
     } in
-    let g = left_read declared side u m behind o read (before declared side s u m refl refl b) (goes_on o u behind row (last_more s.rows row) (leb-true behind (keys_above 0 o.keys row.keys) both.1)) in
+    let g = left_read declared side u m behind f read b (goes_on o u behind row (last_more s.rows row) (leb-true behind (keys_above 0 o.keys row.keys) both.1)) in
     let total : length (s.rows ++ row ∷ []) + behind ≡ length s.rows + suc behind = omega (arith, long) in
     let begin = part_told (word_of side) (name_of declared m) (length s.rows + suc behind) in
     let lines : with_part declared u side m (length (s.rows ++ row ∷ []) + behind) ≡ with_part declared s side m (length s.rows + suc behind) ++ l ∷ [] =
     ap (λ n. with_part declared u side m n) total
-    ∙ same_base declared side s row (length s.rows + suc behind) m
+    ∙ ap (λ ls. front s (base declared s side ++ (begin ∷ ls))) (map_push row_told s.rows row)
     ∙ ap (λ y. front s (base declared s side ++ (begin ∷ (map row_told s.rows ++ y ∷ [])))) (sym r.is)
     ∙ ap (front s) (sym (append_assoc (base declared s side) (begin ∷ map row_told s.rows) (l ∷ [])))
     ∙ front_on s (base declared s side ++ (begin ∷ map row_told s.rows)) (l ∷ []) in
     subst (Goes declared (with_part declared s side m (length s.rows + suc behind) ++ l ∷ [])) (same_Some (with_left side m behind u) t q) (subst (λ ls. Goes declared ls (with_left side m behind u)) lines g))
 
-row_put_by : (declared : List ObjectDecl) (k : AreKnown declared) (side : Side) (r : Option Row) (s t : State) (l : List ℕ) (m behind : ℕ) (p : IsPartly declared s.rows m behind) → IsOrdered declared s → Before declared s m side
+row_put_by : (declared : List ObjectDecl) (k : AreKnown declared) (side : Side) (r : Option Row) (s t : State) (l : List ℕ) (m behind : ℕ) (p : IsPartly declared s.rows m (suc behind)) → IsOrdered declared s → Before declared s m side
     → row_of p.object.keys p.object.values l ≡ r → row_put side m behind s p.object r ≡ Some t
     → Goes declared (with_part declared s side m (length s.rows + suc behind) ++ l ∷ []) t
 row_put_by declared k side None s t l m behind p f b e h = cc h

@@ -2,16 +2,15 @@
 use Rattle.std.proofs.Common.{◌≡◌, ℕ, suc, Bool, true, false, List, [], ◌∷◌, ◌++◌, length, map, refl, sym, ap, ◌∙◌, append_assoc}
 use Rattle.std.specs.Prelude.{codes, slice_get}
 use Rattle.std.specs.Fmt.{decimal}
-use Rattle.gal_io.specs.Lines.{line_end}
-use Rattle.packet_fields.specs.declared.verdict.Verdict.TheVariants.{Drop, Send}
+use Rattle.gal_io.specs.Lines.{line_end, lined}
+use Rattle.packet_fields.specs.declared.verdict.Verdict.TheVariants.{Drop}
 use Rattle.state_store.specs.declared.object.ObjectDecl.{ObjectDecl}
 use Rattle.state_store.specs.declared.object.Row.{Row}
 use Rattle.run_model.specs.declared.fate.Fate.{Fate}
-use Rattle.run_model.specs.declared.fate.Fate.TheVariants.{Pass, Up, Held, Slow, Fast}
+use Rattle.run_model.specs.declared.fate.Fate.TheVariants.{Pass, Slow, Fast}
 use Rattle.run_model.specs.declared.run.ObjectRows.{ObjectRows}
 use Rattle.run_model.specs.declared.run.Run.{Run}
-use Rattle.run_text.specs.Printed.{lined}
-use Rattle.run_text.specs.Report.{drained_line, events_line, fate_line, fate_lines, fate_text, name_in, order_line, packets_line, part_lines, report_of, row_lines, tables_text, version_line}
+use Rattle.run_text.specs.Report.{drained_line, fate_line, fate_lines, fate_text, name_in, part_lines, report_of, row_lines}
 use Rattle.report_text.specs.declared.head.PacketCounts.{PacketCounts}
 use Rattle.report_text.specs.declared.head.EventCounts.{EventCounts}
 use Rattle.report_text.specs.declared.head.Versions.{Versions}
@@ -62,12 +61,9 @@ lined_both (x ∷ xs) ys = ap (λ l. x ++ (10 ∷ l)) (lined_both xs ys) ∙ sym
 
 path_line : (f : Fate) (rest : List ℕ) → path_with f ++ (10 ∷ rest) ≡ codes " " ++ ((fate_text f ++ line_end) ++ rest)
 path_line (Pass a) rest = simp append_assoc refl
-path_line (Up a) rest = simp append_assoc refl
-path_line (Held a d v) rest = simp append_assoc refl
 path_line (Slow a d v r Drop) rest = simp append_assoc refl
-path_line (Slow a d v r (Send p b)) rest = simp append_assoc refl
 path_line (Fast a d v r Drop) rest = simp append_assoc refl
-path_line (Fast a d v r (Send p b)) rest = simp append_assoc refl
+path_line _ rest = simp append_assoc refl
 
 fate_both : (n : ℕ) (f : Fate) (rest : List ℕ) → fate_told n f ++ (10 ∷ rest) ≡ fate_line n f ++ rest
 fate_both n f rest = simp append_assoc (ap (λ l. codes "packet " ++ (decimal n ++ l)) (path_line f rest ∙ simp append_assoc refl))
@@ -83,50 +79,19 @@ rows_both (row ∷ rows) = ap (λ l. row_told row ++ (10 ∷ l)) (rows_both rows
 parts_both : (word said : List ℕ) (declared : List ObjectDecl) (ps : List ObjectRows) → ((x : List ℕ) → said ++ x ≡ word ++ (codes " " ++ x)) → lined (parts_told said declared ps) ≡ part_lines word declared ps
 parts_both word said declared [] h = refl
 parts_both word said declared (p ∷ ps) h =
-    let name = name_of declared p.object in
-    let more = parts_both word said declared ps h in
-    let inner : lined (map row_told p.rows ++ parts_told said declared ps) ≡ row_lines p.rows ++ part_lines word declared ps =
-    lined_both (map row_told p.rows) (parts_told said declared ps) ∙ ap (λ l. l ++ lined (parts_told said declared ps)) (rows_both p.rows) ∙ ap (λ l. row_lines p.rows ++ l) more in
-    ap (λ l. part_told said name (length p.rows) ++ (10 ∷ l)) inner
-    ∙ append_assoc said (name ++ (codes " " ++ (decimal (length p.rows) ++ []))) (10 ∷ (row_lines p.rows ++ part_lines word declared ps))
-    ∙ h ((name ++ (codes " " ++ (decimal (length p.rows) ++ []))) ++ (10 ∷ (row_lines p.rows ++ part_lines word declared ps)))
-    ∙ simp append_assoc refl
+    simp (lined_both (map row_told p.rows) (parts_told said declared ps), rows_both p.rows, parts_both word said declared ps h, h, append_assoc) refl
 
-drained_both : (d : Bool) (rest : List ℕ) → drained_text d ++ (10 ∷ rest) ≡ drained_line d ++ rest
-drained_both true rest = refl
-drained_both false rest = refl
-
-order_both : (order rest : List ℕ) → order_told order ++ (10 ∷ rest) ≡ order_line order ++ rest
-order_both order rest = simp append_assoc refl
-
-tail_both : (declared : List ObjectDecl) (run : Run) → lined (parts_told (codes "object ") declared run.objects ++ (parts_told (codes "switch ") declared run.switch ++ (codes "end" ∷ []))) ≡ tables_text declared run ++ (codes "end" ++ line_end)
-tail_both declared run =
-    let objects = parts_told (codes "object ") declared run.objects in
-    let shown = parts_told (codes "switch ") declared run.switch in
-    lined_both objects (shown ++ (codes "end" ∷ []))
-    ∙ ap (λ l. lined objects ++ l) (lined_both shown (codes "end" ∷ []))
-    ∙ ap (λ l. l ++ (lined shown ++ (codes "end" ++ line_end))) (parts_both (codes "object") (codes "object ") declared run.objects (λ x. refl))
-    ∙ ap (λ l. part_lines (codes "object") declared run.objects ++ (l ++ (codes "end" ++ line_end))) (parts_both (codes "switch") (codes "switch ") declared run.switch (λ x. refl))
-    ∙ sym (append_assoc (part_lines (codes "object") declared run.objects) (part_lines (codes "switch") declared run.switch) (codes "end" ++ line_end))
+drained_both : (d : Bool) → drained_line d ≡ drained_text d ++ (10 ∷ [])
+drained_both true = refl
+drained_both false = refl
 
 pub report_both : (declared : List ObjectDecl) (run : Run) → lined (report_told declared run) ≡ report_of declared run
 report_both declared run =
-    let c = counts_in run in
-    let e = events_in run in
-    let v = versions_in run in
-    let parts = parts_told (codes "object ") declared run.objects ++ (parts_told (codes "switch ") declared run.switch ++ (codes "end" ∷ [])) in
-    let t1 = tables_text declared run ++ (codes "end" ++ line_end) in
-    let t2 = order_line run.order ++ t1 in
-    let t3 = fate_lines 0 run.fates ++ t2 in
-    let t4 = drained_line run.drained ++ t3 in
-    let e1 : lined (order_told run.order ∷ parts) ≡ t2 = ap (λ l. order_told run.order ++ (10 ∷ l)) (tail_both declared run) ∙ order_both run.order t1 in
-    let e2 : lined (fates_told 0 run.fates ++ (order_told run.order ∷ parts)) ≡ t3 =
-    lined_both (fates_told 0 run.fates) (order_told run.order ∷ parts) ∙ ap (λ l. l ++ lined (order_told run.order ∷ parts)) (fates_both 0 run.fates) ∙ ap (λ l. fate_lines 0 run.fates ++ l) e1 in
-    let e3 : lined (drained_text run.drained ∷ (fates_told 0 run.fates ++ (order_told run.order ∷ parts))) ≡ t4 = ap (λ l. drained_text run.drained ++ (10 ∷ l)) e2 ∙ drained_both run.drained t3 in
-    let f1 : versions_text v ++ (10 ∷ t4) ≡ version_line run ++ t4 = simp append_assoc refl in
-    let f2 : events_text e ++ (10 ∷ (version_line run ++ t4)) ≡ events_line run ++ (version_line run ++ t4) = simp append_assoc refl in
-    let f3 : counts_text c ++ (10 ∷ (events_line run ++ (version_line run ++ t4))) ≡ packets_line run ++ (events_line run ++ (version_line run ++ t4)) = simp append_assoc refl in
-    ap (λ l. codes "report 1" ++ (10 ∷ (counts_text c ++ (10 ∷ (events_text e ++ (10 ∷ (versions_text v ++ (10 ∷ l)))))))) e3
-    ∙ ap (λ l. codes "report 1" ++ (10 ∷ (counts_text c ++ (10 ∷ (events_text e ++ (10 ∷ l)))))) f1
-    ∙ ap (λ l. codes "report 1" ++ (10 ∷ (counts_text c ++ (10 ∷ l)))) f2
-    ∙ ap (λ l. codes "report 1" ++ (10 ∷ l)) f3
+    simp (
+      lined_both,
+      fates_both 0 run.fates,
+      drained_both run.drained,
+      parts_both (codes "object") (codes "object ") declared run.objects (λ x. refl),
+      parts_both (codes "switch") (codes "switch ") declared run.switch (λ x. refl),
+      append_assoc,
+    ) refl

@@ -1,5 +1,5 @@
 -- The lines of a text that is a report, and the first line at which it is none.
-use Rattle.std.specs.Prelude.{◌≡◌, ◌<◌, ◌≤◌, ℕ, suc, List, [], ◌∷◌, ◌++◌, length, take, if◌then◌else◌}
+use Rattle.std.specs.Prelude.{◌≡◌, ◌<◌, ◌≤◌, ℕ, suc, List, [], ◌++◌, length, take}
 use Rattle.gal_io.specs.Lines.{lines, told_of}
 use Rattle.state_store.specs.declared.object.ObjectDecl.{ObjectDecl}
 use Rattle.run_model.specs.declared.run.Run.{Run}
@@ -21,8 +21,8 @@ IsReport declared text run = AreLinesOf declared (lines text) run
 abbrev pub Begins : List ObjectDecl → List (List ℕ) → Type 0
 Begins declared front = (more : List (List ℕ)) × (run : Run) × AreLinesOf declared (front ++ more) run
 
--- These lines are no report. A report begins with those before the first wrong one, and none with that one as well;
--- where that one is behind the last, they end too early.
+-- Lines that are no report, and the place of the first wrong one: some report begins with the lines before it, and none
+-- with that one as well. Where it is behind the last, the lines end too early.
 pub record IsFirstWrong (declared : List ObjectDecl) (ls : List (List ℕ)) (before : ℕ) : Type 0 where
   pub within : before ≤ length ls
   pub begins : Begins declared (take before ls)

@@ -12,7 +12,8 @@ use Rattle.run_model.specs.declared.fate.Fate.{Fate}
 use Rattle.run_model.specs.declared.fate.Fate.TheVariants.{Pass, Up, Held, Slow, Fast}
 use Rattle.run_text.specs.declared.body.Body.{Body}
 use Rattle.run_text.specs.Body.{spelled}
-use Rattle.run_text.specs.Trace.{is_space, largest}
+use Rattle.gal_io.specs.Lines.{is_space}
+use Rattle.run_text.specs.Trace.{largest}
 use Rattle.report_text.specs.declared.head.PacketCounts.{PacketCounts}
 use Rattle.report_text.specs.declared.head.EventCounts.{EventCounts}
 use Rattle.report_text.specs.declared.head.Versions.{Versions}

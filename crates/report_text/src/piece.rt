@@ -1,10 +1,9 @@
 //! Pieces of a line, from its front on.
-ghost use Rattle.std.specs.Prelude.{◌≡◌, ◌≤◌, length, IfSome, MatchOption, None, Some};
-ghost use Rattle.std.specs.List.{position_or_len};
-ghost use Rattle.run_text.specs.Trace.{is_space, largest};
+ghost use Rattle.std.specs.Prelude.{◌≡◌, ◌≤◌, IfSome, MatchOption, None, Some};
+ghost use Rattle.run_text.specs.Trace.{largest};
 ghost use Rattle.report_text.specs.Parse.{after, labelled, number_at, whole};
 
-use gal_io::number_up_to;
+use gal_io::{first_space, number_up_to};
 
 /// What follows the word that a line begins with.
 pub(crate) fn after<'a>(word: &[u8], line: &'a [u8]) -> Option<&'a [u8]>
@@ -17,22 +16,14 @@ pub(crate) fn after<'a>(word: &[u8], line: &'a [u8]) -> Option<&'a [u8]>
     if front == word { Some(rest) } else { None }
 }
 
-// Where the first space stands, or the line ends.
-fn space_at(line: &[u8]) -> usize
-    ensures place { result ≡ position_or_len is_space line.now }
-    ensures within { result ≤ length line.now }
-{
-    line.iter().take_while(|byte| **byte != b' ').count()
-}
-
 /// The number up to the first space, where it is at most `most`, and what follows from that space on.
-#[tactic(auto, unfolding(crate::specs::Parse::number_at), using(crate::proofs::Numbers::number_small))]
+#[tactic(auto, unfolding(crate::specs::Parse::number_at), using(gal_io::proofs::NumberLemmas::number_small))]
 pub(crate) fn number_at(most: u64, line: &[u8]) -> Option<(u64, &[u8])>
     ensures small { IfSome result (λ found. found.0 ≤ most) }
     ensures found { MatchOption result (number_at most line.now ≡ None)
         (λ found. number_at most line.now ≡ Some (found.0, found.1.now)) }
 {
-    let (digits, rest) = line.split_at(space_at(line));
+    let (digits, rest) = line.split_at(first_space(line));
     let number = number_up_to(digits, most)?;
     Some((number, rest))
 }

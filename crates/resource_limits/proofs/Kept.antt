@@ -11,7 +11,7 @@ use Rattle.resource_limits.specs.declared.counting.Counts.{Counts}
 use Rattle.resource_limits.specs.declared.exceeding.Over.{Over}
 use Rattle.resource_limits.specs.declared.exceeding.LimitName.{LimitName}
 use Rattle.resource_limits.specs.declared.exceeding.LimitName.TheVariants.{Accesses, Stages, TableBits, Writeback, TransferBytes}
-use Rattle.resource_limits.specs.Kept.{exceeds, first_over, of_all, of_objects, all_limits, Keeps}
+use Rattle.resource_limits.specs.Kept.{exceeds, first_excess, of_all, of_objects, all_limits, Keeps}
 
 in_turn : (x y z : Option Over) (p q : Bool) (a b : Over)
     → option_or (option_or (option_or (option_or x (cond p (Some a) None)) (cond q (Some b) None)) y) z
@@ -76,7 +76,7 @@ all_right [] ys h = h
 all_right (x ∷ xs) ys h = all_right xs ys (All-tail IsKept x (xs ++ ys) h)
 
 -- none is found exactly where all are kept
-pub keeps_if_none : (c : Counts) (l : Limits) → first_over c l ≡ None → Keeps c l
+pub keeps_if_none : (c : Counts) (l : Limits) → first_excess c l ≡ None → Keeps c l
 keeps_if_none c l h =
     let objects = of_objects Accesses 1 0 c.accesses in
     let stages = of_all Stages l.stages c.stages in
@@ -95,7 +95,7 @@ keeps_if_none c l h =
       transfer_bytes = All-head IsKept bytes [] (all_right writes (bytes ∷ []) last);
     }
 
-pub none_if_keeps : (c : Counts) (l : Limits) → Keeps c l → first_over c l ≡ None
+pub none_if_keeps : (c : Counts) (l : Limits) → Keeps c l → first_excess c l ≡ None
 none_if_keeps c l h =
     let objects = of_objects Accesses 1 0 c.accesses in
     let stages = of_all Stages l.stages c.stages in

@@ -56,5 +56,5 @@ abbrev pub exceeds : Over → Bool
 exceeds over = nat_lt over.allowed over.have
 
 -- the first count above its limit
-abbrev pub first_over : Counts → Limits → Option Over
-first_over c l = find exceeds (all_limits c l)
+abbrev pub first_excess : Counts → Limits → Option Over
+first_excess c l = find exceeds (all_limits c l)

@@ -1,6 +1,6 @@
 //! Counts held against limits.
 ghost use Rattle.std.specs.Prelude.{◌≡◌, ◌↔◌, [], ◌∷◌, find, None};
-ghost use Rattle.resource_limits.specs.Kept.{exceeds, first_over, limit_name, of_all, of_objects, Keeps};
+ghost use Rattle.resource_limits.specs.Kept.{exceeds, first_excess, limit_name, of_all, of_objects, Keeps};
 
 use crate::counting::Counts;
 use crate::limits::Limits;
@@ -83,7 +83,7 @@ fn of_objects(limit: LimitName, allowed: u64, tally: &Tally) -> Option<Over>
 
 /// The first limit that the counts exceed, with its first object where the limit is for each object.
 pub fn first_exceeded(c: &Counts, l: &Limits) -> Option<Over>
-    ensures first { result ≡ first_over c.now l.now }
+    ensures first { result ≡ first_excess c.now l.now }
     ensures none { (result ≡ None) ↔ Keeps c.now l.now }
 {
     let accesses = of_objects(LimitName::Accesses, 1, &c.accesses);

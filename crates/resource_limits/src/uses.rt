@@ -17,7 +17,7 @@ pub enum Use {
     Before,
     /// Postprocessing looks it up.
     After,
-    /// It changes its rows, whoever computes it.
+    /// An instruction changes the rows, whichever part has it.
     Change,
 }
 

@@ -4,7 +4,7 @@ use Rattle.std.specs.Prelude.{slice_get, is_some}
 use Rattle.std.proofs.lemmas.Bool.{cases_lt}
 use Rattle.std.proofs.lemmas.Option.{same_Some}
 use Rattle.run_model.specs.declared.fate.Fate.{Fate}
-use Rattle.run_model.specs.declared.fate.Fate.TheVariants.{Pass, Up, Held, Slow, Fast}
+use Rattle.run_model.specs.declared.fate.Fate.TheVariants.{Held, Slow, Fast}
 use Rattle.run_model.specs.declared.serial.Decided.{Decided}
 use Rattle.run_model.specs.Order.{sorted, decided_from, order_of}
 use Rattle.run_model.specs.Serialises.{decided_at, times, IsEarlier}
@@ -17,23 +17,19 @@ use Rattle.lemmas.proofs.Lists.{get_mapped}
 -- ---- what a fate says of its decision
 
 pub entry_decided : (n : ℕ) (o : Option Fate) (e : Decided) → entry_of n o ≡ Some e → decided_at o ≡ Some (e.version, e.event)
-entry_decided n None e h = cc
-entry_decided n (Some (Pass a)) e h = cc
-entry_decided n (Some (Up a)) e h = cc
 entry_decided n (Some (Held a d v)) e h = ap (λ (z : Decided). Some (z.version, z.event)) (same_Some _ _ h)
 entry_decided n (Some (Slow a d v r y)) e h = ap (λ (z : Decided). Some (z.version, z.event)) (same_Some _ _ h)
 entry_decided n (Some (Fast a d v r y)) e h = ap (λ (z : Decided). Some (z.version, z.event)) (same_Some _ _ h)
+entry_decided n _ e h = cc
 
 abbrev pub decision : ℕ → ℕ × ℕ → Decided
 decision n x = record { version = x.0; event = x.1; number = n }
 
 pub decided_entry : (n : ℕ) (o : Option Fate) (x : ℕ × ℕ) → decided_at o ≡ Some x → entry_of n o ≡ Some (decision n x)
-decided_entry n None x h = cc
-decided_entry n (Some (Pass a)) x h = cc
-decided_entry n (Some (Up a)) x h = cc
 decided_entry n (Some (Held a d v)) x h = ap (λ z. Some (decision n z)) (same_Some _ _ h)
 decided_entry n (Some (Slow a d v r y)) x h = ap (λ z. Some (decision n z)) (same_Some _ _ h)
 decided_entry n (Some (Fast a d v r y)) x h = ap (λ z. Some (decision n z)) (same_Some _ _ h)
+decided_entry n _ x h = cc
 
 -- ---- how often a number stands there
 

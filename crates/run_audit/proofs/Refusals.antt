@@ -86,37 +86,21 @@ module _ (m : Tree) (packets : List Packet) (run : Run) where
   pub one_refusal : (e found : AuditError) → (e ≡ NoMemory → ⊥) → IsRefused m packets run e
       → IsRefused m packets run found → (found ≡ e) ⊎ (found ≡ NoMemory)
   one_refusal NoMemory found real one two = absurd (real refl)
-  one_refusal Counts NoMemory real one two = inr refl
+  one_refusal e NoMemory real one two = inr refl
   one_refusal Counts Counts real one two = inl refl
-  one_refusal Counts (Order q) real one two = absurd (one two.0)
-  one_refusal Counts (Time q) real one two = absurd (one two.0)
-  one_refusal Counts (Verdict q) real one two = absurd (one two.0)
-  one_refusal Counts (Object q) real one two = absurd (one two.0)
-  one_refusal (Order p) NoMemory real one two = inr refl
-  one_refusal (Order p) Counts real one two = absurd (two one.0)
+  one_refusal Counts _ real one two = absurd (one two.0)
+  one_refusal _ Counts real one two = absurd (two one.0)
   one_refusal (Order p) (Order q) real one two =
       inl (ap Order (apart_one run.order (order_of run.fates) q p two.1 one.1))
-  one_refusal (Order p) (Time q) real one two = absurd (misplaced_apart run p two.1 one.1)
-  one_refusal (Order p) (Verdict q) real one two = absurd (misplaced_apart run p two.1 one.1)
-  one_refusal (Order p) (Object q) real one two = absurd (misplaced_apart run p two.1 one.1)
-  one_refusal (Time p) NoMemory real one two = inr refl
-  one_refusal (Time p) Counts real one two = absurd (two one.0)
-  one_refusal (Time p) (Order q) real one two = absurd (misplaced_apart run q one.1 two.1)
+  one_refusal (Order p) _ real one two = absurd (misplaced_apart run p two.1 one.1)
+  one_refusal _ (Order q) real one two = absurd (misplaced_apart run q one.1 two.1)
   one_refusal (Time p) (Time q) real one two =
       inl (ap Time (first_one (IsLate run.fates run.order) run.order q p two.2 one.2))
-  one_refusal (Time p) (Verdict q) real one two = absurd (late_apart run p two.2 one.2)
-  one_refusal (Time p) (Object q) real one two = absurd (late_apart run p two.2 one.2)
-  one_refusal (Verdict p) NoMemory real one two = inr refl
-  one_refusal (Verdict p) Counts real one two = absurd (two one.0)
-  one_refusal (Verdict p) (Order q) real one two = absurd (misplaced_apart run q one.1 two.1)
-  one_refusal (Verdict p) (Time q) real one two = absurd (late_apart run q one.2 two.2)
+  one_refusal (Time p) _ real one two = absurd (late_apart run p two.2 one.2)
+  one_refusal _ (Time q) real one two = absurd (late_apart run q one.2 two.2)
   one_refusal (Verdict p) (Verdict q) real one two =
       inl (ap Verdict (first_one (IsFalse meaning run) run.order q p two.3 one.3))
-  one_refusal (Verdict p) (Object q) real one two = absurd (false_apart meaning run p two.3 one.3)
-  one_refusal (Object p) NoMemory real one two = inr refl
-  one_refusal (Object p) Counts real one two = absurd (two one.0)
-  one_refusal (Object p) (Order q) real one two = absurd (misplaced_apart run q one.1 two.1)
-  one_refusal (Object p) (Time q) real one two = absurd (late_apart run q one.2 two.2)
-  one_refusal (Object p) (Verdict q) real one two = absurd (false_apart meaning run q one.3 two.3)
+  one_refusal (Verdict p) _ real one two = absurd (false_apart meaning run p two.3 one.3)
+  one_refusal _ (Verdict q) real one two = absurd (false_apart meaning run q one.3 two.3)
   one_refusal (Object p) (Object q) real one two =
       inl (ap Object (unlike_one run.objects (parts_of m.objects (run_store meaning run)) q p two.4 one.4))

@@ -14,7 +14,7 @@ use Rattle.run_model.specs.declared.run.Run.{Run}
 use Rattle.run_model.specs.Serialises.{released_at, run_store, run_verdicts}
 use Rattle.run_audit.specs.Source.{source_of}
 use Rattle.run_audit.specs.Told.{HasVerdicts, IsFalse, IsFirst}
-use Rattle.lemmas.proofs.Lists.{drop_got}
+use Rattle.lemmas.proofs.Lists.{drop_got, drop_past}
 
 -- ---- a list from a place on
 
@@ -71,12 +71,6 @@ all_run m run n store has end = (
   (λ i p r y at out. let low = slice_get_within run.order i p at in has.right i p r y (omega arith) at out),
   ap (serial_store m store) (sym (drop_past run.order n end)) ∙ has.rest,
 )
-  where
-    drop_past : {X : Type 0} (xs : List X) (n : ℕ) → length xs ≤ n → drop n xs ≡ []
-    drop_past [] zero h = refl
-    drop_past [] (suc n) h = refl
-    drop_past (x ∷ xs) zero h = absurd (omega arith)
-    drop_past (x ∷ xs) (suc n) h = drop_past xs n (omega arith)
 
 pub first_false : (m : Meaning) (run : Run) (n p r : ℕ) (y : Verdict) (store : Store) → HasRun m run n store
     → slice_get run.order n ≡ Some p → released_at (slice_get run.fates p) ≡ Some (r, y)

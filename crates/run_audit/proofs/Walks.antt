@@ -60,9 +60,8 @@ abbrev is_late : List Fate → ℕ → List ℕ → Bool
 is_late fates x xs = is_above (admitted_at (slice_get fates x)) (least_in fates (x ∷ xs))
 
 above_is : (o q : Option ℕ) → is_above o q ≡ true → (n : ℕ) × (k : ℕ) × (o ≡ Some n) × (q ≡ Some k) × (k < n)
-above_is None q h = cc
-above_is (Some n) None h = cc
 above_is (Some n) (Some k) h = (n, k, refl, refl, ltb-true k n h)
+above_is _ _ h = cc
 
 head_in_time : (fates : List Fate) (x : ℕ) (xs : List ℕ) → is_late fates x xs ≡ false
     → (i p r a : ℕ) (y : Verdict) → slice_get (x ∷ xs) i ≡ Some p → released_at (slice_get fates p) ≡ Some (r, y)

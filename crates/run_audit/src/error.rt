@@ -18,7 +18,7 @@ pub enum AuditError {
     /// the packet itself. Of such packets this is the first in the order.
     #[error("packet {0} stands before one that was released before it was admitted")]
     Time(u32),
-    /// This packet was released with another verdict than the serial run gives it. Of such packets it is the first in
+    /// A packet was released with another verdict than the serial run gives it. Of such packets this is the first in
     /// the order.
     #[error("packet {0} has a wrong verdict")]
     Verdict(u32),

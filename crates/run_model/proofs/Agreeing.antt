@@ -5,7 +5,6 @@ use Rattle.std.proofs.lemmas.Bool.{cases_Bool, eq-eqb}
 use Rattle.state_store.specs.Kept.{IsKept}
 use Rattle.state_store.specs.Store.{Store, start_store, object_at, rows_of}
 use Rattle.run_model.specs.declared.fate.Fate.{Fate}
-use Rattle.run_model.specs.declared.run.ObjectRows.{ObjectRows}
 use Rattle.run_model.specs.declared.run.Run.{Run}
 use Rattle.run_model.specs.Meaning.{Meaning, AreAlike, serial_store, serial_verdicts}
 use Rattle.run_model.specs.Parts.{parts_of}

@@ -1,7 +1,7 @@
 -- The serial order of fates is the one rising list of the decided packets.
-use Rattle.std.proofs.Common.{◌≡◌, ℕ, ◌+◌, true, false, List, [], ◌∷◌, Option, Some, None, ◌⊎◌, inl, inr, refl, sym, ap, subst, arith, zero, suc}
+use Rattle.std.proofs.Common.{◌≡◌, ℕ, ◌+◌, ◌≤◌, true, false, List, [], ◌∷◌, Option, Some, None, ◌⊎◌, inl, inr, refl, sym, ap, subst, arith, zero, suc}
 use Rattle.std.specs.Prelude.{⊤, slice_get}
-use Rattle.std.proofs.lemmas.Bool.{cases_Bool}
+use Rattle.std.proofs.lemmas.Bool.{cases_Bool, cases_lt}
 use Rattle.std.proofs.lemmas.Bool.Decides.{nat_tests}
 use Rattle.std.proofs.lemmas.Option.{same_Some}
 use Rattle.run_model.specs.declared.fate.Fate.{Fate}
@@ -11,22 +11,38 @@ use Rattle.run_model.specs.Members.{Member}
 use Rattle.run_model.specs.Order.{stands_before, put_in, sorted, with_decided, decided_of, decided_from}
 use Rattle.run_model.proofs.Rising.{Before, Rising, same_rising}
 
-before_true : (x y : Decided) → stands_before x y ≡ true → Before x y
-before_true x y h = record {
+-- x stands before y, where their numbers differ
+pub record AtOrBefore (x y : Decided) : Type 0 where
+  pub version : x.version ≤ y.version
+  pub event : y.version ≤ x.version → x.event ≤ y.event
+  pub number : y.version ≤ x.version → y.event ≤ x.event → x.number ≤ y.number
+
+pub strictly : (x y : Decided) → AtOrBefore x y → (x.number ≡ y.number → ⊥) → Before x y
+strictly x y a apart = record {
+  version = a.version;
+  event = a.event;
+  number = λ h k. elim (cases_lt x.number y.number) [ inl less ↦ less | inr more ↦ absurd (apart (let n = a.number h k in omega arith)) ];
+}
+
+weaker : (x y : Decided) → Before x y → AtOrBefore x y
+weaker x y b = record { version = b.version; event = b.event; number = λ h k. let n = b.number h k in omega arith }
+
+before_if : (x y : Decided) → stands_before x y ≡ true → AtOrBefore x y
+before_if x y h = record {
   version = grind (arith, nat_tests);
   event = grind (arith, nat_tests);
   number = grind (arith, nat_tests);
 }
 
-before_false : (x y : Decided) → stands_before x y ≡ false → (y.number ≡ x.number → ⊥) → Before y x
-before_false x y h apart = record {
+after_if_not : (x y : Decided) → stands_before x y ≡ false → AtOrBefore y x
+after_if_not x y h = record {
   version = grind (arith, nat_tests);
   event = grind (arith, nat_tests);
   number = grind (arith, nat_tests);
 }
 
-before_trans : (x y z : Decided) → Before x y → Before y z → Before x z
-before_trans x y z a b = record {
+pub through : (x y z : Decided) → AtOrBefore x y → AtOrBefore y z → AtOrBefore x z
+through x y z a b = record {
   version = let v = a.version in let w = b.version in omega arith;
   event = λ h. let v = a.version in let w = b.version in let e = a.event (omega arith) in let f = b.event (omega arith) in omega arith;
   number = λ h k. let v = a.version in let w = b.version in
@@ -58,32 +74,32 @@ rising_put_in e (x ∷ xs) up apart =
     let rest = rising_put_in e xs up.1 (λ y m. apart y (inr m)) in
     elim (cases_Bool (stands_before e x)) [
       | inl t ↦ rw t (
-        (λ y m. elim m [
-          | inl p ↦ subst (λ z. Before e z) p (before_true e x t)
-          | inr b ↦ before_trans e x y (before_true e x t) (up.0 y b)
-        ]),
+        (λ y m. strictly e y (elim m [
+          | inl p ↦ subst (λ z. AtOrBefore e z) p (before_if e x t)
+          | inr b ↦ through e x y (before_if e x t) (weaker x y (up.0 y b))
+        ]) (λ q. apart y m (sym q))),
         up,
       )
       | inr t ↦ rw t (
         (λ y m. elim (member_put_in y e xs m) [
-          | inl p ↦ subst (λ z. Before x z) p (before_false e x t (apart x (inl refl)))
+          | inl p ↦ subst (λ z. Before x z) p (strictly x e (after_if_not e x t) (apart x (inl refl)))
           | inr b ↦ up.0 y b
         ]),
         rest,
       )
     ]
 
-member_sorted : (x : Decided) (es : List Decided) → Member x (sorted es) → Member x es
+pub member_sorted : (x : Decided) (es : List Decided) → Member x (sorted es) → Member x es
 member_sorted x [] h = h
 member_sorted x (e ∷ es) h = elim (member_put_in x e (sorted es) h) [ inl p ↦ inl p | inr m ↦ inr (member_sorted x es m) ]
 
-sorted_member : (x : Decided) (es : List Decided) → Member x es → Member x (sorted es)
+pub sorted_member : (x : Decided) (es : List Decided) → Member x es → Member x (sorted es)
 sorted_member x [] h = h
 sorted_member x (e ∷ es) (inl p) = put_in_member x e (sorted es) (inl p)
 sorted_member x (e ∷ es) (inr m) = put_in_member x e (sorted es) (inr (sorted_member x es m))
 
 -- the numbers of a list are apart
-abbrev Apart : List Decided → Type 0
+abbrev pub Apart : List Decided → Type 0
 Apart [] = ⊤
 Apart (x ∷ xs) = ((y : Decided) → Member y xs → y.number ≡ x.number → ⊥) × Apart xs
 
@@ -131,7 +147,7 @@ with_apart : (o : Option Decided) (es : List Decided) → Apart es → ((e y : D
 with_apart None es h apart = h
 with_apart (Some e) es h apart = ((λ y m. apart e y refl m), h)
 
-entries_apart : (n : ℕ) (fs : List Fate) → Apart (decided_from n fs)
+pub entries_apart : (n : ℕ) (fs : List Fate) → Apart (decided_from n fs)
 entries_apart n [] = tt
 entries_apart n (f ∷ fs) = with_apart (entry_of n (Some f)) (decided_from (suc n) fs) (entries_apart (suc n) fs)
     (λ e y p m. let low = decided_number n f e p in let high = entries_sound (suc n) fs y m in λ q. omega arith)

@@ -10,7 +10,7 @@ use std::marker::Model;
 pub enum Event {
     /// The switch takes the next packet of the trace.
     Admit,
-    /// This item of the passes under way takes its next stage.
+    /// A pass under way, by its place in their list, takes its next stage.
     Stage(u32),
     /// The server runs this item of the packets that were sent up.
     Serve(u32),
@@ -20,10 +20,10 @@ pub enum Event {
     Apply,
     /// The switch acknowledges the next command that it applied.
     Ack,
-    /// The server lets go of this item of the outputs that it holds.
+    /// The server lets go of an output that it holds, by its place in their list.
     Hold(u32),
-    /// This item of the packets that come down reaches the switch: it is released or, where passes go stage by stage,
-    /// its pass begins.
+    /// A packet that comes down, by its place in their list, reaches the switch: it is released or, where passes go
+    /// stage by stage, its pass begins.
     Down(u32),
 }
 

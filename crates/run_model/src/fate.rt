@@ -9,11 +9,11 @@ use std::marker::Model;
 /// ran those up to its own, and for one that the switch finished those whose changes its lookups saw.
 #[derive(Debug, Drop)]
 pub enum Fate {
-    /// Its preprocessing is under way.
+    /// The preprocessing is under way.
     Pass {
         admitted: u32,
     },
-    /// It is on its way up to the server.
+    /// The packet is on its way up to the server.
     Up {
         admitted: u32,
     },

@@ -26,9 +26,9 @@ pub enum LinkEvent {
     World(Event),
     /// The datagram of this one of the items that aren't known to be delivered, the first given first, is sent.
     Transmit(Link, u32),
-    /// This one of all datagrams that were sent arrives.
+    /// A datagram arrives, by its place among all that were sent.
     Deliver(Link, u32),
-    /// This one of all confirmations that were sent back arrives.
+    /// A confirmation arrives, by its place among all that were sent back.
     Confirm(Link, u32),
 }
 

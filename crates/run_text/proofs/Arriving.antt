@@ -1,6 +1,6 @@
 -- Each packet of a trace may arrive.
 use Rattle.std.proofs.Common.{◌≡◌, ap, refl, ℕ, ◌≤◌, true, false, inl, inr, List, [], ◌∷◌, length, arith}
-use Rattle.std.specs.Prelude.{IfOk, IfSome, Option, Some, None, Result, Ok, Err, codes, nat_le, if◌then◌else◌}
+use Rattle.std.specs.Prelude.{IfOk, Option, Some, None, Result, Ok, Err, codes, nat_le, if◌then◌else◌}
 use Rattle.std.specs.List.{after_first, before_first, list_any}
 use Rattle.std.specs.Str.{bytes_eq}
 use Rattle.std.proofs.lemmas.Bool.Decides.{nat_tests}
@@ -8,17 +8,17 @@ use Rattle.std.proofs.lemmas.Bool.{cases_Bool}
 use Rattle.hex.specs.Hex.{IsBytes, decode_of}
 use Rattle.hex.specs.declared.error.FromHexError.{FromHexError}
 use Rattle.hex.proofs.HexLemmas.{decode_of-ok}
-use Rattle.gal_io.specs.Lines.{lines}
+use Rattle.gal_io.specs.Lines.{lines, is_space}
 use Rattle.gal_io.specs.Number.{number_up_to}
 use Rattle.packet_fields.specs.Arrivals.{AreArrivals, IsArrival}
 use Rattle.packet_fields.specs.Sizes.{largest_packet}
 use Rattle.run_text.specs.Body.{body_with, spelled_by}
-use Rattle.run_text.specs.Trace.{at_most, body_of, is_space, line_values, packet_by, packet_line, packet_with, short_bytes, trace_of, values_until}
+use Rattle.run_text.specs.Trace.{at_most, body_of, line_values, packet_by, packet_line, packet_with, short_bytes, trace_of, values_until}
 use Rattle.run_text.specs.declared.refusal.LineKind.{LineKind}
 use Rattle.run_text.specs.declared.refusal.LineKind.TheVariants.{Form}
 use Rattle.run_text.proofs.LineSteps.{none_ends}
 use Rattle.run_text.proofs.AllValues.{all_lines, all_of_most}
-use Rattle.run_text.proofs.Numbers.{number_small}
+use Rattle.gal_io.proofs.NumberLemmas.{number_small}
 use Rattle.run_model.specs.Sizes.{most_packets}
 
 -- ---- a line of a trace
@@ -49,13 +49,13 @@ arrives_with : (port : ℕ) (given : Result (List ℕ) LineKind) → port ≤ 25
 arrives_with port (Ok bytes) small h = record { port = omega arith; bytes = h.bytes; size = h.size }
 arrives_with port (Err kind) small h = tt
 
-arrives_by : (port : Option ℕ) (body : List ℕ) → IfSome port (λ n. n ≤ 255) → IfOk (packet_by port body) IsArrival
+arrives_by : (port : Option ℕ) (body : List ℕ) → ((n : ℕ) → port ≡ Some n → n ≤ 255) → IfOk (packet_by port body) IsArrival
 arrives_by None body small = tt
-arrives_by (Some port) body small = arrives_with port (body_of body) small (is_body body)
+arrives_by (Some port) body small = arrives_with port (body_of body) (small port refl) (is_body body)
 
 line_arrives : (line : List ℕ) → IfOk (packet_line line) IsArrival
 line_arrives line = elim (list_any is_space line) as (λ b. IfOk (if b then packet_by (number_up_to 255 (before_first is_space line)) (after_first is_space line) else Err Form) IsArrival) [
-  | true ↦ arrives_by (number_up_to 255 (before_first is_space line)) (after_first is_space line) (number_small 255 (before_first is_space line))
+  | true ↦ arrives_by (number_up_to 255 (before_first is_space line)) (after_first is_space line) (λ n is. number_small 255 n (before_first is_space line) is)
   | false ↦ tt
 ]
 

@@ -10,7 +10,7 @@ use Rattle.run_model.specs.declared.event.Event.{Event}
 use Rattle.run_text.specs.Printed.{IsLineOf}
 use Rattle.run_text.specs.Said.{IsFirst}
 use Rattle.run_text.specs.Trace.{event_by, event_line, is_drain, word_event}
-use Rattle.run_text.proofs.PrintedLines.{line_plain}
+use Rattle.gal_io.proofs.ToldLines.{line_plain}
 
 -- a line with its end in front of a text
 first_line : (line : List ℕ) (event : Event) (behind : List ℕ) → IsLineOf event_line line event → is_drain line ≡ false → IsFirst is_drain event_line (line ++ (10 ∷ behind)) event behind
@@ -64,17 +64,13 @@ item_first letter digit event behind low high h =
 -- a text that begins with a letter that names an event, and the end of its line
 pub word_at : (text : List ℕ) (event : Event) → Some event ≡ word_event (get_or text 0 0 ∷ []) → get_or text 1 0 ≡ 10
     → IsFirst is_drain event_line text event (take (length text - 2) (drop 2 text))
-word_at [] event h fed = absurd (omega (arith, fed))
-word_at (letter ∷ []) event h fed = absurd (omega (arith, fed))
 word_at (letter ∷ feed ∷ behind) event h fed = rw (take_rest (letter ∷ feed ∷ behind) 2, fed) (word_first letter event behind h)
+word_at _ event h fed = absurd (omega (arith, fed))
 
 -- a text that begins with a letter, a space, a digit, and the end of its line
 pub item_at : (text : List ℕ) (event : Event) → IsLineOf event_line (get_or text 0 0 ∷ 32 ∷ decimal (get_or text 2 0 - 48)) event
     → get_or text 1 0 ≡ 32 → 48 ≤ get_or text 2 0 → get_or text 2 0 ≤ 57 → get_or text 3 0 ≡ 10
     → IsFirst is_drain event_line text event (take (length text - 4) (drop 4 text))
-item_at [] event h space low high fed = absurd (omega (arith, fed))
-item_at (letter ∷ []) event h space low high fed = absurd (omega (arith, fed))
-item_at (letter ∷ gap ∷ []) event h space low high fed = absurd (omega (arith, fed))
-item_at (letter ∷ gap ∷ digit ∷ []) event h space low high fed = absurd (omega (arith, fed))
 item_at (letter ∷ gap ∷ digit ∷ feed ∷ behind) event h space low high fed =
     rw (take_rest (letter ∷ gap ∷ digit ∷ feed ∷ behind) 4, fed, space) (item_first letter digit event behind low high h)
+item_at _ event h space low high fed = absurd (omega (arith, fed))

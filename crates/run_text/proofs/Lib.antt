@@ -1,10 +1,8 @@
 pub mod Bodies
 pub mod LineSteps
 pub mod AllValues
-pub mod Numbers
 pub mod Arriving
 pub mod PrintedLines
 pub mod PrintedBack
 pub mod LinkSchedules
-pub mod Numbered
 pub mod AtOnce

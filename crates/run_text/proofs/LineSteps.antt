@@ -1,27 +1,16 @@
 -- What a reader of lines has read.
-use Rattle.std.proofs.Common.{◌≡◌, ℕ, suc, ◌+◌, ◌≤◌, Bool, inl, inr, true, false, not, ◌&&◌, ◌||◌, cond, ltb, eqb, List, [], ◌∷◌, ◌++◌, length, refl, sym, ◌∙◌, arith, append_assoc}
+use Rattle.std.proofs.Common.{◌≡◌, ℕ, suc, ◌+◌, ◌≤◌, Bool, inl, inr, true, false, not, ◌&&◌, ◌||◌, List, [], ◌∷◌, ◌++◌, length, refl, sym, ◌∙◌, arith, append_assoc}
 use Rattle.std.specs.Prelude.{Result, Ok, Err, if◌then◌else◌}
 use Rattle.std.specs.List.{list_any, position_or_len, before_first}
-use Rattle.std.proofs.lemmas.Bool.Decides.{nat_tests}
 use Rattle.std.proofs.lemmas.Bool.{cases_Bool}
 use Rattle.gal_io.specs.Lines.{is_skipped}
 use Rattle.run_text.specs.Said.{given_said, said_by}
 use Rattle.run_text.specs.declared.line_value.Said.{Said}
 use Rattle.run_text.specs.declared.line_value.Said.TheVariants.{Value, Nothing, End, Wrong}
 use Rattle.run_text.specs.declared.refusal.LinesError.TheVariants.{Line}
-use Rattle.run_text.specs.Trace.{after_drain, followed_by, in_front, is_space, line_values, values_until, with_line}
+use Rattle.run_text.specs.Trace.{after_drain, followed_by, in_front, line_values, values_until, with_line}
 use Rattle.run_text.specs.declared.refusal.LineKind.{LineKind}
 use Rattle.run_text.specs.declared.refusal.LinesError.{LinesError}
-
--- a line has a space exactly where the first one stands before its end
-pub any_space : (line : List ℕ) → list_any is_space line ≡ ltb (position_or_len is_space line) (length line)
-any_space [] = refl
-any_space (byte ∷ bytes) =
-    let rest = any_space bytes in
-    elim (eqb byte 32) as (λ b. (b || list_any is_space bytes) ≡ ltb (cond (not b) (1 + position_or_len is_space bytes) 0) (suc (length bytes))) [
-      | true ↦ grind (arith, nat_tests)
-      | false ↦ grind (arith, nat_tests, rest)
-    ]
 
 -- The lines behind give `behind`. In front of that stand `have` values, of which `kept` are all where these are at
 -- most `most`.
@@ -42,12 +31,13 @@ abbrev pub ahead_ended : (List ℕ → Bool) → Bool → List (List ℕ) → Bo
 ahead_ended ends ended [] = ended
 ahead_ended ends ended (l ∷ ls) = if not ended && ends l then ahead_ended ends true ls else ahead_ended ends ended ls
 
--- once ended, no line may stand
-none_behind : {X : Type 0} (ends : List ℕ → Bool) (value : List ℕ → Result X LineKind) (n : ℕ) (ls : List (List ℕ)) → ahead_values ends value true n ls ≡ line_values after_drain n ls
-none_behind ends value n [] = refl
-none_behind ends value n (l ∷ ls) =
+-- where no line ends the values, each line has one, or none may stand
+pub not_ended : {X : Type 0} (ends : List ℕ → Bool) (value : List ℕ → Result X LineKind) (ended : Bool) (n : ℕ) (ls : List (List ℕ)) → ((l : List ℕ) → (not ended && ends l) ≡ false)
+    → ahead_values ends value ended n ls ≡ line_values (λ l. if ended then after_drain l else value l) n ls
+not_ended ends value ended n [] goes = refl
+not_ended ends value ended n (l ∷ ls) goes =
     let next : n + 1 ≡ suc n = omega arith in
-    rw next (rw (none_behind ends value (suc n) ls) refl)
+    rw (goes l) (rw next (rw (not_ended ends value ended (suc n) ls goes) refl))
 
 stays_ended : (ends : List ℕ → Bool) (ls : List (List ℕ)) → ahead_ended ends true ls ≡ true
 stays_ended ends [] = refl
@@ -86,7 +76,7 @@ all_lines ends value n (l ∷ ls) =
     let past : suc (position_or_len ends ls) + 1 ≡ suc (position_or_len ends ls + 1) = omega arith in
     let place : suc (length (before_first ends ls)) + suc n ≡ length (before_first ends ls) + suc (suc n) = omega arith in
     elim (cases_Bool (ends l)) [
-      | inl last ↦ rw last (rw next (rw first (rw (none_behind ends value (suc n) ls) (sym (followed_first (line_values after_drain (suc n) ls))))))
+      | inl last ↦ rw last (rw next (rw first (rw (not_ended ends value true (suc n) ls (λ l. refl)) (sym (followed_first (line_values after_drain (suc n) ls))))))
       | inr before ↦ rw before (rw next (rw at (rw past (rw place (elim (cases_Bool (is_skipped l)) [
         | inl skipped ↦ rw skipped rest
         | inr told ↦ rw told (rw rest (sym (followed_with_line n (value l) _ _)))
@@ -98,15 +88,9 @@ pub first_stands : {X : Type 0} (given whole : Result (List X) LinesError) (kept
 first_stands (Ok xs) whole kept most same none = (xs, sym same, omega arith, λ few. rw none refl)
 first_stands (Err e) whole kept most same none = sym same
 
-pub not_ended : {X : Type 0} (value : List ℕ → Result X LineKind) (n : ℕ) (ls : List (List ℕ)) → ahead_values (λ _. false) value false n ls ≡ line_values value n ls
-not_ended value n [] = refl
-not_ended value n (l ∷ ls) =
-    let next : n + 1 ≡ suc n = omega arith in
-    rw next (rw (not_ended value (suc n) ls) refl)
-
 -- where no line ends the values, all lines have one
 pub none_ends : {X : Type 0} (value : List ℕ → Result X LineKind) (ls : List (List ℕ)) → values_until (λ _. false) value 1 ls ≡ line_values value 1 ls
-none_ends value ls = sym (all_lines (λ _. false) value 1 ls) ∙ not_ended value 1 ls
+none_ends value ls = sym (all_lines (λ _. false) value 1 ls) ∙ not_ended (λ _. false) value false 1 ls (λ l. refl)
 
 -- ---- one line after the other
 

@@ -1,13 +1,12 @@
 -- Schedules over links: what is read takes no stages, and what is printed reads back.
-use Rattle.std.proofs.Common.{◌≡◌, ℕ, ◌≤◌, Bool, true, false, inl, inr, List, [], ◌++◌, length, map, refl, sym, ap, ◌∙◌, arith}
+use Rattle.std.proofs.Common.{◌≡◌, ℕ, ◌≤◌, Bool, true, false, inl, inr, List, length, refl, ap, ◌∙◌, arith}
 use Rattle.std.specs.Prelude.{All, IfOk, OnOk, Option, Some, None, Result, Ok, Err, codes, nat_le, if◌then◌else◌}
 use Rattle.std.specs.Fmt.{decimal}
 use Rattle.std.specs.List.{after_first, before_first, list_all, list_any}
 use Rattle.std.specs.Str.{bytes_eq}
 use Rattle.std.proofs.lemmas.Bool.{cases_Bool, true≢false}
 use Rattle.std.proofs.lemmas.Bool.Decides.{nat_tests}
-use Rattle.std.proofs.lemmas.List.{append-nil}
-use Rattle.gal_io.specs.Lines.{lines}
+use Rattle.gal_io.specs.Lines.{lines, is_space}
 use Rattle.gal_io.specs.Number.{number_up_to}
 use Rattle.run_model.specs.declared.event.Event.{Event}
 use Rattle.run_model.specs.declared.event.Event.TheVariants as world
@@ -22,12 +21,13 @@ use Rattle.run_text.specs.declared.refusal.LineKind.TheVariants.{Form}
 use Rattle.run_text.specs.declared.refusal.LinesError.{LinesError}
 use Rattle.run_text.specs.LinkSchedule.{at_place, in_world, letter_event, link_event_by, link_event_line, link_event_text, link_schedule_of, link_schedule_text, place_line, place_text, place_with}
 use Rattle.run_text.specs.Printed.{IsLineOf, event_text}
-use Rattle.run_text.specs.Trace.{at_most, event_line, is_space, largest, line_values, numbered, values_until}
+use Rattle.run_text.specs.Trace.{at_most, event_line, largest, line_values, numbered, values_until}
 use Rattle.run_text.proofs.AllValues.{all_lines, all_of_most}
-use Rattle.run_text.proofs.LineSteps.{ahead_values, none_ends, not_ended}
-use Rattle.run_text.proofs.Numbers.{decimal_digits, read_again}
-use Rattle.run_text.proofs.PrintedBack.{digits_plain, within}
-use Rattle.run_text.proofs.PrintedLines.{AreLines, lines_lined, plain, values_lined}
+use Rattle.run_text.proofs.LineSteps.{none_ends}
+use Rattle.gal_io.proofs.NumberLemmas.{decimal_digits, number_back}
+use Rattle.run_text.proofs.PrintedBack.{within}
+use Rattle.gal_io.proofs.ToldLines.{plain, digits_plain}
+use Rattle.run_text.proofs.PrintedLines.{AreLines, values_back}
 
 -- no line ends a schedule over links, so its events are those of all lines
 pub link_values : (text : List ℕ) → at_most most_events (values_until (λ _. false) link_event_line 1 (lines text)) ≡ link_schedule_of text
@@ -118,10 +118,10 @@ place_plain Up j fits = digits_plain (decimal j) (decimal_digits j (omega arith)
 place_plain _ j fits = digits_plain (decimal j) (decimal_digits j (omega arith))
 
 place_back : (link : Link) (j : ℕ) → j ≤ largest → place_line (place_text link j) ≡ Ok (link, j)
-place_back Up j fits = ap (place_with (Some Up)) (read_again largest j fits (omega arith))
-place_back Down j fits = ap (place_with (Some Down)) (read_again largest j fits (omega arith))
-place_back Ctl j fits = ap (place_with (Some Ctl)) (read_again largest j fits (omega arith))
-place_back Ack j fits = ap (place_with (Some Ack)) (read_again largest j fits (omega arith))
+place_back Up j fits = ap (place_with (Some Up)) (number_back largest j fits (omega arith))
+place_back Down j fits = ap (place_with (Some Down)) (number_back largest j fits (omega arith))
+place_back Ctl j fits = ap (place_with (Some Ctl)) (number_back largest j fits (omega arith))
+place_back Ack j fits = ap (place_with (Some Ack)) (number_back largest j fits (omega arith))
 
 pub transmit_back : (link : Link) (j : ℕ) → j ≤ largest → IsLineOf link_event_line (link_event_text (Transmit link j)) (Transmit link j)
 transmit_back link j fits =
@@ -137,11 +137,4 @@ confirm_back link j fits =
 
 pub links_back : (events : List LinkEvent) → AreLines link_event_line link_event_text events → length events ≤ most_events
     → link_schedule_of (link_schedule_text events) ≡ Ok events
-links_back events h few =
-    let text = link_schedule_text events in
-    let read : lines text ≡ map link_event_text events ++ [] =
-    ap lines (sym (append-nil text)) ∙ lines_lined link_event_line link_event_text events [] h in
-    let values : line_values link_event_line 1 (lines text) ≡ Ok events =
-    sym (not_ended link_event_line 1 (lines text)) ∙ ap (ahead_values (λ _. false) link_event_line false 1) read
-    ∙ values_lined (λ _. false) link_event_line link_event_text events 1 [] h (λ x. refl) (λ m. refl) in
-    ap (at_most most_events) values ∙ within most_events events few
+links_back events h few = ap (at_most most_events) (values_back link_event_line link_event_text events h) ∙ within most_events events few

@@ -1,46 +1,33 @@
 -- Traces and schedules that are printed read back.
-use Rattle.std.proofs.Common.{◌≡◌, ℕ, suc, inl, inr, ◌<◌, ◌≤◌, ◌+◌, ◌/◌, ◌%◌, Bool, true, false, ◌&&◌, leb, eqb, List, [], ◌∷◌, ◌++◌, length, map, Some, None, refl, sym, ap, ◌∙◌, arith}
+use Rattle.std.proofs.Common.{◌≡◌, ℕ, suc, inl, inr, ◌≤◌, ◌+◌, ◌/◌, ◌%◌, Bool, true, false, ◌&&◌, leb, eqb, List, [], ◌∷◌, ◌++◌, length, map, Some, None, refl, sym, ap, ◌∙◌, arith}
 use Rattle.std.specs.Prelude.{Ok, codes, slice_index}
 use Rattle.std.specs.Fmt.{decimal}
-use Rattle.std.specs.Str.{all_ascii_digits, bytes_eq}
+use Rattle.std.specs.Str.{bytes_eq}
 use Rattle.std.specs.List.{list_all, list_any}
 use Rattle.std.proofs.lemmas.Bool.{cases_lt, le-leb}
 use Rattle.std.proofs.lemmas.Option.{none-some}
 use Rattle.std.proofs.lemmas.Bool.Decides.{nat_tests}
-use Rattle.std.proofs.lemmas.List.{append-nil}
 use Rattle.std.proofs.lemmas.Fmt.{decimal_nonempty}
 use Rattle.hex.specs.Hex.{IsBytes, encode_lower, encode_with, lower_digits, hex_digit_value, decode_of}
 use Rattle.hex.proofs.HexLemmas.{decode_of-encode_lower, IsDigits-lower_digits}
-use Rattle.gal_io.specs.Lines.{is_skipped, lines}
+use Rattle.gal_io.specs.Lines.{is_skipped, lines, lined}
 use Rattle.packet_fields.specs.declared.packet.Packet.{Packet}
 use Rattle.packet_fields.specs.Sizes.{largest_packet}
 use Rattle.run_model.specs.declared.event.Event.{Event}
-use Rattle.run_model.specs.declared.event.Event.TheVariants.{Admit, Stage, Serve, Send, Apply, Ack, Hold, Down}
+use Rattle.run_model.specs.declared.event.Event.TheVariants.{Admit, Stage, Serve, Hold, Down}
 use Rattle.run_text.specs.declared.plan.Plan.{Plan}
+use Rattle.run_text.specs.Body.{body_with, spelled}
 use Rattle.run_text.specs.Report.{body_text}
-use Rattle.run_text.specs.Printed.{IsLineOf, drain_lines, event_text, fine_lines, lined, packet_text, schedule_text, trace_text}
+use Rattle.run_text.specs.Printed.{IsLineOf, drain_lines, event_text, fine_lines, packet_text, schedule_text, trace_text}
 use Rattle.run_model.specs.Sizes.{most_packets, most_events}
-use Rattle.run_text.specs.Trace.{at_most, behind_fine, body_of, event_line, is_drain, largest, numbered, packet_line, plan_behind, plan_by, schedule_of, trace_of, values_until}
+use Rattle.run_text.specs.Trace.{at_most, behind_fine, body_of, event_line, is_drain, largest, numbered, packet_line, plan_behind, plan_by, schedule_of, trace_of, values_until, short_bytes}
+use Rattle.gal_io.proofs.ToldLines.{digits_plain, digits_told, plain}
+use Rattle.gal_io.proofs.Spaces.{digits_unspaced, after_space, before_space, space_there, unspaced}
 use Rattle.run_text.proofs.LineSteps.{ahead_values, all_lines}
-use Rattle.run_text.proofs.Arriving.{trace_values}
-use Rattle.run_text.proofs.Numbers.{decimal_digits, read_again}
-use Rattle.run_text.proofs.PrintedLines.{AreLines, after_space, before_space, lines_lined, none_lined, plain, space_there, unspaced, values_lined}
-use Rattle.lemmas.proofs.Lists.{list_all_append}
-
--- ---- digits
-
-pub digits_plain : (ds : List ℕ) → all_ascii_digits ds ≡ true → list_all plain ds ≡ true
-digits_plain [] h = refl
-digits_plain (d ∷ ds) h = let rest = digits_plain ds in grind (arith, nat_tests, rest, h)
-
-pub digits_unspaced : (ds : List ℕ) → all_ascii_digits ds ≡ true → list_all unspaced ds ≡ true
-digits_unspaced [] h = refl
-digits_unspaced (d ∷ ds) h = let rest = digits_unspaced ds in grind (arith, nat_tests, rest, h)
-
--- a line that begins with a digit isn't skipped
-pub digits_told : (ds rest : List ℕ) → 0 < length ds → all_ascii_digits ds ≡ true → is_skipped (ds ++ rest) ≡ false
-digits_told [] rest some h = absurd (omega arith)
-digits_told (d ∷ ds) rest some h = grind (arith, nat_tests, h)
+use Rattle.gal_io.proofs.NumberLemmas.{decimal_digits, number_back}
+use Rattle.run_text.proofs.PrintedLines.{AreLines, lines_lined, none_lined, values_lined, values_back}
+use Rattle.lemmas.proofs.Lists.{list_all_append, bytes_eq_same}
+use Rattle.gal_io.specs.Number.{number_up_to}
 
 -- ---- bodies
 
@@ -69,17 +56,19 @@ body_plain [] h = refl
 body_plain (b ∷ bytes) h = encoded_plain (b ∷ bytes) h
 
 -- a body of two digits or more is no dash
-digits_back : (x y : ℕ) (more bytes : List ℕ) → decode_of (x ∷ (y ∷ more)) ≡ Ok bytes → length bytes ≤ largest_packet → body_of (x ∷ (y ∷ more)) ≡ Ok bytes
-digits_back x y more bytes h short =
+digits_back : (x y : ℕ) (more bytes : List ℕ) → decode_of (x ∷ (y ∷ more)) ≡ Ok bytes → encode_lower bytes ≡ x ∷ (y ∷ more) → spelled (x ∷ (y ∷ more)) ≡ Some (body_with bytes true)
+digits_back x y more bytes h e =
     let dash : bytes_eq (x ∷ (y ∷ more)) (codes "-") ≡ false = elim (eqb x 45) as (λ t. (t && false) ≡ false) [ true ↦ refl | false ↦ refl ] in
-    let few = le-leb (length bytes) largest_packet short in
-    rw (dash, h, few) refl
+    rw (dash, h) (rw (e, bytes_eq_same (x ∷ (y ∷ more))) refl)
+
+pub spelled_back : (bytes : List ℕ) → IsBytes bytes → spelled (body_text bytes) ≡ Some (body_with bytes true)
+unfolding encode_with
+spelled_back [] h = refl
+spelled_back (b ∷ bytes) h =
+    digits_back (slice_index lower_digits (b / 16)) (slice_index lower_digits (b % 16)) (encode_with lower_digits bytes) (b ∷ bytes) (decode_of-encode_lower (b ∷ bytes) h) refl
 
 body_back : (bytes : List ℕ) → IsBytes bytes → length bytes ≤ largest_packet → body_of (body_text bytes) ≡ Ok bytes
-unfolding encode_with
-body_back [] h short = refl
-body_back (b ∷ bytes) h short =
-    digits_back (slice_index lower_digits (b / 16)) (slice_index lower_digits (b % 16)) (encode_with lower_digits bytes) (b ∷ bytes) (decode_of-encode_lower (b ∷ bytes) h) short
+body_back bytes h short = ap short_bytes (spelled_back bytes h) ∙ rw (le-leb (length bytes) largest_packet short) refl
 
 pub within : {X : Type 0} (most : ℕ) (xs : List X) → length xs ≤ most → at_most most (Ok xs) ≡ Ok xs
 within most xs few = rw (le-leb (length xs) most few) refl
@@ -98,48 +87,39 @@ packet_back packet fits bytes short =
         space_there port body,
         before_space port body (digits_unspaced port digits),
         after_space port body (digits_unspaced port digits),
-        read_again 255 packet.port fits (omega arith),
+        number_back 255 packet.port fits (omega arith),
         body_back packet.bytes bytes short,
       ) refl;
     }
 
 pub trace_back : (packets : List Packet) → AreLines packet_line packet_text packets → length packets ≤ most_packets → trace_of (trace_text packets) ≡ Ok packets
-trace_back packets h few =
-    let text = trace_text packets in
-    let read : lines text ≡ map packet_text packets ++ [] = ap lines (sym (append-nil text)) ∙ lines_lined packet_line packet_text packets [] h in
-    let values : values_until (λ _. false) packet_line 1 (lines text) ≡ Ok packets =
-    sym (all_lines (λ _. false) packet_line 1 (lines text)) ∙ ap (ahead_values (λ _. false) packet_line false 1) read
-    ∙ values_lined (λ _. false) packet_line packet_text packets 1 [] h (λ x. refl) (λ m. refl) in
-    sym (trace_values text) ∙ ap (at_most most_packets) values ∙ within most_packets packets few
+trace_back packets h few = ap (at_most most_packets) (values_back packet_line packet_text packets h) ∙ within most_packets packets few
 
 -- ---- events
 
-pub serve_back : (j : ℕ) → j ≤ largest → IsLineOf event_line (event_text (Serve j)) (Serve j)
-serve_back j fits = record {
-  whole = digits_plain (decimal j) (decimal_digits j (omega arith));
-  told = refl;
-  says = ap (numbered Serve) (read_again largest j fits (omega arith));
-}
+-- a letter names an event of the item behind its space
+pub record Names (letter : ℕ) (event : ℕ → Event) : Type 0 where
+  pub line : (item : List ℕ) → event_line (letter ∷ 32 ∷ item) ≡ numbered event (number_up_to largest item)
+  pub told : (item : List ℕ) → is_skipped (letter ∷ 32 ∷ item) ≡ false
+  pub whole : plain letter ≡ true
 
-pub hold_back : (j : ℕ) → j ≤ largest → IsLineOf event_line (event_text (Hold j)) (Hold j)
-hold_back j fits = record {
-  whole = digits_plain (decimal j) (decimal_digits j (omega arith));
-  told = refl;
-  says = ap (numbered Hold) (read_again largest j fits (omega arith));
-}
+pub names_serve : Names 117 Serve
+names_serve = record { line = λ item. refl; told = λ item. refl; whole = refl }
 
-pub down_back : (j : ℕ) → j ≤ largest → IsLineOf event_line (event_text (Down j)) (Down j)
-down_back j fits = record {
-  whole = digits_plain (decimal j) (decimal_digits j (omega arith));
-  told = refl;
-  says = ap (numbered Down) (read_again largest j fits (omega arith));
-}
+pub names_hold : Names 104 Hold
+names_hold = record { line = λ item. refl; told = λ item. refl; whole = refl }
 
-pub stage_back : (j : ℕ) → j ≤ largest → IsLineOf event_line (event_text (Stage j)) (Stage j)
-stage_back j fits = record {
-  whole = digits_plain (decimal j) (decimal_digits j (omega arith));
-  told = refl;
-  says = ap (numbered Stage) (read_again largest j fits (omega arith));
+pub names_down : Names 100 Down
+names_down = record { line = λ item. refl; told = λ item. refl; whole = refl }
+
+pub names_stage : Names 115 Stage
+names_stage = record { line = λ item. refl; told = λ item. refl; whole = refl }
+
+pub item_back : (letter : ℕ) (event : ℕ → Event) (j : ℕ) → Names letter event → j ≤ largest → IsLineOf event_line (letter ∷ 32 ∷ decimal j) (event j)
+item_back letter event j names fits = record {
+  whole = rw names.whole (digits_plain (decimal j) (decimal_digits j (omega arith)));
+  told = names.told (decimal j);
+  says = names.line (decimal j) ∙ ap (numbered event) (number_back largest j fits (omega arith));
 }
 
 no_drain : (event : Event) → is_drain (event_text event) ≡ false
@@ -184,13 +164,7 @@ no_fine_drain false = refl
 no_fine : (events : List Event) (drain : Bool) → behind_fine 0 (map event_text events ++ drain_lines drain) ≡ None
 no_fine [] drain = no_fine_drain drain
 no_fine (Admit ∷ events) drain = refl
-no_fine (Stage j ∷ events) drain = refl
-no_fine (Serve j ∷ events) drain = refl
-no_fine (Send ∷ events) drain = refl
-no_fine (Apply ∷ events) drain = refl
-no_fine (Ack ∷ events) drain = refl
-no_fine (Hold j ∷ events) drain = refl
-no_fine (Down j ∷ events) drain = refl
+no_fine (_ ∷ events) drain = refl
 
 fine_read : (text : List ℕ) → lines (lined (fine_lines true) ++ text) ≡ codes "fine" ∷ lines text
 fine_read text = refl

@@ -1,43 +1,15 @@
 -- Lines that are printed, and read again.
-use Rattle.std.proofs.Common.{◌≡◌, ℕ, zero, suc, ◌+◌, ◌-◌, ◌<◌, ◌≤◌, Bool, true, false, not, ◌||◌, leb, eqb, List, [], ◌∷◌, ◌++◌, length, get_or, take, drop, map, inl, inr, refl, sym, ap, subst, ◌∙◌, arith, append_assoc}
+use Rattle.std.proofs.Common.{◌≡◌, ℕ, suc, ◌+◌, ◌-◌, ◌<◌, Bool, false, not, List, [], ◌∷◌, ◌++◌, length, get_or, map, inl, inr, refl, sym, ap, subst, ◌∙◌, arith, append_assoc}
 use Rattle.std.specs.Prelude.{All, Result, Ok}
-use Rattle.std.specs.List.{list_all, list_any, onto_first, position_or_len, before_first, after_first}
-use Rattle.std.proofs.lemmas.Bool.{cases_lt, and_parts, leb-true}
-use Rattle.std.proofs.lemmas.List.{get_or_default}
-use Rattle.std.proofs.lemmas.Bool.Decides.{nat_tests}
-use Rattle.gal_io.specs.Lines.{fed_lines, lines, without_return}
+use Rattle.std.specs.List.{list_any}
+use Rattle.std.proofs.lemmas.Bool.{cases_lt}
+use Rattle.std.proofs.lemmas.List.{get_or_default, append-nil}
+use Rattle.gal_io.specs.Lines.{lines, lined}
 use Rattle.run_text.specs.declared.refusal.LineKind.{LineKind}
-use Rattle.run_text.specs.Printed.{IsLineOf, lined}
-use Rattle.run_text.specs.Trace.{is_space}
-use Rattle.run_text.proofs.LineSteps.{ahead_values}
-use Rattle.lemmas.proofs.Lists.{drop_front, take_front}
-
-abbrev pub plain : ℕ → Bool
-plain byte = leb 32 byte
-
--- ---- a plain line ends at the line feed behind it
-
-fed_plain : (line rest : List ℕ) → list_all plain line ≡ true → fed_lines (line ++ (10 ∷ rest)) ≡ line ∷ fed_lines rest
-fed_plain [] rest h = refl
-fed_plain (byte ∷ line) rest h =
-    let parts = and_parts (plain byte) (list_all plain line) h in
-    let other : eqb byte 10 ≡ false = grind (arith, nat_tests, parts.0) in
-    rw other (ap (onto_first byte) (fed_plain line rest parts.1))
-
-plain_at : (line : List ℕ) (k : ℕ) → k < length line → list_all plain line ≡ true → 32 ≤ get_or line k 0
-plain_at [] k inside h = absurd (omega arith)
-plain_at (byte ∷ line) zero inside h = leb-true 32 byte (and_parts (plain byte) (list_all plain line) h).0
-plain_at (byte ∷ line) (suc k) inside h = plain_at line k (omega arith) (and_parts (plain byte) (list_all plain line) h).1
-
-returns_none : (line : List ℕ) → list_all plain line ≡ true → without_return line ≡ line
-returns_none [] h = refl
-returns_none (byte ∷ line) h =
-    let last = plain_at (byte ∷ line) (length (byte ∷ line) - 1) (omega arith) h in
-    let other : eqb (get_or (byte ∷ line) (length (byte ∷ line) - 1) 0) 13 ≡ false = grind (arith, nat_tests, last) in
-    rw other refl
-
-pub line_plain : (line rest : List ℕ) → list_all plain line ≡ true → lines (line ++ (10 ∷ rest)) ≡ line ∷ lines rest
-line_plain line rest h = ap (map without_return) (fed_plain line rest h) ∙ ap (λ l. l ∷ lines rest) (returns_none line h)
+use Rattle.run_text.specs.Printed.{IsLineOf}
+use Rattle.run_text.specs.Trace.{line_values}
+use Rattle.gal_io.proofs.ToldLines.{line_plain}
+use Rattle.run_text.proofs.LineSteps.{ahead_values, not_ended}
 
 -- ---- lines with values
 
@@ -69,36 +41,19 @@ values_lined ends value text_of (x ∷ xs) n behind h goes none =
     let rest = values_lined ends value text_of xs (n + 1) behind (behind_line value text_of x xs h) goes none in
     rw (goes x) (rw one.told (rw one.says (rw rest refl)))
 
+-- the lines of values alone
+pub values_back : {X : Type 0} (value : List ℕ → Result X LineKind) (text_of : X → List ℕ) (xs : List X) → AreLines value text_of xs
+    → line_values value 1 (lines (lined (map text_of xs))) ≡ Ok xs
+values_back value text_of xs h =
+    let text = lined (map text_of xs) in
+    sym (not_ended (λ _. false) value false 1 (lines text) (λ l. refl))
+    ∙ ap (ahead_values (λ _. false) value false 1) (ap lines (sym (append-nil text)) ∙ lines_lined value text_of xs [] h)
+    ∙ values_lined (λ _. false) value text_of xs 1 [] h (λ x. refl) (λ m. refl)
+
 pub none_lined : {X : Type 0} (ends : List ℕ → Bool) (text_of : X → List ℕ) (xs : List X) (behind : List (List ℕ)) → ((x : X) → ends (text_of x) ≡ false)
     → list_any ends (map text_of xs ++ behind) ≡ list_any ends behind
 none_lined ends text_of [] behind goes = refl
 none_lined ends text_of (x ∷ xs) behind goes = rw (goes x) (none_lined ends text_of xs behind goes)
-
--- ---- a line with a space
-
--- no byte is a space
-abbrev pub unspaced : ℕ → Bool
-unspaced byte = not (eqb byte 32)
-
-pub space_there : (front back : List ℕ) → list_any is_space (front ++ (32 ∷ back)) ≡ true
-space_there [] back = refl
-space_there (byte ∷ front) back = let rest = space_there front back in
-    elim (eqb byte 32) as (λ b. (b || list_any is_space (front ++ (32 ∷ back))) ≡ true) [ true ↦ refl | false ↦ rest ]
-
-pub space_place : (front back : List ℕ) → list_all unspaced front ≡ true → position_or_len is_space (front ++ (32 ∷ back)) ≡ length front
-space_place [] back h = refl
-space_place (byte ∷ front) back h =
-    let parts = and_parts (unspaced byte) (list_all unspaced front) h in
-    let rest = space_place front back parts.1 in
-    rw parts.0 (omega arith)
-
-pub before_space : (front back : List ℕ) → list_all unspaced front ≡ true → before_first is_space (front ++ (32 ∷ back)) ≡ front
-before_space front back h = ap (λ n. take n (front ++ (32 ∷ back))) (space_place front back h) ∙ take_front front (32 ∷ back)
-
-pub after_space : (front back : List ℕ) → list_all unspaced front ≡ true → after_first is_space (front ++ (32 ∷ back)) ≡ back
-after_space front back h =
-    let place : position_or_len is_space (front ++ (32 ∷ back)) + 1 ≡ suc (length front) = let at = space_place front back h in omega arith in
-    ap (λ n. drop n (front ++ (32 ∷ back))) place ∙ drop_front front 32 back
 
 -- ---- all bytes of joined lists
 

@@ -2,7 +2,7 @@
 use Rattle.std.specs.Prelude.{ℕ, List, ◌++◌, codes, decimal, map, if◌then◌else◌, Option, Some, None, Result, Ok, Err}
 use Rattle.std.specs.Str.{bytes_eq}
 use Rattle.std.specs.List.{before_first, after_first, list_any}
-use Rattle.gal_io.specs.Lines.{lines}
+use Rattle.gal_io.specs.Lines.{lines, is_space, lined}
 use Rattle.gal_io.specs.Number.{number_up_to}
 use Rattle.run_model.specs.declared.event.Event.{Event}
 use Rattle.run_model.specs.declared.event.Event.TheVariants as world
@@ -14,8 +14,8 @@ use Rattle.run_model.specs.Sizes.{most_events}
 use Rattle.run_text.specs.declared.refusal.LineKind.{LineKind}
 use Rattle.run_text.specs.declared.refusal.LineKind.TheVariants.{Form, Number}
 use Rattle.run_text.specs.declared.refusal.LinesError.{LinesError}
-use Rattle.run_text.specs.Printed.{event_text, lined}
-use Rattle.run_text.specs.Trace.{at_most, is_space, largest, line_values, numbered, word_event}
+use Rattle.run_text.specs.Printed.{event_text}
+use Rattle.run_text.specs.Trace.{at_most, largest, line_values, numbered, word_event}
 
 abbrev pub link_name : Link → List ℕ
 link_name Up = codes "up"

@@ -1,7 +1,7 @@
 -- The texts of a trace and of a schedule as they are printed.
 use Rattle.std.specs.Prelude.{◌≡◌, ℕ, Bool, true, false, List, [], ◌∷◌, ◌++◌, codes, decimal, map, nat_le, Result, Ok}
 use Rattle.std.specs.List.{list_all}
-use Rattle.gal_io.specs.Lines.{is_skipped, line_end}
+use Rattle.gal_io.specs.Lines.{is_skipped, lined}
 use Rattle.packet_fields.specs.declared.packet.Packet.{Packet}
 use Rattle.run_model.specs.declared.event.Event.{Event}
 use Rattle.run_model.specs.declared.event.Event.TheVariants.{Admit, Stage, Serve, Send, Apply, Ack, Hold, Down}
@@ -10,9 +10,6 @@ use Rattle.run_text.specs.declared.refusal.LineKind.{LineKind}
 use Rattle.run_text.specs.Report.{body_text}
 
 -- lines, each with its end
-abbrev pub lined : List (List ℕ) → List ℕ
-lined [] = []
-lined (l ∷ ls) = l ++ (line_end ++ lined ls)
 
 -- A line that is read as this value: no byte of it ends a line, and it isn't skipped.
 pub record IsLineOf {X : Type 0} (value : List ℕ → Result X LineKind) (line : List ℕ) (x : X) : Type 0 where

@@ -26,8 +26,9 @@ said_by ends gives ended line =
     if not ended && ends line then End
     else (if is_skipped line then Nothing else given_said (if ended then after_drain line else gives line))
 
--- This is what the first line of a text says, and this text stands behind it.
-pub record IsSaidFirst {X : Type 0} (ends : List ℕ → Bool) (gives : List ℕ → Result X LineKind) (ended : Bool) (text : List ℕ) (said : Said X) (behind : List ℕ) : Type 0 where
+-- What the first line of a text says, and the text behind it.
+pub record IsSaidFirst {X : Type 0} (ends : List ℕ → Bool) (gives : List ℕ → Result X LineKind) (ended : Bool)
+    (text : List ℕ) (said : Said X) (behind : List ℕ) : Type 0 where
   pub line : List ℕ
   pub divides : lines text ≡ line ∷ lines behind
   pub shorter : length behind < length text

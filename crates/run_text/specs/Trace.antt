@@ -1,9 +1,9 @@
 -- The text of a trace, and of a schedule: which values a text spells, or why it is refused.
-use Rattle.std.specs.Prelude.{ℕ, suc, ◌+◌, ◌-◌, ◌^◌, Bool, true, false, List, [], ◌∷◌, ◌++◌, length, nat_le, ◌==◌}
+use Rattle.std.specs.Prelude.{ℕ, suc, ◌+◌, ◌-◌, ◌^◌, Bool, true, false, List, [], ◌∷◌, ◌++◌, length, nat_le}
 use Rattle.std.specs.Prelude.{if◌then◌else◌, Option, Some, None, Result, Ok, Err, codes}
 use Rattle.std.specs.Str.{bytes_eq}
 use Rattle.std.specs.List.{before_first, after_first, list_any}
-use Rattle.gal_io.specs.Lines.{lines, is_skipped}
+use Rattle.gal_io.specs.Lines.{is_skipped, is_space, lines}
 use Rattle.gal_io.specs.Number.{number_up_to}
 use Rattle.packet_fields.specs.declared.packet.Packet.{Packet}
 use Rattle.run_model.specs.declared.event.Event.{Event}
@@ -74,9 +74,6 @@ packet_with port (Err kind) = Err kind
 abbrev pub packet_by : Option ℕ → List ℕ → Result Packet LineKind
 packet_by None body = Err Number
 packet_by (Some port) body = packet_with port (body_of body)
-
-abbrev pub is_space : ℕ → Bool
-is_space b = b == 32
 
 -- A line of a trace is a port, a space and a body. The first space divides.
 abbrev pub packet_line : List ℕ → Result Packet LineKind

@@ -1,10 +1,10 @@
 //! Values of which each stands on a line of a text.
 ghost use Rattle.std.specs.Prelude.{◌≡◌, ◌≤◌, ◌<◌, ◌⊎◌, ◌+◌, ◌^◌, length, IfOk, IfErr, IfSome, MatchOption, true, false, Ok, Err, []};
 ghost use Rattle.std.specs.Prelude.{not, ◌&&◌};
-ghost use Rattle.std.specs.List.{after_first, before_first, list_any, position_or_len};
+ghost use Rattle.std.specs.List.{list_any};
 ghost use Rattle.gal_io.specs.Lines.{lines};
 ghost use Rattle.run_text.specs.Said.{IsFirst, IsSaidFirst, said_by};
-ghost use Rattle.run_text.specs.Trace.{at_most, is_space, values_until};
+ghost use Rattle.run_text.specs.Trace.{at_most, values_until};
 
 use crate::refusal::{LineKind, LinesError};
 use gal_io::{NoMemory, is_skipped, split_line};
@@ -46,29 +46,6 @@ enum Said<V> {
 pub(crate) struct LineValues<V> {
     pub(crate) items: Vec<V>,
     pub(crate) ended: bool,
-}
-
-// Where the first space stands, or the line ends.
-fn space_at(line: &[u8]) -> usize
-    ensures place { result ≡ position_or_len is_space line.now }
-    ensures within { result ≤ length line.now }
-{
-    line.iter().take_while(|byte| **byte != b' ').count()
-}
-
-/// What stands before the first space of a line, and behind it.
-#[tactic(auto, using(std::proofs::lemmas::Grind::common_steps, crate::proofs::LineSteps::any_space))]
-pub(crate) fn split_at_space(line: &[u8]) -> Option<(&[u8], &[u8])>
-    ensures { MatchOption result (list_any is_space line.now ≡ false)
-        (λ parts. (list_any is_space line.now ≡ true)
-        × (parts.0.now ≡ before_first is_space line.now)
-        × (parts.1.now ≡ after_first is_space line.now)) }
-{
-    let at = space_at(line);
-    if at == line.len() {
-        return None;
-    }
-    Some((&line[..at], &line[at + 1..]))
 }
 
 // What a line says that isn't the first one to end the values.

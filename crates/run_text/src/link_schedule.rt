@@ -1,17 +1,17 @@
 //! The text of a schedule over links.
 ghost use Rattle.std.specs.Prelude.{◌≡◌, ◌≤◌, ◌⊎◌, ◌++◌, ◌∷◌, length, decimal, map, All, OnOk, IfOk, IfErr};
 ghost use Rattle.std.specs.Prelude.{Ok, Err, false};
-ghost use Rattle.gal_io.specs.Lines.{line_end};
+ghost use Rattle.gal_io.specs.Lines.{line_end, lined};
 ghost use Rattle.run_model.specs.LinkEvents.{IsLinkSchedule, takes_stage};
 ghost use Rattle.run_text.specs.LinkSchedule.{letter_event, link_event_line, link_named, link_schedule_of, place_line};
 ghost use Rattle.run_text.specs.LinkSchedule.{link_event_text, link_name, link_schedule_text, place_text};
-ghost use Rattle.run_text.specs.Printed.{IsLineOf, lined};
+ghost use Rattle.run_text.specs.Printed.{IsLineOf};
 ghost use Rattle.run_text.specs.Trace.{largest};
 
-use crate::line_value::{LineValue, read_values, split_at_space};
+use crate::line_value::{LineValue, read_values};
 use crate::refusal::{LineKind, LinesError, MAX_EVENTS};
 use crate::schedule::{put_event, read_item, read_word};
-use gal_io::{NoMemory, Text};
+use gal_io::{NoMemory, Text, split_at_space};
 use run_model::{Event, Link, LinkEvent, LinkEvents};
 use std::alloc::Global;
 

@@ -14,13 +14,13 @@ pub const MAX_EVENTS: usize = 1_048_576;
 /// What is wrong with a line: the first of these that holds.
 #[derive(Clone, Copy, Debug, PartialEq, Eq)]
 pub enum LineKind {
-    /// It hasn't the parts of a line.
+    /// The line hasn't the parts of one.
     Form,
-    /// Its number isn't a decimal in range.
+    /// The number isn't a decimal in range.
     Number,
-    /// Its body isn't `-` or pairs of hexadecimal digits.
+    /// The body isn't `-` or pairs of hexadecimal digits.
     Hex,
-    /// Its packet has more than 9,216 bytes.
+    /// The packet has more than 9,216 bytes.
     Long,
     /// A line `drain` stood before it.
     AfterDrain,

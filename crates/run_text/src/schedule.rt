@@ -1,13 +1,13 @@
 //! The text of a schedule.
 ghost use Rattle.std.specs.Prelude.{◌≡◌, ◌≤◌, ◌<◌, ◌+◌, ◌^◌, ◌⊎◌, ◌++◌, ◌∷◌, length, decimal, map, All, OnOk, IfOk, IfErr};
 ghost use Rattle.std.specs.Prelude.{IfSome, MatchOption, MatchResult, Some, None, Ok, Err, []};
-ghost use Rattle.gal_io.specs.Lines.{lines, line_end};
+ghost use Rattle.gal_io.specs.Lines.{lines, line_end, lined};
 ghost use Rattle.gal_io.specs.Number.{number_up_to};
 ghost use Rattle.run_model.specs.Sizes.{most_events};
-ghost use Rattle.run_text.specs.Printed.{IsLineOf, event_text, lined, schedule_text};
+ghost use Rattle.run_text.specs.Printed.{IsLineOf, event_text, schedule_text};
 ghost use Rattle.run_text.specs.Trace.{behind_fine, event_line, is_drain, largest, plan_behind, schedule_of, word_event};
 
-use crate::line_value::{LineValue, read_values, split_at_space};
+use crate::line_value::{LineValue, read_values};
 use crate::plan::Plan;
 use crate::refusal::{LineKind, LinesError, MAX_EVENTS};
 use gal_io::{NoMemory, Text, is_skipped, number_up_to, split_line};

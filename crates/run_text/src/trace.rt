@@ -8,9 +8,9 @@ ghost use Rattle.run_model.specs.Sizes.{most_packets};
 ghost use Rattle.run_text.specs.Trace.{body_of, packet_line, trace_of};
 
 use crate::body::{put_body, read_body};
-use crate::line_value::{LineValue, read_values, split_at_space};
+use crate::line_value::{LineValue, read_values};
 use crate::refusal::{LineKind, LinesError, MAX_PACKETS};
-use gal_io::{Bytes, NoMemory, Text, number_up_to};
+use gal_io::{Bytes, NoMemory, Text, number_up_to, split_at_space};
 use packet_fields::{Packet, Packets, is_short};
 use std::alloc::Global;
 

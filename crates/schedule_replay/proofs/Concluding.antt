@@ -6,19 +6,18 @@ use Rattle.std.specs.Prelude.{Result, Ok, Err}
 use Rattle.run_model.specs.declared.event.Event.{Event}
 use Rattle.run_model.specs.declared.run.Run.{Run}
 use Rattle.switch_ir.specs.Port.{PortState, Loads}
-use Rattle.switch_ir.specs.declared.port.PortEnd.TheVariants.{Done}
 use Rattle.split_answers.specs.Through.{HasTables}
 use Rattle.replay_state.specs.Drain.{drain_bound, is_quiet, plan_events}
 use Rattle.replay_state.specs.Run.{job_run}
 use Rattle.replay_state.specs.State.{State}
-use Rattle.replay_contracts.specs.Given.{Given, code_for, setup_for, whole, whole_runs}
+use Rattle.replay_contracts.specs.Inputs.{Inputs, code_for, setup_for, whole, whole_runs}
 use Rattle.replay_contracts.specs.Promise.{Promises, state_for}
 use Rattle.replay_contracts.specs.Replay.{IsReplay, answered}
 use Rattle.replay_contracts.specs.Replayer.{Fails, HasBroken, IsReported, IsRunOf}
 use Rattle.replay_contracts.specs.declared.job.Replayed.{Replayed}
 use Rattle.replay_contracts.specs.declared.job.ReplayError.{ReplayError}
 use Rattle.replay_course.specs.declared.course.Course.{Course}
-use Rattle.replay_course.specs.UnderWay.{Drains, IsUnderWay, course_left}
+use Rattle.replay_course.specs.UnderWay.{Drains, HasReplayed, course_left}
 use Rattle.schedule_replay.specs.Ended.{HasEnded}
 use Rattle.replay_contracts.proofs.Laws.{a_quiet_switch_has_the_servers_tables, a_run_keeps_its_promises, a_told_replay_reports_the_run}
 use Rattle.replay_course.proofs.Laws.{few_events_are_left-bound, few_events_are_left-left}
@@ -30,14 +29,14 @@ use Rattle.replay_state.proofs.Laws.{a_run_is_answered_by_its_calls-once as end_
 few_by : (events n left bound : ℕ) → events ≡ n → n ≤ 1048576 → left ≤ bound → bound < 2 ^ 30 → events + left < 2 ^ 32 - 1
 few_by events n left bound is few within small = omega arith
 
-pub few_to_drain : (x : Given) (events : List Event) (c : Course) (port : PortState) → IsUnderWay x events c port
+pub few_to_drain : (x : Inputs) (events : List Event) (c : Course) (port : PortState) → HasReplayed x events c port
     → length x.packets ≤ 16384 → length events ≤ 1048576 → c.events + course_left x c < 2 ^ 32 - 1
 few_to_drain x events c port u packets few =
     few_by c.events (length events) (course_left x c) (drain_bound (setup_for x)) u.counted few
     (few_events_are_left-left x events u.calls u.st c port u.replay u.shown u.going) (few_events_are_left-bound x u.going.prepared packets)
 
-pub ended_drained : (x : Given) (events : List Event) (drain : Bool) (count : ℕ) (c after : Course) (old new : PortState) → drain ≡ true
-    → IsUnderWay x events c old → Drains x count c old after new → HasEnded x events drain after old new
+pub ended_drained : (x : Inputs) (events : List Event) (drain : Bool) (count : ℕ) (c after : Course) (old new : PortState) → drain ≡ true
+    → HasReplayed x events c old → Drains x count c old after new → HasEnded x events drain after old new
 ended_drained x events drain count c after old new is u done =
     let all = done.turns events u.calls u.st u.replay u.shown in
     let on = all.on in
@@ -55,7 +54,7 @@ ended_drained x events drain count c after old new is u done =
 
 -- ## The report
 
-pub is_reported : (x : Given) (events : List Event) (drain : Bool) (c : Course) (first port new : PortState) (replayed : Replayed)
+pub is_reported : (x : Inputs) (events : List Event) (drain : Bool) (c : Course) (first port new : PortState) (replayed : Replayed)
     → HasEnded x events drain c first port → ReportsOf x c port new replayed → IsReported x events drain replayed new
 is_reported x events drain c first port new replayed ended says =
     let plan = plan_events (setup_for x) (answered x ended.calls) events drain in
@@ -69,7 +68,7 @@ is_reported x events drain c first port new replayed ended says =
       drained = λ t. ap (λ (r : Run). r.drained) reports.is ∙ ended.drained t;
     }
 
-pub is_run_of : (x : Given) (events : List Event) (drain : Bool) (c : Course) (first port new : PortState)
+pub is_run_of : (x : Inputs) (events : List Event) (drain : Bool) (c : Course) (first port new : PortState)
     (replayed : Replayed) → HasEnded x events drain c first port → ReportsOf x c port new replayed → IsSome port.told
     → IsRunOf x events drain replayed new
 is_run_of x events drain c first port new replayed ended says tells =
@@ -93,7 +92,7 @@ is_run_of x events drain c first port new replayed ended says tells =
 
 -- ## Errors
 
-pub broken_at_once : (x : Given) (e : ReplayError) (first begun new : PortState) → Loads Done (code_for x) first begun → Fails e begun new
+pub broken_at_once : (x : Inputs) (e : ReplayError) (first begun new : PortState) → Loads (Ok tt) (code_for x) first begun → Fails e begun new
     → HasBroken x e first new
 broken_at_once x e first begun new loads fails = inr (record { begun = begun; loads = loads; fails = fails })
 

@@ -10,7 +10,7 @@ use Rattle.replay_state.specs.Journal.{Call, asked}
 use Rattle.replay_state.specs.Run.{run_of}
 use Rattle.replay_state.specs.State.{State}
 use Rattle.replay_state.specs.Step.{step}
-use Rattle.replay_contracts.specs.Given.{Given, IsReady, setup_for, whole}
+use Rattle.replay_contracts.specs.Inputs.{Inputs, IsReady, setup_for, whole}
 use Rattle.replay_contracts.specs.Promise.{Promises}
 use Rattle.replay_contracts.specs.Replay.{HasDrained, HasPicked, IsReplay, answered}
 use Rattle.replay_contracts.specs.Replayer.{Fails, HasEmptied, HasFailed, HasReported, HasSettled, HasStepped, IsNew}
@@ -18,9 +18,9 @@ use Rattle.replay_contracts.specs.declared.job.Replayed.{Replayed}
 use Rattle.replay_contracts.specs.declared.job.ReplayError.{ReplayError}
 use Rattle.replay_contracts.specs.declared.job.Stepped.{Stepped}
 use Rattle.replay_course.specs.declared.course.Course.{Course}
-use Rattle.replay_course.specs.Going.{HasTurned}
+use Rattle.replay_course.specs.Going.{HasAdvanced}
 use Rattle.replay_course.specs.Shown.{IsShown}
-use Rattle.replay_course.specs.UnderWay.{HasGone, Drains, course_left}
+use Rattle.replay_course.specs.UnderWay.{HasReplayedFrom, Drains, course_left}
 use Rattle.schedule_replay.specs.Replayer.{IsKept, IsPerforming, replayer_of}
 use Rattle.replay_contracts.proofs.Laws.{a_journal_determines_its_replay, a_quiet_switch_has_the_servers_tables, a_replay_goes_on}
 use Rattle.replay_contracts.proofs.Laws.{a_run_keeps_its_promises, a_told_replay_reports_the_run}
@@ -35,7 +35,7 @@ use Rattle.replay_contracts.proofs.Asked.{none_asked}
 -- ## What the course shows
 
 -- of each replay of the same events over the port
-pub shown_at : (x : Given) (events : List Event) (c : Course) (port : PortState) (steps : ℕ) (calls : List Call) (st : State)
+pub shown_at : (x : Inputs) (events : List Event) (c : Course) (port : PortState) (steps : ℕ) (calls : List Call) (st : State)
     → IsPerforming x events c port steps → IsReplay x events calls st port → IsShown (whole x) calls st c
 shown_at x events c port steps calls st now is =
     let u = now.under_way in
@@ -45,7 +45,7 @@ shown_at x events c port steps calls st now is =
 few_by : (events n left steps bound : ℕ) → events ≡ n → n + left ≤ steps + bound → steps ≤ 1048576 → bound < 2 ^ 30 → events + left < 2 ^ 32 - 1
 few_by events n left steps bound is within few small = omega arith
 
-pub few_left : (x : Given) (c : Course) (port : PortState) (steps : ℕ) (failed : Option ReplayError) → IsKept x c port steps failed
+pub few_left : (x : Inputs) (c : Course) (port : PortState) (steps : ℕ) (failed : Option ReplayError) → IsKept x c port steps failed
     → failed ≡ None → c.events + course_left x c < 2 ^ 32 - 1
 few_left x c port steps failed stands none =
     let now = stands.performed none in
@@ -56,7 +56,7 @@ few_of : (n left steps bound : ℕ) → n + left ≤ steps + bound → n ≤ ste
 few_of n left steps bound h = omega arith
 
 -- so it stands
-pub stands_by : (x : Given) (events : List Event) (c : Course) (port : PortState) (steps : ℕ) (failed : Option ReplayError) → length x.packets ≤ 16384
+pub stands_by : (x : Inputs) (events : List Event) (c : Course) (port : PortState) (steps : ℕ) (failed : Option ReplayError) → length x.packets ≤ 16384
     → steps ≤ 1048576 → IsPerforming x events c port steps → IsKept x c port steps failed
 stands_by x events c port steps failed packets within now = record {
   few_packets = packets;
@@ -75,12 +75,12 @@ stands_by x events c port steps failed packets within now = record {
 first_left : (left steps bound : ℕ) → left ≤ bound → 0 + left ≤ 0 + bound
 first_left left steps bound h = omega arith
 
-begun_performs : (x : Given) (c : Course) (first port : PortState) → HasGone x [] c first port → IsPerforming x [] c port 0
+begun_performs : (x : Inputs) (c : Course) (first port : PortState) → HasReplayedFrom x [] c first port → IsPerforming x [] c port 0
 begun_performs x c first port gone =
     let u = gone.under_way in
     record { under_way = u; left = first_left (course_left x c) 0 (drain_bound (setup_for x)) (few_events_are_left-left x [] u.calls u.st c port u.replay u.shown u.going) }
 
-begun_is_new : (x : Given) (c : Course) (first port : PortState) → HasGone x [] c first port → IsNew x first (replayer_of x [] 0 port None)
+begun_is_new : (x : Inputs) (c : Course) (first port : PortState) → HasReplayedFrom x [] c first port → IsNew x first (replayer_of x [] 0 port None)
 begun_is_new x c first port gone =
     let u = gone.under_way in
     let calls : u.calls ≡ [] = none_asked u.calls u.replay.answered.asked in
@@ -94,13 +94,13 @@ begun_is_new x c first port gone =
     }
 
 -- the job is a copy of the one that was given
-pub copy_is_new : (x y : Given) (c : Course) (first port : PortState) → y ≡ x → HasGone x [] c first port → IsNew x first (replayer_of y [] 0 port None)
+pub copy_is_new : (x y : Inputs) (c : Course) (first port : PortState) → y ≡ x → HasReplayedFrom x [] c first port → IsNew x first (replayer_of y [] 0 port None)
 copy_is_new x y c first port same gone = subst (λ z. IsNew x first (replayer_of z [] 0 port None)) (sym same) (begun_is_new x c first port gone)
 
-pub copy_performs : (x y : Given) (c : Course) (first port : PortState) → y ≡ x → HasGone x [] c first port → IsPerforming y [] c port 0
+pub copy_performs : (x y : Inputs) (c : Course) (first port : PortState) → y ≡ x → HasReplayedFrom x [] c first port → IsPerforming y [] c port 0
 copy_performs x y c first port same gone = subst (λ z. IsPerforming z [] c port 0) (sym same) (begun_performs x c first port gone)
 
-pub copy_stands : (x y : Given) (c : Course) (first port : PortState) → y ≡ x → HasGone x [] c first port → length x.packets ≤ 16384
+pub copy_stands : (x y : Inputs) (c : Course) (first port : PortState) → y ≡ x → HasReplayedFrom x [] c first port → length x.packets ≤ 16384
     → IsKept y c port 0 None
 copy_stands x y c first port same gone packets =
     subst (λ z. IsKept z c port 0 None) (sym same) (stands_by x [] c port 0 None packets (omega arith) (begun_performs x c first port gone))
@@ -110,8 +110,8 @@ copy_stands x y c first port same gone packets =
 stepped_left : (n n' left left' steps bound : ℕ) → n' ≡ n + 1 → left' ≤ left → n + left ≤ steps + bound → n' + left' ≤ steps + 1 + bound
 stepped_left n n' left left' steps bound one less h = omega arith
 
-pub step_performs : (x : Given) (events : List Event) (event : Event) (stepped : Stepped) (c after : Course) (old new : PortState) (steps : ℕ)
-    → HasTurned x event stepped c old after new → IsPerforming x events c old steps → IsPerforming x (events ++ event ∷ []) after new (steps + 1)
+pub step_performs : (x : Inputs) (events : List Event) (event : Event) (stepped : Stepped) (c after : Course) (old new : PortState) (steps : ℕ)
+    → HasAdvanced x event stepped c old after new → IsPerforming x events c old steps → IsPerforming x (events ++ event ∷ []) after new (steps + 1)
 step_performs x events event stepped c after old new steps turned now =
     let u = now.under_way in
     let t = turned.turns events u.calls u.st u.replay u.shown in
@@ -128,8 +128,8 @@ step_performs x events event stepped c after old new steps turned now =
           (few_events_are_left-stays x events event stepped u.calls u.st c after old new u.replay u.shown u.going turned) now.left;
     }
 
-pub has_stepped : (x : Given) (events : List Event) (event : Event) (stepped : Stepped) (c after : Course) (old new : PortState) (steps : ℕ)
-    (failed : Option ReplayError) → failed ≡ None → HasTurned x event stepped c old after new → IsPerforming x events c old steps
+pub has_stepped : (x : Inputs) (events : List Event) (event : Event) (stepped : Stepped) (c after : Course) (old new : PortState) (steps : ℕ)
+    (failed : Option ReplayError) → failed ≡ None → HasAdvanced x event stepped c old after new → IsPerforming x events c old steps
     → HasStepped (replayer_of x events steps old failed) event stepped (replayer_of x (events ++ event ∷ []) (steps + 1) new failed)
 has_stepped x events event stepped c after old new steps failed none turned now = record {
   given = refl;
@@ -143,8 +143,8 @@ has_stepped x events event stepped c after old new steps failed none turned now 
       (t.one, a_replay_goes_on x events event calls t.one st old new now.under_way.going.prepared.ready is t.asks t.called);
 }
 
-pub step_stands : (x : Given) (event : Event) (stepped : Stepped) (c after : Course) (old new : PortState) (steps : ℕ)
-    (failed : Option ReplayError) → failed ≡ None → steps < 1048576 → HasTurned x event stepped c old after new → IsKept x c old steps failed
+pub step_stands : (x : Inputs) (event : Event) (stepped : Stepped) (c after : Course) (old new : PortState) (steps : ℕ)
+    (failed : Option ReplayError) → failed ≡ None → steps < 1048576 → HasAdvanced x event stepped c old after new → IsKept x c old steps failed
     → IsKept x after new (steps + 1) failed
 step_stands x event stepped c after old new steps failed none few turned stands =
     stands_by x (stands.events ++ event ∷ []) after new (steps + 1) failed stands.few_packets (omega arith)
@@ -160,12 +160,12 @@ counted_on : (a b n more count : ℕ) → b ≡ a + count → a ≡ n → more �
 counted_on a b n more count is before counted = omega arith
 
 -- the events that drain picked, behind these
-abbrev pub drained_more : (x : Given) (events : List Event) (count : ℕ) (c after : Course) (old new : PortState) (steps : ℕ)
+abbrev pub drained_more : (x : Inputs) (events : List Event) (count : ℕ) (c after : Course) (old new : PortState) (steps : ℕ)
     → Drains x count c old after new → IsPerforming x events c old steps → List Event
 drained_more x events count c after old new steps done now =
     let u = now.under_way in (done.turns events u.calls u.st u.replay u.shown).on.more
 
-pub drain_performs : (x : Given) (events : List Event) (count : ℕ) (c after : Course) (old new : PortState) (steps : ℕ)
+pub drain_performs : (x : Inputs) (events : List Event) (count : ℕ) (c after : Course) (old new : PortState) (steps : ℕ)
     (done : Drains x count c old after new) → count + course_left x after ≤ course_left x c → (now : IsPerforming x events c old steps)
     → IsPerforming x (events ++ drained_more x events count c after old new steps done now) after new steps
 drain_performs x events count c after old new steps done less now =
@@ -183,7 +183,7 @@ drain_performs x events count c after old new steps done less now =
       left = drained_left _ _ _ count (course_left x c) (course_left x after) steps _ (length-append events on.more) on.counted less now.left;
     }
 
-pub settled : (x : Given) (events : List Event) (calls : List Call) (last : State) (port : PortState) → IsReady x
+pub settled : (x : Inputs) (events : List Event) (calls : List Call) (last : State) (port : PortState) → IsReady x
     → IsReplay x events calls last port → is_drained (setup_for x) last ≡ true → HasSettled x events calls last port
 settled x events calls last port ready replay drained =
     let promises : (tables : Told) → port.told ≡ Some tables → Promises x events (run_of (setup_for x) last) =
@@ -195,7 +195,7 @@ settled x events calls last port ready replay drained =
       tables = λ tables is. a_quiet_switch_has_the_servers_tables x events calls last port tables ready replay is (and_second _ (is_quiet last) drained);
     }
 
-pub has_emptied : (x : Given) (events : List Event) (count : ℕ) (c after : Course) (old new : PortState) (steps : ℕ) (failed : Option ReplayError)
+pub has_emptied : (x : Inputs) (events : List Event) (count : ℕ) (c after : Course) (old new : PortState) (steps : ℕ) (failed : Option ReplayError)
     → failed ≡ None → (done : Drains x count c old after new) (now : IsPerforming x events c old steps)
     → HasEmptied (replayer_of x events steps old failed) count
     (replayer_of x (events ++ drained_more x events count c after old new steps done now) steps new failed)
@@ -223,7 +223,7 @@ has_emptied x events count c after old new steps failed none done now =
           );
     }
 
-pub drain_stands : (x : Given) (count : ℕ) (c after : Course) (old new : PortState) (steps : ℕ) (failed : Option ReplayError) → failed ≡ None
+pub drain_stands : (x : Inputs) (count : ℕ) (c after : Course) (old new : PortState) (steps : ℕ) (failed : Option ReplayError) → failed ≡ None
     → Drains x count c old after new → count + course_left x after ≤ course_left x c → IsKept x c old steps failed → IsKept x after new steps failed
 drain_stands x count c after old new steps failed none done less stands =
     let now = stands.performed none in
@@ -233,7 +233,7 @@ drain_stands x count c after old new steps failed none done less stands =
 short_by : (a b c d : ℕ) → a + b ≤ c → c ≤ d → a ≤ d
 short_by a b c d h k = omega arith
 
-pub drain_short : (x : Given) (count : ℕ) (c after : Course) (old : PortState) (steps : ℕ) (failed : Option ReplayError) → failed ≡ None
+pub drain_short : (x : Inputs) (count : ℕ) (c after : Course) (old : PortState) (steps : ℕ) (failed : Option ReplayError) → failed ≡ None
     → count + course_left x after ≤ course_left x c → IsKept x c old steps failed → count ≤ drain_bound (setup_for x)
 drain_short x count c after old steps failed none less stands =
     let u = (stands.performed none).under_way in
@@ -241,7 +241,7 @@ drain_short x count c after old steps failed none less stands =
 
 -- ## Report
 
-pub report_performs : (x : Given) (events : List Event) (replayed : Replayed) (c : Course) (old new : PortState) (steps : ℕ)
+pub report_performs : (x : Inputs) (events : List Event) (replayed : Replayed) (c : Course) (old new : PortState) (steps : ℕ)
     → ReportsOf x c old new replayed → IsPerforming x events c old steps → IsPerforming x events c new steps
 report_performs x events replayed c old new steps says now =
     let u = now.under_way in
@@ -263,7 +263,7 @@ report_performs x events replayed c old new steps says now =
       left = now.left;
     }
 
-pub has_reported : (x : Given) (events : List Event) (replayed : Replayed) (c : Course) (old new : PortState) (steps : ℕ)
+pub has_reported : (x : Inputs) (events : List Event) (replayed : Replayed) (c : Course) (old new : PortState) (steps : ℕ)
     (failed : Option ReplayError) → failed ≡ None → ReportsOf x c old new replayed → IsPerforming x events c old steps
     → HasReported (replayer_of x events steps old failed) replayed (replayer_of x events steps new failed)
 has_reported x events replayed c old new steps failed none says now =
@@ -285,7 +285,7 @@ has_reported x events replayed c old new steps failed none says now =
           (sym (a_told_replay_reports_the_run x events u.calls u.st old new replayed.run replayed.commands tables ready u.replay here told_is)) (a_run_keeps_its_promises x events ready);
     }
 
-pub report_stands : (x : Given) (replayed : Replayed) (c : Course) (old new : PortState) (steps : ℕ) (failed : Option ReplayError) → failed ≡ None
+pub report_stands : (x : Inputs) (replayed : Replayed) (c : Course) (old new : PortState) (steps : ℕ) (failed : Option ReplayError) → failed ≡ None
     → ReportsOf x c old new replayed → IsKept x c old steps failed → IsKept x c new steps failed
 report_stands x replayed c old new steps failed none says stands =
     stands_by x stands.events c new steps failed stands.few_packets stands.within
@@ -293,7 +293,7 @@ report_stands x replayed c old new steps failed none says stands =
 
 -- ## Errors
 
-pub has_failed : (x : Given) (events : List Event) (e : ReplayError) (old new : PortState) (steps : ℕ) (failed : Option ReplayError) → failed ≡ None
+pub has_failed : (x : Inputs) (events : List Event) (e : ReplayError) (old new : PortState) (steps : ℕ) (failed : Option ReplayError) → failed ≡ None
     → Fails e old new → HasFailed (replayer_of x events steps old failed) e (replayer_of x events steps new (Some e))
 has_failed x events e old new steps failed none fails = record {
   before = none;
@@ -305,7 +305,7 @@ has_failed x events e old new steps failed none fails = record {
 }
 
 -- one that has failed stands, whatever its course and its port are
-pub failed_stands : (x : Given) (e : ReplayError) (c after : Course) (old new : PortState) (steps : ℕ) (failed : Option ReplayError)
+pub failed_stands : (x : Inputs) (e : ReplayError) (c after : Course) (old new : PortState) (steps : ℕ) (failed : Option ReplayError)
     → IsKept x c old steps failed → IsKept x after new steps (Some e)
 failed_stands x e c after old new steps failed stands = record {
   few_packets = stands.few_packets;

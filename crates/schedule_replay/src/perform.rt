@@ -4,8 +4,8 @@ ghost use Rattle.flat_ir.specs.Program.{program_of};
 ghost use Rattle.run_model.specs.Sizes.{most_events, most_packets};
 ghost use Rattle.split_model.specs.Bounds.{HasFewStages};
 ghost use Rattle.split_answers.specs.Whole.{IsSplit};
-ghost use Rattle.replay_contracts.specs.Replayer.{CountsFault, Fails, HasBroken, IsReported, IsRunOf, given_of};
-ghost use Rattle.replay_course.specs.UnderWay.{IsUnderWay};
+ghost use Rattle.replay_contracts.specs.Replayer.{CountsFault, Fails, HasBroken, IsReported, IsRunOf, inputs_of};
+ghost use Rattle.replay_course.specs.UnderWay.{HasReplayed};
 ghost use Rattle.schedule_replay.specs.Ended.{HasEnded};
 
 use replay_contracts::{Job, ReplayError, Replayed};
@@ -22,9 +22,9 @@ fn conclude<S: SwitchPort>(
 ) -> Result<(), ReplayError>
     requires few_packets { length job.now.packets ≤ most_packets }
     requires few_events { length job.now.events ≤ most_events }
-    requires under_way { IsUnderWay (given_of job.now) job.now.events course.old (S.seen port.old) }
+    requires under_way { HasReplayed (inputs_of job.now) job.now.events course.old (S.seen port.old) }
     ensures ended { OnOk result
-        (HasEnded (given_of job.now) job.now.events job.now.drain course.new (S.seen port.old) (S.seen port.new)) }
+        (HasEnded (inputs_of job.now) job.now.events job.now.drain course.new (S.seen port.old) (S.seen port.new)) }
     ensures fails { IfErr result (λ e. Fails e (S.seen port.old) (S.seen port.new)) }
 {
     if job.drain {
@@ -33,10 +33,11 @@ fn conclude<S: SwitchPort>(
     Ok(())
 }
 
-/// Replays a job over a switch: loads its code, performs the job's events and, where the job asks for it, the events that
-/// drain the run. After Ok no call of the switch failed. After an error exactly one call failed, or none where memory ran
-/// out, and the switch tells its tables where it told them before. Either it is as it was, since its code was never
-/// loaded; or it has that code, and its journal has the load and what was called behind it.
+/// Replays a job over a switch: the code of its split is loaded, its events are performed, and then, if the job asks for
+/// it, the events that drain the run. Ok means that no call of the switch failed, PortFault that one did, and NoMemory
+/// that none did. The switch tells its tables afterwards if it told them before. If the error came before the code was
+/// loaded, the switch is as it was, but for its count of faults. If it came later, the switch has the code, and its
+/// journal has the load and the calls after it.
 pub fn replay<S: SwitchPort>(
     alloc: Global,
     job: &Job,
@@ -48,13 +49,13 @@ pub fn replay<S: SwitchPort>(
     requires few_packets { length job.now.packets ≤ most_packets }
     requires few_events { length job.now.events ≤ most_events }
     ensures answered { IfOk result (λ replayed.
-        IsReported (given_of job.now) job.now.events job.now.drain replayed (S.seen port.new)) }
+        IsReported (inputs_of job.now) job.now.events job.now.drain replayed (S.seen port.new)) }
     ensures told { IsSome (S.seen port.old).told → IfOk result (λ replayed.
-        IsRunOf (given_of job.now) job.now.events job.now.drain replayed (S.seen port.new)) }
+        IsRunOf (inputs_of job.now) job.now.events job.now.drain replayed (S.seen port.new)) }
     ensures stays { is_some (S.seen port.new).told ≡ is_some (S.seen port.old).told }
     ensures no_fault { OnOk result ((S.seen port.new).faults ≡ (S.seen port.old).faults) }
     ensures fault { IfErr result (λ e. CountsFault e (S.seen port.old) (S.seen port.new)) }
-    ensures fails { IfErr result (λ e. HasBroken (given_of job.now) e (S.seen port.old) (S.seen port.new)) }
+    ensures fails { IfErr result (λ e. HasBroken (inputs_of job.now) e (S.seen port.old) (S.seen port.new)) }
 {
     let mut course = Course::start(alloc, job, port)?;
     course.perform(alloc, job, port)?;

@@ -9,10 +9,10 @@ ghost use Rattle.split_answers.specs.Whole.{IsSplit};
 ghost use Rattle.replay_state.specs.Drain.{drain_bound};
 ghost use Rattle.replay_state.specs.Journal.{Call, down_frame, frame_in, up_answer};
 ghost use Rattle.replay_state.specs.State.{State};
-ghost use Rattle.replay_contracts.specs.Given.{setup_for, whole};
+ghost use Rattle.replay_contracts.specs.Inputs.{setup_for, whole};
 ghost use Rattle.replay_contracts.specs.declared.job.ReplayError.{ReplayError};
-ghost use Rattle.replay_contracts.specs.Replayer.{CountsFault, HasBroken, given_of};
-ghost use Rattle.replay_course.specs.UnderWay.{HasGone};
+ghost use Rattle.replay_contracts.specs.Replayer.{CountsFault, HasBroken, inputs_of};
+ghost use Rattle.replay_course.specs.UnderWay.{HasReplayedFrom};
 
 use gal_io::{Bytes, NoMemory};
 use replay_contracts::{Job, ReplayError, Replayed, Stepped};
@@ -36,7 +36,7 @@ pub struct Replayer<S: SwitchPort> {
 }
 
 impl<S: SwitchPort> Model for Replayer<S> {
-    ghost use Rattle.replay_contracts.specs.Replayer.{given_of};
+    ghost use Rattle.replay_contracts.specs.Replayer.{inputs_of};
     ghost use Rattle.schedule_replay.specs.Replayer.{IsKept, Replaying};
     ghost use Rattle.replay_course.specs.contracts.course.Course.{the_row};
     ghost use Rattle.std.specs.Coded.{codes};
@@ -46,14 +46,14 @@ impl<S: SwitchPort> Model for Replayer<S> {
     ghost coded = { Prim.hlevel (codes, the_row.coded) };
 
     ghost view = { λ r. record {
-      given = given_of r.job;
+      given = inputs_of r.job;
       course = r.course;
       port = r.port;
       steps = r.steps;
       failed = r.failed;
     } };
 
-    ghost invariant = { λ r. IsKept (given_of r.job) r.course (S.seen r.port) r.steps r.failed };
+    ghost invariant = { λ r. IsKept (inputs_of r.job) r.course (S.seen r.port) r.steps r.failed };
 }
 
 /// A switch with which no replay could begin, and why.
@@ -65,7 +65,7 @@ pub struct Refused<S> {
 
 // A job without events of its own, in memory of its own.
 fn copy_job(alloc: Global, job: &Job) -> Result<Job, NoMemory>
-    ensures { IfOk result (λ made. given_of made ≡ given_of job.now) }
+    ensures { IfOk result (λ made. inputs_of made ≡ inputs_of job.now) }
 {
     Ok(Job {
         flat: job.flat.copy(alloc)?,
@@ -90,12 +90,12 @@ fn begin<S: SwitchPort>(alloc: Global, job: &Job, port: &mut S) -> Result<Begun,
     requires stages { HasFewStages job.now.split }
     requires writeback { job.now.writeback ≤ 65536 }
     requires few_packets { length job.now.packets ≤ most_packets }
-    ensures same { IfOk result (λ begun. given_of begun.job ≡ given_of job.now) }
+    ensures same { IfOk result (λ begun. inputs_of begun.job ≡ inputs_of job.now) }
     ensures begun { IfOk result (λ begun.
-        HasGone (given_of job.now) [] begun.course (S.seen port.old) (S.seen port.new)) }
+        HasReplayedFrom (inputs_of job.now) [] begun.course (S.seen port.old) (S.seen port.new)) }
     ensures stays { is_some (S.seen port.new).told ≡ is_some (S.seen port.old).told }
     ensures fault { IfErr result (λ e. CountsFault e (S.seen port.old) (S.seen port.new)) }
-    ensures fails { IfErr result (λ e. HasBroken (given_of job.now) e (S.seen port.old) (S.seen port.new)) }
+    ensures fails { IfErr result (λ e. HasBroken (inputs_of job.now) e (S.seen port.old) (S.seen port.new)) }
 {
     let copy = copy_job(alloc, job)?;
     let course = Course::start(alloc, job, port)?;
@@ -116,13 +116,13 @@ impl<S: SwitchPort> Replayer<S> {
         requires stages { HasFewStages job.now.split }
         requires writeback { job.now.writeback ≤ 65536 }
         requires few_packets { length job.now.packets ≤ most_packets }
-        ensures begun { IfOk result (λ made. IsNew (given_of job.now) (S.seen port) (seen_as S.seen [] made)) }
+        ensures begun { IfOk result (λ made. IsNew (inputs_of job.now) (S.seen port) (seen_as S.seen [] made)) }
         ensures performed { IfOk result (λ made. HasPerformed S.seen [] made) }
         ensures stays { IfErr result (λ refused.
             is_some (S.seen refused.port).told ≡ is_some (S.seen port).told) }
         ensures fault { IfErr result (λ refused. CountsFault refused.error (S.seen port) (S.seen refused.port)) }
         ensures fails { IfErr result (λ refused.
-            HasBroken (given_of job.now) refused.error (S.seen port) (S.seen refused.port)) }
+            HasBroken (inputs_of job.now) refused.error (S.seen port) (S.seen refused.port)) }
     {
         let mut port = port;
         match begin(alloc, job, &mut port) {

@@ -8,7 +8,7 @@ use Rattle.flat_ir.specs.Laws.{AllFit}
 use Rattle.flat_ir.specs.Program.{program_of}
 use Rattle.server_runtime.specs.declared.plan.PreparedProgram.{PreparedProgram}
 use Rattle.server_runtime.specs.Plans.{IsPrepared}
-use Rattle.server_runtime.specs.Turns.{IsBegun}
+use Rattle.server_runtime.specs.StepsTaken.{IsBegun}
 
 pub begun_of : (whole : PreparedProgram) (up : Reading) (st : Store) (packet : Packet) → IsPrepared whole → IsKept whole.flat.objects st
     → AllFit (program_of whole.flat) up → IsArrival packet → IsBegun (program_of whole.flat) whole.split up st packet

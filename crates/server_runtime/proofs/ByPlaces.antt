@@ -19,12 +19,12 @@ use Rattle.split_model.specs.Layouts.{number_of, values_below}
 use Rattle.transfer_header.specs.Ready.{all_placed, first_placed, named, placed_gives, places_of, reads_at, ready_work}
 use Rattle.transfer_header.specs.Registers.{place_by, place_of, placed, Registers}
 use Rattle.writeback_table.specs.declared.command.Update.{Update}
-use Rattle.server_runtime.specs.declared.plan.Turn.{Turn}
+use Rattle.server_runtime.specs.declared.plan.PlannedStep.{PlannedStep}
 use Rattle.server_runtime.specs.Registers.{no_place, place_in, register_reads, with_row, HaveRegisters}
-use Rattle.server_runtime.specs.Resolved.{place_name, turns_at, ArePlaces, AreResolved, IsResolved}
+use Rattle.server_runtime.specs.Resolved.{place_name, instructions_of, ArePlaces, AreResolved, IsResolved}
 use Rattle.server_runtime.specs.Running.{row_of}
 use Rattle.server_runtime.specs.Serving.{updates_of}
-use Rattle.server_runtime.specs.Turns.{HasTurned}
+use Rattle.server_runtime.specs.StepsTaken.{IsStepTaken}
 use Rattle.server_runtime.specs.Walks.{AreListed}
 use Rattle.server_runtime.proofs.Numbers.{is_named_by}
 use Rattle.server_runtime.proofs.Rows.{row_more, row_part}
@@ -43,7 +43,7 @@ module _ (f : Program) (before after : Registers) (same : (value : ℕ) → plac
   names_still : place_name f after ≡ place_name f before
   names_still = λ k v. named (place_still v k)
 
-  still_turn : (t : Turn) → IsResolved f before t → IsResolved f after t
+  still_turn : (t : PlannedStep) → IsResolved f before t → IsResolved f after t
   still_turn t h = record {
     work = h.work ∙ ap (λ (names : ValueId → ValueId). renamed names (step_at f t.instruction).work) (sym names_still);
     can = h.can;
@@ -53,17 +53,17 @@ module _ (f : Program) (before after : Registers) (same : (value : ℕ) → plac
     };
   }
 
-  still_turns : (turns : List Turn) → Each (IsResolved f before) turns → Each (IsResolved f after) turns
+  still_turns : (steps : List PlannedStep) → Each (IsResolved f before) steps → Each (IsResolved f after) steps
   still_turns [] h = tt
   still_turns (t ∷ ts) h = (still_turn t h.0, still_turns ts h.1)
 
-  pub still_resolved : (seats : List ℕ) (turns : List Turn) → AreResolved f seats turns before → AreResolved f seats turns after
-  still_resolved seats turns h = record { seats = still_seats f seats before after same h.seats; turns = still_turns turns h.turns }
+  pub still_resolved : (seats : List ℕ) (steps : List PlannedStep) → AreResolved f seats steps before → AreResolved f seats steps after
+  still_resolved seats steps h = record { seats = still_seats f seats before after same h.seats; steps = still_turns steps h.steps }
 
 -- with a plan and as many numbers as before
-pub planned_resolved : (f : Program) (seats : List ℕ) (turns : List Turn) (before after : Registers) → after.plan ≡ before.plan
-    → length after.numbers ≡ length before.numbers → AreResolved f seats turns before → AreResolved f seats turns after
-planned_resolved f seats turns before after plan count = still_resolved f before after (λ value p. place_by (plan p) (count p) value) seats turns
+pub planned_resolved : (f : Program) (seats : List ℕ) (steps : List PlannedStep) (before after : Registers) → after.plan ≡ before.plan
+    → length after.numbers ≡ length before.numbers → AreResolved f seats steps before → AreResolved f seats steps after
+planned_resolved f seats steps before after plan count = still_resolved f before after (λ value p. place_by (plan p) (count p) value) seats steps
 
 -- ## Results at their places
 
@@ -129,8 +129,8 @@ renamed_write names (put object keys values) = refl
 renamed_write names _ = refl
 
 -- whether a turn writes is told by its instruction
-writes_alike : (f : Program) (registers : Registers) (t : Turn) → IsResolved f registers t
-    → is_write (step_at f t.instruction).work ≡ is_write (ready_work t.step.kind)
+writes_alike : (f : Program) (registers : Registers) (t : PlannedStep) → IsResolved f registers t
+    → is_write (step_at f t.instruction).work ≡ is_write (ready_work t.ready.kind)
 writes_alike f registers t h = sym (renamed_write (place_name f registers) (step_at f t.instruction).work) ∙ sym (ap is_write h.work)
 
 no_look : (work : Work) → is_write work ≡ true → is_look work ≡ false
@@ -139,16 +139,16 @@ no_look (del object keys) e = refl
 no_look _ e = absurd (true≢false (sym e))
 
 -- a turn that writes looks nothing up
-pub write_is_no_look : (f : Program) (registers : Registers) (t : Turn) → IsResolved f registers t → is_write (ready_work t.step.kind) ≡ true
+pub write_is_no_look : (f : Program) (registers : Registers) (t : PlannedStep) → IsResolved f registers t → is_write (ready_work t.ready.kind) ≡ true
     → is_look (step_at f t.instruction).work ≡ false
 write_is_no_look f registers t h e = no_look (step_at f t.instruction).work (writes_alike f registers t h ∙ e)
 
 -- a turn that doesn't write is computed by place
-pub computed_turn : (f : Program) (split : List Part) (packet : Packet) (registers : Registers) (st : Store) (t : Turn) (after : Registers) (told : List Update)
+pub computed_turn : (f : Program) (split : List Part) (packet : Packet) (registers : Registers) (st : Store) (t : PlannedStep) (after : Registers) (told : List Update)
     → t.instruction < length f.code → HaveRegisters f t.instruction registers → IsResolved f registers t
-    → is_write (ready_work t.step.kind) ≡ false → length registers.numbers < 2 ^ 32
-    → after ≡ all_placed registers (placed_gives (places_of t.step.places) (results (reads_at registers.numbers) false st packet (ready_work t.step.kind)))
-    → HasTurned f split packet t.instruction registers st after st told told
+    → is_write (ready_work t.ready.kind) ≡ false → length registers.numbers < 2 ^ 32
+    → after ≡ all_placed registers (placed_gives (places_of t.ready.places) (results (reads_at registers.numbers) false st packet (ready_work t.ready.kind)))
+    → IsStepTaken f split packet t.instruction registers st after st told told
 computed_turn f split packet registers st t after told within has h writes few is =
     let i = t.instruction in
     let work = (step_at f i).work in
@@ -156,52 +156,52 @@ computed_turn f split packet registers st t after told within has h writes few i
     let reads : Reading = register_reads f registers in
     let live = is_live f.blocks reads (step_at f i).block in
     let quiet : is_write work ≡ false = writes_alike f registers t h ∙ writes in
-    let gives : results (reads_at registers.numbers) false st packet (ready_work t.step.kind) ≡ row_of f packet i reads st =
+    let gives : results (reads_at registers.numbers) false st packet (ready_work t.ready.kind) ≡ row_of f packet i reads st =
     ap (λ (w : Work). results (reads_at registers.numbers) false st packet w) h.work
     ∙ renamed_results names (reads_at registers.numbers) false st packet work
     ∙ ap (λ (r : Reading). results r false st packet work) (reads_by_place f registers few)
     ∙ live_counts reads false live st packet work (λ e. absurd (true≢false (sym e ∙ quiet))) in
     let nothing : made live (change_of reads st work) ≡ [] = no_change reads live st work quiet in
     record {
-      registers = is ∙ ap (λ (row : List ℕ). all_placed registers (placed_gives (places_of t.step.places) row)) gives
-          ∙ row_placed f i registers within has (places_of t.step.places) (row_of f packet i reads st) h.places;
+      registers = is ∙ ap (λ (row : List ℕ). all_placed registers (placed_gives (places_of t.ready.places) row)) gives
+          ∙ row_placed f i registers within has (places_of t.ready.places) (row_of f packet i reads st) h.places;
       store = sym (ap (λ (cs : List Change). with_changes st cs) nothing);
       told = sym (append-nil told) ∙ sym (ap (λ (cs : List Change). told ++ updates_of f split cs) nothing);
     }
 
--- ## Lists of turns
+-- ## Lists of steps
 
 -- one turn of a list
-pub turn_of_list : (f : Program) (registers : Registers) (items turns : List Turn) (k : ℕ) (t : Turn) → items ≡ turns → Each (IsResolved f registers) turns
+pub turn_of_list : (f : Program) (registers : Registers) (items steps : List PlannedStep) (k : ℕ) (t : PlannedStep) → items ≡ steps → Each (IsResolved f registers) steps
     → k < length items → t ≡ get_or items k t → IsResolved f registers t
-turn_of_list f registers items turns k t same each lt is =
-    let low : k < length turns = omega (arith, lt, ap (λ (l : List Turn). length l) same) in
-    subst (IsResolved f registers) (sym (is ∙ ap (λ (l : List Turn). get_or l k t) same)) (each_or (IsResolved f registers) turns k t each low)
+turn_of_list f registers items steps k t same each lt is =
+    let low : k < length steps = omega (arith, lt, ap (λ (l : List PlannedStep). length l) same) in
+    subst (IsResolved f registers) (sym (is ∙ ap (λ (l : List PlannedStep). get_or l k t) same)) (each_or (IsResolved f registers) steps k t each low)
 
 -- and the one behind it
-pub next_turn : (test : ℕ → Bool) (end : ℕ) (items turns : List Turn) (k : ℕ) (t : Turn) → items ≡ turns → AreListed test 0 end (turns_at turns)
+pub next_turn : (test : ℕ → Bool) (end : ℕ) (items steps : List PlannedStep) (k : ℕ) (t : PlannedStep) → items ≡ steps → AreListed test 0 end (instructions_of steps)
     → k < length items → t ≡ get_or items k t
-    → IsNext test end t.instruction (at_or (turns_at turns) (suc k) end) × (at_or (turns_at turns) k end ≡ t.instruction)
-next_turn test end items turns k t same h lt is =
-    let low : k < length turns = omega (arith, lt, ap (λ (l : List Turn). length l) same) in
-    let place : Turn → ℕ = λ u. u.instruction in
-    let here : get_or (turns_at turns) k 0 ≡ t.instruction =
-    get_or-map place turns k t 0 low ∙ ap (λ (l : List Turn). (get_or l k t).instruction) (sym same) ∙ ap place (sym is) in
-    let n = next_at test end (turns_at turns) (turns_at turns) k refl h (omega (arith, low, length-map turns place)) in
-    (subst (λ (i : ℕ). IsNext test end i (at_or (turns_at turns) (suc k) end)) here n.0, n.1 ∙ here)
+    → IsNext test end t.instruction (at_or (instructions_of steps) (suc k) end) × (at_or (instructions_of steps) k end ≡ t.instruction)
+next_turn test end items steps k t same h lt is =
+    let low : k < length steps = omega (arith, lt, ap (λ (l : List PlannedStep). length l) same) in
+    let place : PlannedStep → ℕ = λ u. u.instruction in
+    let here : get_or (instructions_of steps) k 0 ≡ t.instruction =
+    get_or-map place steps k t 0 low ∙ ap (λ (l : List PlannedStep). (get_or l k t).instruction) (sym same) ∙ ap place (sym is) in
+    let n = next_at test end (instructions_of steps) (instructions_of steps) k refl h (omega (arith, low, length-map steps place)) in
+    (subst (λ (i : ℕ). IsNext test end i (at_or (instructions_of steps) (suc k) end)) here n.0, n.1 ∙ here)
 
-pub turns_count : (turns : List Turn) → length (turns_at turns) ≡ length turns
-turns_count turns = length-map turns (λ (u : Turn). u.instruction)
+pub turns_count : (steps : List PlannedStep) → length (instructions_of steps) ≡ length steps
+turns_count steps = length-map steps (λ (u : PlannedStep). u.instruction)
 
 -- one turn more
-pub more_turns : (test : ℕ → Bool) (f : Program) (registers : Registers) (i : ℕ) (turns after : List Turn) (t : Turn)
-    → after ≡ turns ++ t ∷ [] → t.instruction ≡ i → test i ≡ true → IsResolved f registers t
-    → AreListed test 0 i (turns_at turns) × Each (IsResolved f registers) turns
-    → AreListed test 0 (suc i) (turns_at after) × Each (IsResolved f registers) after
-more_turns test f registers i turns after t more at due resolved so =
-    let place : Turn → ℕ = λ u. u.instruction in
-    let list : turns_at turns ++ i ∷ [] ≡ turns_at after =
-    ap (λ (n : ℕ). turns_at turns ++ n ∷ []) (sym at) ∙ sym (map-append place turns (t ∷ [])) ∙ ap (λ (l : List Turn). turns_at l) (sym more) in (
-      subst (λ (ts : List ℕ). AreListed test 0 (suc i) ts) list (listed_more test 0 i (turns_at turns) so.0 (omega arith) due),
-      subst (Each (IsResolved f registers)) (sym more) (each_pushed (IsResolved f registers) turns t so.1 resolved),
+pub more_turns : (test : ℕ → Bool) (f : Program) (registers : Registers) (i : ℕ) (steps after : List PlannedStep) (t : PlannedStep)
+    → after ≡ steps ++ t ∷ [] → t.instruction ≡ i → test i ≡ true → IsResolved f registers t
+    → AreListed test 0 i (instructions_of steps) × Each (IsResolved f registers) steps
+    → AreListed test 0 (suc i) (instructions_of after) × Each (IsResolved f registers) after
+more_turns test f registers i steps after t more at due resolved so =
+    let place : PlannedStep → ℕ = λ u. u.instruction in
+    let list : instructions_of steps ++ i ∷ [] ≡ instructions_of after =
+    ap (λ (n : ℕ). instructions_of steps ++ n ∷ []) (sym at) ∙ sym (map-append place steps (t ∷ [])) ∙ ap (λ (l : List PlannedStep). instructions_of l) (sym more) in (
+      subst (λ (ts : List ℕ). AreListed test 0 (suc i) ts) list (listed_more test 0 i (instructions_of steps) so.0 (omega arith) due),
+      subst (Each (IsResolved f registers)) (sym more) (each_pushed (IsResolved f registers) steps t so.1 resolved),
     )

@@ -7,7 +7,7 @@ use Rattle.flat_ir.specs.Blocks.{Reading}
 use Rattle.flat_ir.specs.Program.{Work}
 use Rattle.flat_ir.specs.Program.Work.{look, put, del}
 use Rattle.flat_ir.specs.Run.{change_of, made, results, Change}
-use Rattle.server_runtime.specs.Turns.{changed_by}
+use Rattle.server_runtime.specs.StepsTaken.{changed_by}
 
 wanted_made : (first : ℕ) (live takes : Bool) (c : Change) → first ≡ length (made live (if takes then Some c else None))
     → (if first == 1 then made true (Some c) else []) ≡ made live (if takes then Some c else None)

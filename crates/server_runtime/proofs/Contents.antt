@@ -23,9 +23,9 @@ use Rattle.server_runtime.specs.Registers.{contents_of, number_by, reading_of}
 use Rattle.server_runtime.specs.Running.{contents_at, row_of, server_steps}
 use Rattle.server_runtime.specs.Spans.{is_taken, numbers_of, reads_at, values_at, values_kept, values_read}
 use Rattle.server_runtime.proofs.Alike.{turned_alike, IsTurnedAlike}
-use Rattle.server_runtime.proofs.Numbers.{below_suc, count_at, is_named_by, named_parts}
+use Rattle.server_runtime.proofs.Numbers.{below_suc, count_at, each_result, is_named_by, named_parts}
 use Rattle.server_runtime.proofs.Spanned.{found, read_earlier, IsFound}
-use Rattle.lemmas.proofs.Lists.{each_append, each_weaker}
+use Rattle.lemmas.proofs.Lists.{each_weaker}
 use Rattle.transfer_header.proofs.Numbers.{get_or-first_results}
 use Rattle.transfer_header.proofs.Laws.{values_have_their_numbers}
 
@@ -203,35 +203,23 @@ module _ (f : Program) where
           let at : first i + v.result ≡ n = omega (arith, h.number, ap first e) in
           subst (λ k. is_among k (numbers_of f (values_at f i)) ≡ true) at (among_results f i (count_at f i) v.result low)
 
+      owned : (n : ℕ) → is_among n (numbers_of f (values_at f i)) ≡ true → IsFound f (λ v. (is_named f v ≡ true) × (v.instruction ≡ i)) n
+      owned n = found f (λ v. (is_named f v ≡ true) × (v.instruction ≡ i)) n (values_at f i)
+          (each_result (λ v. (is_named f v ≡ true) × (v.instruction ≡ i)) i (count_at f i) (λ r low. (is_named_by f (record { instruction = i; result = r }) lt low, refl)))
+
       own_among : (n : ℕ) (v : ValueId) → slice_get (values_of f) n ≡ Some v → is_among n (numbers_of f (values_at f i)) ≡ true → v.instruction ≡ i
       own_among n v e among =
-          let h = found f (λ w. (is_named f w ≡ true) × (w.instruction ≡ i)) n (values_at f i) (of_results (count_at f i) (omega arith)) among in
-          ap (λ (w : ValueId). w.instruction)
-          (same_Some v h.value (sym e ∙ ap (slice_get (values_of f)) (sym h.number) ∙ values_have_their_numbers f h.value h.holds.0)) ∙ h.holds.1
-        where
-          of_results : (c : ℕ) → c ≤ count_at f i → Each (λ w. (is_named f w ≡ true) × (w.instruction ≡ i)) (first_results i c)
-          of_results zero le = tt
-          of_results (suc c) le =
-              let v : ValueId = record { instruction = i; result = c } in
-              each_append (λ w. (is_named f w ≡ true) × (w.instruction ≡ i)) (first_results i c) (v ∷ []) (of_results c (omega (arith, le))) ((is_named_by f v lt (omega (arith, le)), refl), tt)
+          let h = owned n among in
+          ap (λ (w : ValueId). w.instruction) (same_Some v h.value (sym e ∙ ap (slice_get (values_of f)) (sym h.number) ∙ values_have_their_numbers f h.value h.holds.0)) ∙ h.holds.1
 
       none_among : (n : ℕ) → slice_get (values_of f) n ≡ None → is_among n (numbers_of f (values_at f i)) ≡ false
       none_among n e = elim (cases_Bool (is_among n (numbers_of f (values_at f i)))) [
         | inl among ↦ (
-            let h = in_it among in
-            absurd (none-some _ (sym e ∙ ap (slice_get (values_of f)) (sym h.number) ∙ values_have_their_numbers f h.value h.holds))
+            let h = owned n among in
+            absurd (none-some _ (sym e ∙ ap (slice_get (values_of f)) (sym h.number) ∙ values_have_their_numbers f h.value h.holds.0))
             )
         | inr apart ↦ apart
       ]
-        where
-          of_results : (c : ℕ) → c ≤ count_at f i → Each (λ w. is_named f w ≡ true) (first_results i c)
-          of_results zero le = tt
-          of_results (suc c) le =
-              let v : ValueId = record { instruction = i; result = c } in
-              each_append (λ w. is_named f w ≡ true) (first_results i c) (v ∷ []) (of_results c (omega (arith, le))) (is_named_by f v lt (omega (arith, le)), tt)
-
-          in_it : is_among n (numbers_of f (values_at f i)) ≡ true → IsFound f (λ w. is_named f w ≡ true) n
-          in_it among = found f (λ w. is_named f w ≡ true) n (values_at f i) (of_results (count_at f i) (omega arith)) among
 
       taken_given : is_taken f split i ≡ true → (n : ℕ) (o : Option ValueId) → slice_get (values_of f) n ≡ o → given true n ≡ number_by (next true).reads o
       taken_given taken n None e =

@@ -23,7 +23,7 @@ use Rattle.transfer_header.specs.Steps.{is_among, IsReady, IsSpanOf}
 use Rattle.transfer_header.specs.Told.{reads_in, value_among, AreToldByPlace, IsToldByPlace}
 use Rattle.server_runtime.specs.Registers.{contents_of, handed, number_by, AreServing}
 use Rattle.server_runtime.specs.Spans.{reads_at, server_spans, writes_at}
-use Rattle.server_runtime.specs.Turns.{IsRead}
+use Rattle.server_runtime.specs.StepsTaken.{IsRead}
 use Rattle.server_runtime.proofs.Contents.{reads_back, there}
 use Rattle.server_runtime.proofs.Needed.{up_among}
 use Rattle.server_runtime.proofs.Spanned.{are_spans, writer}

@@ -41,7 +41,7 @@ use Rattle.server_runtime.specs.Registers.{AreServing, HaveRegisters}
 use Rattle.server_runtime.specs.Running.{contents_at, number_at, server_steps}
 use Rattle.server_runtime.specs.Serving.{IsUpdateIn, IsWholeRun, evaluated_steps, followed_writes, is_followed, packet_frame, updates_of}
 use Rattle.server_runtime.specs.Spans.{is_turn, server_spans}
-use Rattle.server_runtime.specs.Turns.{HasRoomFor, HasTurned, IsBegun, IsOutcome, IsRead, IsServing, sent_by}
+use Rattle.server_runtime.specs.StepsTaken.{HasRoomFor, IsStepTaken, IsBegun, IsOutcome, IsRead, IsServing, sent_by}
 use Rattle.server_runtime.specs.Walks.{is_due}
 use Rattle.server_runtime.specs.declared.run.Ran.{Ran}
 use Rattle.split_model.proofs.Fitness.{alone_fits, alone_handed, crossing_alone}
@@ -131,7 +131,7 @@ a_frame_is_read-read f split frame before after head well serving bytes here =
     (frames_are_told_by_place-up f split 1 head.number head.port (value_in after) (drop head.packet_at frame) frame here.is)
     before head here (frames_are_told_by_place-unpacked 1 (up_layout f split) frame before after head here) bytes
 
--- A run that goes on has registers for its next turn, a store that keeps what was declared, and room for what the
+-- A run that goes on has registers for its next step, a store that keeps what was declared, and room for what the
 -- switch is told. The turn that is taken then is that of the run. Where none is due, the run goes on with what it has.
 pub a_server_takes_turns-has : (f : Program) (split : List Part) (up : Reading) (st : Store) (packet : Packet) (i : ℕ)
     (registers : Registers) (now : Store) (updates : List Update)
@@ -160,7 +160,7 @@ pub a_server_takes_turns-next : (f : Program) (split : List Part) (up : Reading)
     (after : Registers) (later : Store) (told : List Update)
     → IsBegun f split up st packet → IsServing f split up st packet i registers now updates
     → i < length f.code → is_turn f split i ≡ true
-    → HasTurned f split packet i registers now after later updates told
+    → IsStepTaken f split packet i registers now after later updates told
     → IsServing f split up st packet (i + 1) after later told
 a_server_takes_turns-next f split up st packet i registers now updates after later told begun so lt mine turned =
     serving_more f begun.formed split up st packet i lt registers now updates so mine after later told turned
@@ -173,7 +173,7 @@ pub a_server_takes_turns-idle : (f : Program) (split : List Part) (up : Reading)
 a_server_takes_turns-idle f split up st packet i n registers now updates begun so le within idle =
     serving_later f split up st packet registers now updates begun.formed i n le within idle so
 
--- Once all turns are taken, the registers serve for what goes down, and the outcome is that of the run.
+-- Once all steps are taken, the registers serve for what goes down, and the outcome is that of the run.
 pub a_server_run_has_an_outcome-fits : (f : Program) (split : List Part) (up : Reading) (st : Store) (packet : Packet)
     (registers : Registers) (now : Store) (updates : List Update)
     → IsBegun f split up st packet → IsServing f split up st packet (length f.code) registers now updates

@@ -18,7 +18,7 @@ pub mod Running
 pub mod Spanned
 pub mod Steps
 pub mod Told
-pub mod Turned
+pub mod StepTaken
 pub mod Walked
 pub mod Wholes
 pub mod Laws

@@ -46,8 +46,8 @@ numbers_within f vs h =
 
 -- ## What a step reads
 
-pub turn_reads : (f : Program) (split : List Part) (i n : ℕ) → i < length f.code → reads_at f split (suc i) n ≡ (is_turn f split i && is_among n (numbers_of f (values_read f i)))
-turn_reads f split i n lt =
+pub step_reads : (f : Program) (split : List Part) (i n : ℕ) → i < length f.code → reads_at f split (suc i) n ≡ (is_turn f split i && is_among n (numbers_of f (values_read f i)))
+step_reads f split i n lt =
     ap (λ (b : Bool). (is_taken f split i && is_among n (numbers_of f (values_read f i))) || (b && is_among n (numbers_of f (values_kept f split)))) (ne_eqb i (length f.code) (λ e. omega (arith, e, lt)))
     ∙ or_none (is_taken f split i && is_among n (numbers_of f (values_read f i)))
     ∙ ap (λ (b : Bool). (b && is_turn f split i) && is_among n (numbers_of f (values_read f i))) (lt-ltb i (length f.code) lt)

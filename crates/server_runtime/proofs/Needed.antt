@@ -27,8 +27,9 @@ use Rattle.server_runtime.specs.Registers.{AreServing}
 use Rattle.server_runtime.specs.Spans.{is_taken, is_turn, last_read, numbers_of, reads_at, server_spans, span_from, values_at, values_kept, values_read, writes_at}
 use Rattle.server_runtime.proofs.Contents.{among_filtered, among_results}
 use Rattle.server_runtime.proofs.Numbers.{below_all, count_at, named_parts}
-use Rattle.server_runtime.proofs.Spanned.{all_among, are_spans, has_span, writer, writes_within, HasSpan}
+use Rattle.server_runtime.proofs.Spanned.{all_among, are_spans, writer, writes_within}
 use Rattle.transfer_header.proofs.LayoutValues.{same_places}
+use Rattle.transfer_header.proofs.Members.{has_span, HasSpan}
 use Rattle.transfer_header.proofs.Laws.{values_have_their_numbers}
 
 -- ## Registers in the same places

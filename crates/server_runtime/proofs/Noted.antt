@@ -14,7 +14,7 @@ use Rattle.transfer_header.specs.BlockSteps.{greatest_below, step_if}
 use Rattle.transfer_header.specs.Steps.{is_among}
 use Rattle.server_runtime.specs.Noting.{is_condition_of, is_operand_at, is_written_at}
 use Rattle.server_runtime.specs.Spans.{conditions_of, is_taken, is_turn, last_below, numbers_of, reads_at, values_read}
-use Rattle.server_runtime.proofs.Listed.{turn_reads}
+use Rattle.server_runtime.proofs.Listed.{step_reads}
 use Rattle.server_runtime.proofs.Numbers.{below_all, named_parts}
 
 -- ## The last step that passes a test
@@ -81,19 +81,19 @@ spread true a b = refl
 spread false a b = refl
 
 -- a step reads what is an operand there, or guards the write that it makes
-step_reads : (f : Program) (split : List Part) (n i : ℕ) → i < length f.code
+read_at_a_step : (f : Program) (split : List Part) (n i : ℕ) → i < length f.code
     → reads_at f split (suc i) n ≡ (is_operand_at f split n (suc i) || is_written_at f split (guards f n) (suc i))
-step_reads f split n i lt =
+read_at_a_step f split n i lt =
     let one = step_at f i in
     let a = is_among n (numbers_of f (operands one.work)) in
     let b = is_write one.work && guards f n one.block in
-    turn_reads f split i n lt ∙ ap (λ t. t && is_among n (numbers_of f (values_read f i))) (sym (taken_is f split i lt))
+    step_reads f split i n lt ∙ ap (λ t. t && is_among n (numbers_of f (values_read f i))) (sym (taken_is f split i lt))
     ∙ ap (λ x. is_taken f split i && x) (among_read f i n) ∙ spread (is_taken f split i) a b
 
 each_step : (f : Program) (split : List Part) (n k : ℕ) → k < length f.code + 1
     → reads_at f split k n ≡ (is_operand_at f split n k || is_written_at f split (guards f n) k)
 each_step f split n zero lt = refl
-each_step f split n (suc i) lt = step_reads f split n i (omega (arith, lt))
+each_step f split n (suc i) lt = read_at_a_step f split n i (omega (arith, lt))
 
 -- what is noted of all instructions
 pub all_noted : (f : Program) (split : List Part) (n : ℕ)

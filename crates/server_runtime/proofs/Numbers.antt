@@ -1,11 +1,13 @@
 -- The numbers of values.
 use Rattle.std.proofs.Common.{◌≡◌, ◌+◌, ◌-◌, ◌<◌, ◌≤◌, ℕ, zero, suc, Bool, true, false, List, [], ◌∷◌, ◌++◌, length, get_or, nat_lt, refl, sym, ap, ◌∙◌, arith, add-one, length-append, ⊎_elim, Some, None, if◌then◌else◌}
+use Rattle.std.specs.List.{AllByRecursion as Each}
 use Rattle.std.proofs.lemmas.Bool.{and_from, and_parts, lt-ltb, ltb-true, cond-true}
 use Rattle.std.proofs.lemmas.List.{get_or_push, get_or_append_left}
 use Rattle.std.proofs.Math.Nat.{eq-or-lt_of_le}
 use Rattle.flat_ir.specs.declared.program.ValueId.{ValueId}
 use Rattle.flat_ir.specs.Program.{is_named, result_count, step_at, Program}
 use Rattle.split_model.specs.Layouts.{first_results, number_of, values_below, values_of}
+use Rattle.lemmas.proofs.Lists.{each_append}
 use Rattle.split_model.proofs.Numbering.{count_results}
 
 abbrev pub count_at : Program → ℕ → ℕ
@@ -25,6 +27,12 @@ each_more g xs y n count each last k lt =
     (λ e. rw e (get_or_push xs y 0 n count ∙ last))
     (λ less. get_or_append_left xs (y ∷ []) 0 k (omega (arith, less, count)) ∙ each k less)
     (eq-or-lt_of_le {n = k} {m = n} (omega (arith, lt)))
+
+-- what holds of each of an instruction's first results
+pub each_result : (P : ValueId → Type 0) (i n : ℕ) → ((r : ℕ) → r < n → P (record { instruction = i; result = r })) → Each P (first_results i n)
+each_result P i zero h = tt
+each_result P i (suc n) h =
+    each_append P (first_results i n) (record { instruction = i; result = n } ∷ []) (each_result P i n (λ r low. h r (omega (arith, low)))) (h n (omega arith), tt)
 
 -- ## Where they stand
 

@@ -23,7 +23,7 @@ use Rattle.server_runtime.specs.declared.run.Ran.{Ran}
 use Rattle.server_runtime.specs.Registers.{handed, register_reads}
 use Rattle.server_runtime.specs.Running.{contents_at, server_steps}
 use Rattle.server_runtime.specs.Spans.{numbers_of, server_spans, values_kept}
-use Rattle.server_runtime.specs.Turns.{IsOutcome, IsRead}
+use Rattle.server_runtime.specs.StepsTaken.{IsOutcome, IsRead}
 use Rattle.server_runtime.proofs.Alike.{each_right}
 use Rattle.server_runtime.proofs.Contents.{each_among, each_and, reading_is, reads_back}
 use Rattle.server_runtime.proofs.Needed.{down_kept, down_named, kept_read}

@@ -21,10 +21,11 @@ use Rattle.server_runtime.specs.Registers.{register_reads, HaveRegisters}
 use Rattle.server_runtime.specs.Running.{contents_at, number_at, row_of, server_steps}
 use Rattle.server_runtime.specs.Serving.{followed_writes, is_followed, updates_of}
 use Rattle.server_runtime.specs.Spans.{is_taken, is_turn, numbers_of, server_spans, values_at, writes_at}
-use Rattle.server_runtime.specs.Turns.{registers_behind, HasTurned, IsServing}
+use Rattle.server_runtime.specs.StepsTaken.{registers_behind, IsStepTaken, IsServing}
 use Rattle.server_runtime.proofs.Alike.{IsTurnedAlike}
 use Rattle.server_runtime.proofs.Contents.{among_results, contents_after, looks_at_reads, turn_alike}
-use Rattle.server_runtime.proofs.Spanned.{are_spans, has_span}
+use Rattle.server_runtime.proofs.Spanned.{are_spans}
+use Rattle.transfer_header.proofs.Members.{has_span}
 use Rattle.server_runtime.proofs.Told.{told_few, updates_append}
 use Rattle.transfer_header.proofs.Laws.{a_step_in_registers}
 
@@ -62,8 +63,8 @@ module _ (f : Program) (well : IsWellFormed f) (split : List Part) (up : Reading
     taken_is = ap (λ b. b && is_turn f split i) (lt-ltb i (length f.code) lt)
 
     -- from what the registers hold the turn is that of the run
-    turns : is_turn f split i ≡ true → IsTurnedAlike f packet i m.store (register_reads f registers) m.reads
-    turns mine =
+    steps : is_turn f split i ≡ true → IsTurnedAlike f packet i m.store (register_reads f registers) m.reads
+    steps mine =
         turn_alike f well split up start packet i lt (content_of registers) (taken_is ∙ mine) alike.reads
 
     -- the run's turn is the server's
@@ -73,7 +74,7 @@ module _ (f : Program) (well : IsWellFormed f) (split : List Part) (up : Reading
     changes_by : is_turn f split i ≡ true
         → updates_of f split m.changes ++ updates_of f split (turn f packet i (register_reads f registers) st).changes ≡ updates_of f split (next (is_turn f split i)).changes
     changes_by mine =
-        ap (λ cs. updates_of f split m.changes ++ updates_of f split cs) (ap (λ s. (turn f packet i (register_reads f registers) s).changes) so.store ∙ (turns mine).changes)
+        ap (λ cs. updates_of f split m.changes ++ updates_of f split cs) (ap (λ s. (turn f packet i (register_reads f registers) s).changes) so.store ∙ (steps mine).changes)
         ∙ sym (updates_append f split m.changes (turn f packet i m.reads m.store).changes) ∙ ap (λ (n : Machine). updates_of f split n.changes) (went mine)
 
     -- the registers behind the step
@@ -83,7 +84,7 @@ module _ (f : Program) (well : IsWellFormed f) (split : List Part) (up : Reading
         (λ n. cond b (slice_index (row_of f packet i (register_reads f registers) m.store) (n - length (values_below f i))) 0)
 
     module _ (mine : is_turn f split i ≡ true) (after : Registers) (st' : Store) (updates' : List Update)
-        (turned : HasTurned f split packet i registers st after st' updates updates') where
+        (turned : IsStepTaken f split packet i registers st after st' updates updates') where
       after_is : registers_after (server_steps f split up start packet) registers (suc i) ≡ after
       after_is = ap behind (taken_is ∙ mine) ∙ ap (registers_behind f packet i registers) (sym so.store) ∙ sym turned.registers
 
@@ -92,7 +93,7 @@ module _ (f : Program) (well : IsWellFormed f) (split : List Part) (up : Reading
           subst (λ n. IsServing f split up start packet n after st' updates') (sym (add-one i)) (record {
             ready = subst (λ contents. IsReady (server_spans f split) after contents (suc i + 1)) (contents_after f well split up start packet i lt)
                 (subst (λ r. IsReady (server_spans f split) r (reading_after (server_steps f split up start packet) (contents_at f split up start packet i) (suc i)) (suc i + 1)) after_is alike.next);
-            store = turned.store ∙ ap (λ s. (turn f packet i (register_reads f registers) s).store) so.store ∙ (turns mine).store ∙ ap (λ (n : Machine). n.store) (went mine);
+            store = turned.store ∙ ap (λ s. (turn f packet i (register_reads f registers) s).store) so.store ∙ (steps mine).store ∙ ap (λ (n : Machine). n.store) (went mine);
             told = turned.told ∙ ap (λ l. l ++ updates_of f split (turn f packet i (register_reads f registers) st).changes) so.told ∙ changes_by mine;
           })
 

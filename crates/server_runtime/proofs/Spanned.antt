@@ -1,6 +1,6 @@
 -- The spans of a server's run are spans of what its steps write and read.
 use Rattle.std.proofs.Common.{◌≡◌, ◌+◌, ◌<◌, ◌≤◌, ◌==◌, ◌&&◌, ℕ, zero, suc, Bool, true, false, cond, List, [], ◌∷◌, ◌++◌, map, length, get_or, nat_lt, slice_get, refl, sym, ap, ◌∙◌, arith, inl, inr, true≢false, not}
-use Rattle.std.specs.Prelude.{All, Contains, count_by}
+use Rattle.std.specs.Prelude.{All, count_by}
 use Rattle.std.specs.List.{filter, AllByRecursion as Each}
 use Rattle.std.proofs.lemmas.Bool.{and_parts, cases_Bool, cases_eq, cases_lt, cond-true, cond-false, eq-eqb, eqb-true, le-ltb, lt-ltb, ltb-true, ne_eqb, or_cases, or_parts}
 use Rattle.std.proofs.lemmas.List.{get_or_past, map-append}
@@ -26,7 +26,7 @@ use Rattle.split_model.specs.Passes.{server_fields}
 use Rattle.split_model.specs.Split.{is_carried, is_carried_up, is_served, is_server, part_at}
 use Rattle.transfer_header.specs.Steps.{is_among, AreSpansOf, Contents, IsSpanOf, Steps}
 use Rattle.server_runtime.specs.Spans.{conditions_of, is_taken, last_below, numbers_of, reads_at, server_spans, span_from, spans_below, values_at, values_kept, values_read, writes_at}
-use Rattle.server_runtime.proofs.Numbers.{below_suc, is_named_by, named_parts}
+use Rattle.server_runtime.proofs.Numbers.{below_suc, each_result, is_named_by, named_parts}
 use Rattle.lemmas.proofs.Lists.{each_append, each_both, each_filter, each_map, each_weaker}
 use Rattle.transfer_header.proofs.Laws.{values_have_their_numbers}
 
@@ -60,27 +60,6 @@ no_times value [] e = refl
 no_times value (v ∷ vs) e =
     let parts = or_parts (v == value) (is_among value vs) e in
     omega (arith, times_cons value v vs, ap one_if parts.0, no_times value vs parts.1)
-
--- the span of a value
-pub record HasSpan (spans : List Span) (value : ℕ) : Type 0 where
-  pub span : Span
-  pub there : Contains spans span
-  pub same : span.value ≡ value
-
-later_span : (first : Span) (spans : List Span) (value : ℕ) → HasSpan spans value → HasSpan (first ∷ spans) value
-later_span first spans value h = record { span = h.span; there = (suc h.there.0, omega (arith, h.there.1), h.there.2); same = h.same }
-
-pub has_span : (spans : List Span) (value : ℕ) → 0 < spans_of spans value → HasSpan spans value
-has_span [] value some = absurd (omega (arith, some))
-has_span (first ∷ spans) value some = elim (cases_eq first.value value) [
-  | inl same ↦ record { span = first; there = (0, omega arith, refl); same = same }
-  | inr other ↦ later_span first spans value (has_span spans value (omega (
-    arith,
-    some,
-    sum_by-cons (λ (s : Span). one_if (s.value == value)) first spans,
-    ap one_if (ne_eqb first.value value other),
-  )))
-]
 
 -- each of a list's numbers is among them
 pub all_among : (xs : List ℕ) → All (λ x. is_among x xs ≡ true) xs
@@ -210,19 +189,17 @@ module _ (f : Program) (split : List Part) (well : IsWellFormed f) where
     | inr e ↦ e
   ]
 
-  results_written : (i : ℕ) → is_taken f split i ≡ true → (c : ℕ) → c ≤ result_count f.objects (step_at f i).work → Each (IsWrittenAt (suc i)) (first_results i c)
-  results_written i taken zero le = tt
-  results_written i taken (suc c) le =
+  results_written : (i : ℕ) → is_taken f split i ≡ true → Each (IsWrittenAt (suc i)) (values_at f i)
+  results_written i taken = each_result (IsWrittenAt (suc i)) i (result_count f.objects (step_at f i).work) (λ c low.
       let v : ValueId = record { instruction = i; result = c } in
-      each_append (IsWrittenAt (suc i)) (first_results i c) (v ∷ []) (results_written i taken c (omega (arith, le)))
-      ((is_named_by f v (ltb-true i (length f.code) (and_parts _ _ taken).0) (omega (arith, le)), sym (cond-false (crosses_up f split v) 0 (suc i) (taken_stays v taken))), tt)
+      (is_named_by f v (ltb-true i (length f.code) (and_parts _ _ taken).0) low, sym (cond-false (crosses_up f split v) 0 (suc i) (taken_stays v taken))))
 
   pub writer : (step n : ℕ) → is_among n (writes_at f split step) ≡ true → IsFound f (IsWrittenAt step) n
   writer zero n e = found f (IsWrittenAt 0) n (up_values f split) up_written e
   writer (suc i) n e = by_test (is_taken f split i) refl e
     where
       by_test : (b : Bool) → is_taken f split i ≡ b → is_among n (cond b (numbers_of f (values_at f i)) []) ≡ true → IsFound f (IsWrittenAt (suc i)) n
-      by_test true taken e = found f (IsWrittenAt (suc i)) n (values_at f i) (results_written i taken (result_count f.objects (step_at f i).work) (omega arith)) e
+      by_test true taken e = found f (IsWrittenAt (suc i)) n (values_at f i) (results_written i taken) e
       by_test false taken e = absurd (true≢false (sym e))
 
   pub one_step : (n step other : ℕ) → is_among n (writes_at f split step) ≡ true → is_among n (writes_at f split other) ≡ true → step ≡ other

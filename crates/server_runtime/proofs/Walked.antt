@@ -1,4 +1,4 @@
--- Between the turns that are due a run goes on with what it has.
+-- Between the steps that are due a run goes on with what it has.
 use Rattle.std.proofs.Common.{◌≡◌, ◌+◌, ◌<◌, ◌≤◌, ◌||◌, ℕ, zero, suc, Bool, true, false, cond, max, List, [], ◌∷◌, ◌++◌, map, length, get_or, nat_lt, refl, sym, ap, ◌∙◌, subst, arith, add-one, inl, inr, true≢false, ⊎_elim}
 use Rattle.std.specs.Prelude.{All, Contains}
 use Rattle.std.proofs.lemmas.Bool.{and_parts, cases_Bool, cases_eq, cond-false, cond-true, ltb-false, ne_eqb}
@@ -24,7 +24,7 @@ use Rattle.writeback_table.specs.declared.command.Update.{Update}
 use Rattle.server_runtime.specs.Running.{contents_at, number_at, server_steps}
 use Rattle.server_runtime.specs.Serving.{updates_of}
 use Rattle.server_runtime.specs.Spans.{is_taken, is_turn, last_read, numbers_of, server_spans, span_from, spans_below, values_at, writes_at}
-use Rattle.server_runtime.specs.Turns.{IsServing}
+use Rattle.server_runtime.specs.StepsTaken.{IsServing}
 use Rattle.server_runtime.specs.Walks.{is_due, AreListed}
 use Rattle.server_runtime.proofs.Numbers.{below_all}
 use Rattle.split_model.proofs.Sights.{none_made}

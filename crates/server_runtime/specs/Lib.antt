@@ -5,6 +5,6 @@ pub mod Registers
 pub mod Resolved
 pub mod Running
 pub mod Serving
-pub mod Turns
+pub mod StepsTaken
 pub mod Views
 pub mod Noting

@@ -1,4 +1,4 @@
--- The turns of a server's run, with the places of operands and results among the registers.
+-- The steps of a server's run, with the places of operands and results among the registers.
 use Rattle.std.specs.Prelude.{◌≡◌, ℕ, ◌<◌, List, length, map, slice_index}
 use Rattle.std.specs.List.{AllByRecursion as Each}
 use Rattle.flat_ir.specs.declared.program.ValueId.{ValueId}
@@ -7,12 +7,12 @@ use Rattle.flat_ir.specs.Program.{Program, result_count, step_at}
 use Rattle.flat_ir.specs.Renaming.{renamed}
 use Rattle.transfer_header.specs.Ready.{named, places_of, ready_work}
 use Rattle.transfer_header.specs.Registers.{Registers}
-use Rattle.server_runtime.specs.declared.plan.Turn.{Turn}
+use Rattle.server_runtime.specs.declared.plan.PlannedStep.{PlannedStep}
 use Rattle.server_runtime.specs.Registers.{place_in, AreSeats}
 
--- the instructions at which turns are taken
-abbrev pub turns_at : List Turn → List ℕ
-turns_at turns = map (λ (t : Turn). t.instruction) turns
+-- the instructions at which steps are taken
+abbrev pub instructions_of : List PlannedStep → List ℕ
+instructions_of steps = map (λ (t : PlannedStep). t.instruction) steps
 
 -- a value, named by the place of its number
 abbrev pub place_name : Program → Registers → ValueId → ValueId
@@ -25,13 +25,13 @@ pub record ArePlaces (f : Program) (registers : Registers) (i : ℕ) (places : L
       → slice_index places k ≡ place_in f registers (record { instruction = i; result = k })
 
 -- a turn's instruction by place: it does the same with the numbers at the places of its operands
-pub record IsResolved (f : Program) (registers : Registers) (t : Turn) : Type 0 where
-  pub work : ready_work t.step.kind ≡ renamed (place_name f registers) (step_at f t.instruction).work
-  pub can : CanRun (ready_work t.step.kind)
-  pub places : ArePlaces f registers t.instruction (places_of t.step.places)
+pub record IsResolved (f : Program) (registers : Registers) (t : PlannedStep) : Type 0 where
+  pub work : ready_work t.ready.kind ≡ renamed (place_name f registers) (step_at f t.instruction).work
+  pub can : CanRun (ready_work t.ready.kind)
+  pub places : ArePlaces f registers t.instruction (places_of t.ready.places)
 
 -- what was found beforehand of where numbers stand: for each instruction its first value's, and for each turn those of
 -- its operands and results
-pub record AreResolved (f : Program) (places : List ℕ) (taken : List Turn) (registers : Registers) : Type 0 where
+pub record AreResolved (f : Program) (places : List ℕ) (taken : List PlannedStep) (registers : Registers) : Type 0 where
   pub seats : AreSeats f places registers
-  pub turns : Each (IsResolved f registers) taken
+  pub steps : Each (IsResolved f registers) taken

@@ -26,5 +26,5 @@ AreListed test first end (i ∷ rest) =
     × AreListed test (suc i) end rest
 
 -- the instructions at which a turn is due, in order
-abbrev pub AreTurns : Program → List Part → List ℕ → Type 0
-AreTurns f split turns = AreListed (is_due f split) 0 (length f.code) turns
+abbrev pub AreDue : Program → List Part → List ℕ → Type 0
+AreDue f split steps = AreListed (is_due f split) 0 (length f.code) steps

@@ -1,6 +1,7 @@
 //! The server: it gives what a split program leaves to it, over its own store.
 #![tactic(auto)]
 
+mod allocation;
 mod plan;
 mod registers;
 mod resolved;
@@ -8,8 +9,7 @@ mod room;
 mod run;
 mod served;
 mod server;
-mod spans;
-mod turn;
+mod step;
 
 pub use served::{ServeError, Served};
 pub use server::Server;

@@ -1,12 +1,12 @@
 //! A split program, and what the server works out of it beforehand.
-ghost use Rattle.std.specs.Prelude.{◌≡◌, ◌<◌, ◌≤◌, ◌^◌, ◌&&◌, not, List, Some, None, length, IfOk, IsTrue, if◌then◌else◌};
+ghost use Rattle.std.specs.Prelude.{◌≡◌, ◌<◌, ◌≤◌, ◌&&◌, not, List, Some, None, length, IfOk, IsTrue, if◌then◌else◌};
 ghost use Rattle.flat_ir.specs.Fits.{fits};
 ghost use Rattle.flat_ir.specs.Kinds.{is_input};
 ghost use Rattle.flat_ir.specs.Program.{is_named, program_of, work_of, Program};
 ghost use Rattle.flat_ir.specs.WellFormed.{IsWellFormed};
 ghost use Rattle.split_model.specs.declared.split.Part.{Part};
 ghost use Rattle.split_model.specs.Bounds.{IsBounded};
-ghost use Rattle.split_model.specs.Layouts.{down_layout, number_of, up_layout, values_below, values_of};
+ghost use Rattle.split_model.specs.Layouts.{number_of, values_below, values_of};
 ghost use Rattle.split_model.specs.Legal.{IsLegal};
 ghost use Rattle.split_model.specs.Passes.{server_fields};
 ghost use Rattle.split_model.specs.Shown.{is_replicated};
@@ -15,20 +15,20 @@ ghost use Rattle.server_runtime.specs.Plans.{AreReplicated, IsPrepared};
 ghost use Rattle.server_runtime.specs.Registers.{AreFirsts};
 ghost use Rattle.server_runtime.specs.Serving.{evaluated_steps, followed_writes, is_followed};
 
-use crate::spans::{Course, course_of};
+use crate::allocation::{Allocation, allocate};
 use flat_ir::{FieldValue, Flat, InstrKind, ValueId};
 use gal_io::NoMemory;
-use split_model::{Layout, Split, down_layout, replicated, up_layout};
+use split_model::{Layout, Layouts, Split, replicated};
 use std::alloc::Global;
 use std::marker::Model;
 use transfer_header::{ReadyStep, Regs};
 
-/// A turn that a run takes at an instruction, with the places of its operands and results among the registers.
+/// A step that a run takes at an instruction, with the places of its operands and results among the registers.
 #[derive(Debug, Drop)]
-pub(crate) struct Turn {
+pub(crate) struct PlannedStep {
     /// The instruction's place in the code.
     pub instruction: u32,
-    pub step: ReadyStep,
+    pub ready: ReadyStep,
 }
 
 /// A split program, and what is looked up in it at each packet.
@@ -43,8 +43,8 @@ pub(crate) struct PreparedProgram {
     pub firsts: Vec<u32>,
     /// Where the number of each instruction's first value stands among the registers. Empty until these are planned.
     pub seats: Vec<u32>,
-    /// The turns that a run takes, in order. Empty until registers are planned.
-    pub turns: Vec<Turn>,
+    /// The steps that a run takes, in order. Empty until registers are planned.
+    pub steps: Vec<PlannedStep>,
     /// The fields that the server sets.
     pub fields: Vec<FieldValue>,
     /// Whether the object is replicated, for each object.
@@ -67,8 +67,8 @@ impl Model for ServerPlan {
     ghost use Rattle.server_runtime.specs.Plans as plans;
     ghost use Rattle.server_runtime.specs.Plans.{IsPrepared};
     ghost use Rattle.server_runtime.specs.Registers.{AreServing};
-    ghost use Rattle.server_runtime.specs.Resolved.{turns_at, AreResolved};
-    ghost use Rattle.server_runtime.specs.Walks.{AreTurns};
+    ghost use Rattle.server_runtime.specs.Resolved.{instructions_of, AreResolved};
+    ghost use Rattle.server_runtime.specs.Walks.{AreDue};
 
     ghost Value = { plans.ServerPlan };
 
@@ -76,8 +76,8 @@ impl Model for ServerPlan {
 
     ghost invariant = { λ plan. IsPrepared plan.whole
         × AreServing (program_of plan.whole.flat) plan.whole.split plan.values
-        × AreResolved (program_of plan.whole.flat) plan.whole.seats.items plan.whole.turns.items plan.values
-        × AreTurns (program_of plan.whole.flat) plan.whole.split (turns_at plan.whole.turns.items) };
+        × AreResolved (program_of plan.whole.flat) plan.whole.seats.items plan.whole.steps.items plan.values
+        × AreDue (program_of plan.whole.flat) plan.whole.split (instructions_of plan.whole.steps.items) };
 }
 
 impl ServerPlan {
@@ -89,35 +89,13 @@ impl ServerPlan {
         ensures split { IfOk result (λ plan. plan.split ≡ s.now) }
     {
         let mut whole = PreparedProgram::of(alloc, f, s)?;
-        let Course {
+        let Allocation {
             values,
             seats,
-            turns,
-        } = course_of(alloc, &whole)?;
-        whole.take_course(seats, turns);
+            steps,
+        } = allocate(alloc, &whole)?;
+        whole.take_allocation(seats, steps);
         Ok(ServerPlan { whole, values })
-    }
-}
-
-// The values that are handed up, and those that are handed down.
-#[derive(Drop)]
-struct Layouts {
-    up: Layout,
-    down: Layout,
-}
-
-impl Layouts {
-    // Those of a split program.
-    fn of(alloc: Global, f: &Flat, s: &Split) -> Result<Layouts, NoMemory>
-        requires { IsBounded (program_of f.now) }
-        ensures up { IfOk result (λ made. made.up ≡ up_layout (program_of f.now) s.now) }
-        ensures down { IfOk result (λ made. made.down ≡ down_layout (program_of f.now) s.now) }
-        ensures few { IfOk result (λ made. length made.down < 2 ^ 32) }
-    {
-        Ok(Layouts {
-            up: up_layout(alloc, f, s)?,
-            down: down_layout(alloc, f, s)?,
-        })
     }
 }
 
@@ -130,7 +108,7 @@ struct Lists {
 }
 
 impl Lists {
-    // Those of a split program.
+    // Of a split program.
     fn of(alloc: Global, f: &Flat, s: &Split) -> Result<Lists, NoMemory>
         requires code { length f.now.code ≤ 4096 }
         requires objects { length f.now.objects ≤ 64 }
@@ -260,7 +238,7 @@ impl PreparedProgram {
             down: layouts.down,
             firsts: lists.firsts,
             seats: Vec::new(alloc),
-            turns: Vec::new(alloc),
+            steps: Vec::new(alloc),
             fields: lists.fields,
             followed: lists.followed,
             writes,
@@ -268,17 +246,17 @@ impl PreparedProgram {
         })
     }
 
-    // Takes the places of the instructions' first values, and the turns of a run.
-    fn take_course(&mut self, seats: Vec<u32>, turns: Vec<Turn>)
+    // Takes the places of the instructions' first values, and the steps of a run.
+    fn take_allocation(&mut self, seats: Vec<u32>, steps: Vec<PlannedStep>)
         requires { IsPrepared self.old }
         ensures prepared { IsPrepared self.new }
         ensures seats { self.new.seats ≡ seats }
-        ensures turns { self.new.turns ≡ turns }
+        ensures steps { self.new.steps ≡ steps }
         ensures flat { self.new.flat ≡ self.old.flat }
         ensures split { self.new.split ≡ self.old.split }
     {
         self.seats = seats;
-        self.turns = turns;
+        self.steps = steps;
     }
 
     /// The number of an instruction's first value.

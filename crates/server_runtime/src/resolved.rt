@@ -7,7 +7,7 @@ ghost use Rattle.server_runtime.specs.Plans.{IsPrepared};
 ghost use Rattle.server_runtime.specs.Registers.{place_in, AreSeats};
 ghost use Rattle.server_runtime.specs.Resolved.{place_name, ArePlaces, IsResolved};
 
-use crate::plan::{PreparedProgram, Turn};
+use crate::plan::{PlannedStep, PreparedProgram};
 use flat_ir::{Renaming, ValueId, what_fits_can_run};
 use gal_io::NoMemory;
 use std::alloc::Global;
@@ -107,13 +107,13 @@ pub(crate) fn seats_of(
     Ok(seats)
 }
 
-/// The turn at an instruction.
-pub(crate) fn turn_at(
+/// The step at an instruction.
+pub(crate) fn planned_step(
     alloc: Global,
     whole: &PreparedProgram,
     values: &Regs,
     instruction: usize,
-) -> Result<Turn, NoMemory>
+) -> Result<PlannedStep, NoMemory>
     requires prepared { IsPrepared whole.now }
     requires within { instruction < length whole.now.flat.code }
     ensures instruction { IfOk result (λ made. made.instruction ≡ instruction) }
@@ -124,8 +124,8 @@ pub(crate) fn turn_at(
     let resolved = Resolved { whole, values };
     let kind = ReadyKind::of(alloc, &instr.kind, &resolved)?;
     let places = resolved.places(alloc, instruction)?;
-    Ok(Turn {
+    Ok(PlannedStep {
         instruction: instruction as u32,
-        step: ReadyStep { kind, places },
+        ready: ReadyStep { kind, places },
     })
 }

@@ -16,17 +16,17 @@ ghost use Rattle.transfer_header.specs.Steps.{IsReady};
 ghost use Rattle.transfer_header.specs.Told.{number_in, packet_in, reads_in};
 ghost use Rattle.server_runtime.specs.Plans.{IsPrepared};
 ghost use Rattle.server_runtime.specs.Registers.{contents_of, handed, register_reads, AreSeats, AreServing};
-ghost use Rattle.server_runtime.specs.Resolved.{turns_at, AreResolved};
+ghost use Rattle.server_runtime.specs.Resolved.{instructions_of, AreResolved};
 ghost use Rattle.server_runtime.specs.Serving.{followed_writes};
 ghost use Rattle.server_runtime.specs.Spans.{server_spans};
-ghost use Rattle.server_runtime.specs.Turns.{IsOutcome, IsRead, IsServing};
-ghost use Rattle.server_runtime.specs.Walks.{AreTurns};
+ghost use Rattle.server_runtime.specs.StepsTaken.{IsOutcome, IsRead, IsServing};
+ghost use Rattle.server_runtime.specs.Walks.{AreDue};
 
 use crate::plan::{PreparedProgram, ServerPlan};
 use crate::registers::Registers;
 use crate::room::Room;
 use crate::served::ServeError;
-use crate::turn::take_turn;
+use crate::step::take_step;
 use flat_ir::{Arrival, write_fields};
 use gal_io::Bytes;
 use packet_fields::Shape;
@@ -48,8 +48,8 @@ pub(crate) struct Ran {
     pub evaluated: u32,
 }
 
-// All turns of the server, in order. What the switch is told goes into `updates`, which has room for it.
-fn take_turns(
+// All steps of the server, in order. What the switch is told goes into `updates`, which has room for it.
+fn take_steps(
     whole: &PreparedProgram,
     arrival: &Arrival<'_>,
     values: &mut Regs,
@@ -57,8 +57,8 @@ fn take_turns(
     updates: &mut Vec<Update>,
 )
     requires prepared { IsPrepared whole.now }
-    requires turns { AreTurns (program_of whole.now.flat) whole.now.split (turns_at whole.now.turns.items) }
-    requires resolved { AreResolved (program_of whole.now.flat) whole.now.seats.items whole.now.turns.items values.old }
+    requires steps { AreDue (program_of whole.now.flat) whole.now.split (instructions_of whole.now.steps.items) }
+    requires resolved { AreResolved (program_of whole.now.flat) whole.now.seats.items whole.now.steps.items values.old }
     requires kept { IsKept whole.now.flat.objects store.old }
     requires ready { let f = program_of whole.now.flat in
         IsReady (server_spans f whole.now.split) values.old (contents_of f (handed f whole.now.split values.old)) 1 }
@@ -70,11 +70,11 @@ fn take_turns(
     ensures run { let f = program_of whole.now.flat in
         IsServing f whole.now.split (handed f whole.now.split values.old) store.old (packet_of arrival.now)
         (length f.code) values.new store.new updates.new.items }
-    ensures resolved { AreResolved (program_of whole.now.flat) whole.now.seats.items whole.now.turns.items values.new }
+    ensures resolved { AreResolved (program_of whole.now.flat) whole.now.seats.items whole.now.steps.items values.new }
     ensures kept { IsKept whole.now.flat.objects store.new }
 {
-    for turn in &whole.turns {
-        take_turn(whole, arrival, turn, values, store, updates);
+    for step in &whole.steps {
+        take_step(whole, arrival, step, values, store, updates);
     }
 }
 
@@ -118,8 +118,8 @@ fn run(
     room: Room,
 ) -> Ran
     requires prepared { IsPrepared whole.now }
-    requires turns { AreTurns (program_of whole.now.flat) whole.now.split (turns_at whole.now.turns.items) }
-    requires resolved { AreResolved (program_of whole.now.flat) whole.now.seats.items whole.now.turns.items values.old }
+    requires steps { AreDue (program_of whole.now.flat) whole.now.split (instructions_of whole.now.steps.items) }
+    requires resolved { AreResolved (program_of whole.now.flat) whole.now.seats.items whole.now.steps.items values.old }
     requires kept { IsKept whole.now.flat.objects store.old }
     requires ready { let f = program_of whole.now.flat in
         IsReady (server_spans f whole.now.split) values.old (contents_of f (handed f whole.now.split values.old)) 1 }
@@ -133,11 +133,11 @@ fn run(
         IsOutcome f whole.now.split store.old number (packet_of arrival.now) (handed f whole.now.split values.old)
         store.new result }
     ensures serving { AreServing (program_of whole.now.flat) whole.now.split values.new }
-    ensures resolved { AreResolved (program_of whole.now.flat) whole.now.seats.items whole.now.turns.items values.new }
+    ensures resolved { AreResolved (program_of whole.now.flat) whole.now.seats.items whole.now.steps.items values.new }
     ensures kept { IsKept whole.now.flat.objects store.new }
 {
     let Room { frame, mut updates } = room;
-    take_turns(whole, arrival, values, store, &mut updates);
+    take_steps(whole, arrival, values, store, &mut updates);
     let frame = pack_down_in(
         frame,
         &whole.down,
@@ -159,11 +159,11 @@ fn run(
 fn read(whole: &PreparedProgram, frame: &[u8], values: &mut Regs) -> Result<Head, Malformed>
     requires prepared { IsPrepared whole.now }
     requires serving { AreServing (program_of whole.now.flat) whole.now.split values.old }
-    requires resolved { AreResolved (program_of whole.now.flat) whole.now.seats.items whole.now.turns.items values.old }
+    requires resolved { AreResolved (program_of whole.now.flat) whole.now.seats.items whole.now.steps.items values.old }
     ensures ok { IfOk result (λ head. IsRead (program_of whole.now.flat) whole.now.split frame.now values.new head) }
     ensures exact { (IsOk result) ↔ (IsFrame 1 (up_layout (program_of whole.now.flat) whole.now.split) frame.now) }
     ensures serving { AreServing (program_of whole.now.flat) whole.now.split values.new }
-    ensures resolved { AreResolved (program_of whole.now.flat) whole.now.seats.items whole.now.turns.items values.new }
+    ensures resolved { AreResolved (program_of whole.now.flat) whole.now.seats.items whole.now.steps.items values.new }
 {
     values.clear();
     unpack_up(&whole.up, frame, values)

@@ -17,15 +17,15 @@ use Rattle.switch_ir.specs.Code.{Code}
 use Rattle.switch_ir.specs.Emitted.{emitted}
 use Rattle.switch_ir.specs.Meaning.{goes_up, leaves, pass_values, up_values}
 use Rattle.switch_ir.specs.Port.{EndsUp}
-use Rattle.switch_ir.specs.Staged.{EndsBy, IsEntered, IsOver, IsStaged, Sees, Staging, is_had, last_numbers}
+use Rattle.switch_ir.specs.Staged.{EndsBy, IsEntered, IsOver, IsStaged, Sees, Staging, is_had, last_numbers, staging}
 use Rattle.switch_ir.specs.Tables.{Told, seen_tables, view_of}
 use Rattle.switch_ir.specs.UnderWay.{HasEntered, HasGoneOn, PassState, StagesTold}
 use Rattle.split_answers.specs.Through.{IsThrough}
-use Rattle.split_answers.specs.UnderWay.{Knows, AreShown, Views, staging}
+use Rattle.split_answers.specs.UnderWay.{Knows, AreShown, Views}
 use Rattle.split_answers.specs.Whole.{IsSplit}
-use Rattle.split_answers.proofs.Declared.{can_change, looked_up_declared}
-use Rattle.split_answers.proofs.InStages.{AgreeLast, ended_over, entered_over, staged_over}
-use Rattle.split_answers.proofs.Lacking.{KeepLookedUp, looked_up_there, none_over}
+use Rattle.switch_ir.proofs.Declared.{can_change, looked_up_declared}
+use Rattle.switch_ir.proofs.InStages.{AgreeLast, ended_over, entered_over, staged_over}
+use Rattle.switch_ir.proofs.Lacking.{KeepLookedUp, looked_up_there, none_over}
 use Rattle.split_answers.proofs.Seen.{constant_viewed, has_replicated, replicated_viewed}
 use Rattle.switch_ir.proofs.Soundness.{starts}
 

@@ -2,10 +2,9 @@
 use Rattle.std.specs.FinMap as map
 use Rattle.std.specs.Prelude as prelude
 use Rattle.switch_ir.specs.declared.port.DownEnd.TheVariants as down
-use Rattle.switch_ir.specs.declared.port.RowsEnd.TheVariants as rows
 use Rattle.std.proofs.Common.{subst, sym, ◌∙◌, ap, arith, refl}
 use Rattle.std.specs.List.{AllByRecursion as Each}
-use Rattle.std.specs.Prelude.{Bool, List, Some, [], false, length, suc, take, true, ℕ, ◌++◌, ◌^◌, ◌∷◌, ◌≡◌, ◌≤◌, ◌<◌}
+use Rattle.std.specs.Prelude.{Bool, List, Some, [], false, length, suc, true, ℕ, ◌++◌, ◌^◌, ◌∷◌, ◌≡◌, ◌≤◌, ◌<◌}
 use Rattle.flat_ir.specs.Arrivals.{IsArrival}
 use Rattle.flat_ir.specs.Blocks.{Reading, nothing}
 use Rattle.flat_ir.specs.Program.{Program}
@@ -18,7 +17,7 @@ use Rattle.replay_state.specs.Program.{IsSplitProgram, Manner, plain, setup_of}
 use Rattle.replay_state.specs.State.{State, applied_commands, seen, store_at}
 use Rattle.replay_state.specs.Step.{applies}
 use Rattle.replay_state.specs.Tables.{LookupsShow}
-use Rattle.replay_state.specs.Told.{HasFrames, IsRight, IsTied, Tells}
+use Rattle.replay_state.specs.Tied.{HasFrames, IsRight, IsTied, Tells}
 use Rattle.run_model.specs.declared.event.Event.{Event}
 use Rattle.run_model.specs.declared.event.Event.TheVariants.{Stage}
 use Rattle.server_runtime.proofs.Laws.{a_served_packet_is_the_whole_run, what_the_switch_is_told_fits-few}
@@ -33,8 +32,8 @@ use Rattle.state_store.specs.declared.object.Row.{Row}
 use Rattle.switch_ir.specs.Code.{Code}
 use Rattle.switch_ir.specs.Emitted.{emitted}
 use Rattle.switch_ir.specs.Meaning.{down_given}
-use Rattle.switch_ir.specs.Port.{EndsDown, EndsSeen, EndsUp, IsCommandOf, IsHandedDown, IsNothing, IsReplicatedIn, IsUpdateOf, OfItsParts}
-use Rattle.switch_ir.specs.Staged.{EndsBy, EndsDownBy, post_staging, pre_staging, last_numbers}
+use Rattle.switch_ir.specs.Port.{AreSeen, EndsDown, EndsUp, IsCommandOf, IsHandedDown, IsNothing, IsReplicatedIn, IsUpdateOf, OfItsParts}
+use Rattle.switch_ir.specs.Staged.{EndsBy, EndsDownBy, post_staging, pre_staging, last_numbers, staging}
 use Rattle.switch_ir.specs.Tables.{IsStart, Told, has_room_in, pair_at, told_after, view_of, start_pair}
 use Rattle.switch_ir.specs.UnderWay.{EndsWith, HasEntered, HasGoneOn, PassState}
 use Rattle.transfer_header.specs.Frames.{IsFrame}
@@ -49,20 +48,20 @@ use Rattle.transfer_header.specs.Values.{value_by}
 use Rattle.state_store.proofs.Constants.{constant_at}
 use Rattle.lemmas.proofs.Lists.{each_got}
 use Rattle.std.proofs.lemmas.Option.{slice_get_within}
-use Rattle.split_answers.proofs.Declared.{declared_there, replicated_parts}
+use Rattle.switch_ir.proofs.Declared.{declared_there, replicated_parts}
 use Rattle.split_answers.proofs.Few.{run_few}
-use Rattle.split_answers.proofs.InStages.{ends_down, ends_up}
+use Rattle.switch_ir.proofs.InStages.{ends_down, ends_up}
 use Rattle.std.proofs.lemmas.Bool.{cond-false}
 use Rattle.split_answers.proofs.Commanded.{as_many, bit_more, one_more, pair_goes, unnamed}
 use Rattle.split_answers.proofs.Knowing.{ends_alike, enters, goes_on, over_up}
-use Rattle.split_answers.proofs.Lacking.{down_given_none}
+use Rattle.switch_ir.proofs.Lacking.{down_given_none}
 use Rattle.split_answers.proofs.Passed.{own_frame, passes_down, passes_up, reads, verdict_down}
 use Rattle.split_answers.proofs.Seen.{contents_seen, is_declared, is_replicated_there, pair_is, room_found}
 use Rattle.split_answers.proofs.Tells.{asked_where, tells}
 use Rattle.split_answers.proofs.Wholes.{is_framed, is_split_run, kept_there, loaded, number_down}
 use Rattle.split_answers.specs.Over.{AreAnswersOver, IsGiven}
 use Rattle.split_answers.specs.Through.{HasTables, IsThrough, end_of}
-use Rattle.split_answers.specs.UnderWay.{AreShown, Knows, Views, staging}
+use Rattle.split_answers.specs.UnderWay.{AreShown, Knows, Views}
 use Rattle.split_answers.specs.Whole.{IsSplit, whole_of}
 
 -- A legally split program has the laws that the state of a replay asks for, over any packets that can arrive.
@@ -187,7 +186,7 @@ pub told_rows_are_the_visible_stores : (f : Program) (split : List Part) (writeb
     → is_replicated f split o ≡ true
     → seen_after o (first_pair f.objects writeback o) commands (length commands)
     ≡ (object_at st o).contents
-    → EndsSeen told o (rows.Rows list) → list ≡ rows_of (object_at st o)
+    → AreSeen told o list → list ≡ rows_of (object_at st o)
 told_rows_are_the_visible_stores f split writeback st commands told o list is through shown seen ends =
     ends ∙ ap (λ (c : Contents). rows_from (map.entries c)) (contents_seen f split writeback is commands told through o shown ∙ seen)
 

@@ -23,7 +23,7 @@ use Rattle.transfer_header.specs.Values.{value_by, Agree}
 use Rattle.writeback_table.specs.declared.command.Command.{Command}
 use Rattle.split_answers.specs.Whole.{whole_of, IsSplit}
 use Rattle.replay_state.specs.Journal.{UpAnswer, Finished, SentUp, GoingUp, is_up_end}
-use Rattle.replay_state.specs.Told.{IsRight}
+use Rattle.replay_state.specs.Tied.{IsRight}
 use Rattle.switch_ir.specs.declared.port.DownEnd.TheVariants as down
 use Rattle.switch_ir.specs.Emitted.{emitted}
 use Rattle.switch_ir.specs.Meaning.{down_end, goes_up, leaves, up_values, up_verdict}

@@ -27,7 +27,7 @@ use Rattle.switch_ir.specs.Port.{IsCommandOf, IsReplicatedIn}
 use Rattle.switch_ir.specs.Tables.{Told, has_room_in, no_pair, pair_at, seen_object, seen_tables, start_pair, view_of}
 use Rattle.split_answers.specs.Through.{IsThrough}
 use Rattle.split_answers.specs.UnderWay.{AreShown}
-use Rattle.split_answers.proofs.Declared.{can_change, declared_parts, declared_there, replicated_parts, shown_there}
+use Rattle.switch_ir.proofs.Declared.{can_change, declared_parts, declared_there, replicated_parts, shown_there}
 use Rattle.lemmas.proofs.Lists.{get_within}
 use Rattle.state_store.proofs.Constants.{constant_at}
 use Rattle.switch_ir.proofs.Soundness.{starts}

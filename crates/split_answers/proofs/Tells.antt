@@ -32,7 +32,7 @@ use Rattle.replay_state.specs.Journal.{or_else, only_for, up_end, up_answer, dow
 use Rattle.replay_state.specs.Journal.{AsksUp, AsksDown, question_of, asks, asked, asks_down, is_up_end}
 use Rattle.replay_state.specs.Places.{HavePlaces}
 use Rattle.replay_state.specs.Tables.{LookupsShow}
-use Rattle.replay_state.specs.Told.{IsRight, Tells}
+use Rattle.replay_state.specs.Tied.{IsRight, Tells}
 use Rattle.split_answers.specs.Over.{AreAnswersOver, IsGiven}
 use Rattle.split_answers.specs.Through.{IsThrough, end_of}
 use Rattle.split_answers.specs.Whole.{IsSplit, whole_of}

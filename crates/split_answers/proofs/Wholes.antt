@@ -20,11 +20,11 @@ use Rattle.split_model.specs.Passes.{sent_down, AgreeOnShown}
 use Rattle.split_model.specs.Shown.{is_replicated, writes_to}
 use Rattle.server_runtime.specs.Serving.{frame_run, packet_frame, served_frame, updates_of, IsWholeRun}
 use Rattle.replay_state.specs.Program.{IsSplitRun}
-use Rattle.replay_state.specs.Sound.{IsAlike}
-use Rattle.replay_state.specs.Told.{IsFramed}
+use Rattle.replay_state.specs.SoundAnswers.{IsAlike}
+use Rattle.replay_state.specs.Tied.{IsFramed}
 use Rattle.split_answers.specs.Whole.{whole_of, IsSplit}
 use Rattle.split_answers.proofs.Follows.{Follows}
-use Rattle.split_answers.proofs.Declared.{replicated_parts, shown_there}
+use Rattle.switch_ir.proofs.Declared.{replicated_parts, shown_there}
 use Rattle.split_answers.proofs.Runs.{run_follows}
 use Rattle.flat_ir.proofs.Laws.{a_run_keeps_widths}
 use Rattle.split_model.proofs.Laws.{kept_stores_have_tables, preprocessing_is_exact, replicated_objects_show, what_preprocessing_reads_is_all}

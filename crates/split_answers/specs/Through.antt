@@ -28,15 +28,24 @@ pub record IsThrough (code : Code) (commands : List Command) (told : Told) : Typ
       → pair_at told.pairs o ≡ start_pair code.writeback (Some d)
   pub bit : told.bit ≡ bit_through false commands
 
--- how a call ends that answers so
+-- how a pass ends that is answered so, and what answers a pass that ends so
 abbrev pub end_of : UpAnswer → UpEnd
 end_of (Finished verdict) = up.Finished verdict
 end_of (SentUp frame) = up.Up frame
 end_of GoingUp = up.Going
 
+abbrev pub answer_of : UpEnd → UpAnswer
+answer_of (up.Finished verdict) = Finished verdict
+answer_of (up.Up frame) = SentUp frame
+answer_of up.Going = GoingUp
+
 abbrev pub down_end_of : DownAnswer → DownEnd
 down_end_of (Released verdict) = down.Verdict verdict
 down_end_of GoingDown = down.Going
+
+abbrev pub down_answer_of : DownEnd → DownAnswer
+down_answer_of (down.Verdict verdict) = Released verdict
+down_answer_of down.Going = GoingDown
 
 -- the switch's tables are the store's: each replicated object is its main table, nothing is staged, and the bit is
 -- clear

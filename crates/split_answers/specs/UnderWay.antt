@@ -1,22 +1,20 @@
 -- The passes under way on a switch, and those of the state.
-use Rattle.std.specs.Prelude.{◌≡◌, ◌<◌, ℕ, suc, ◌+◌, Bool, true, false, if◌then◌else◌, List, length, Some, slice_get}
+use Rattle.std.specs.Prelude.{◌≡◌, ◌<◌, ℕ, ◌+◌, Bool, true, false, if◌then◌else◌, List, length, Some, slice_get}
 use Rattle.packet_fields.specs.declared.packet.Packet.{Packet}
 use Rattle.state_store.specs.Store.{Store, object_at}
-use Rattle.flat_ir.specs.declared.program.ValueId.{ValueId}
 use Rattle.flat_ir.specs.Blocks.{Reading, nothing}
 use Rattle.flat_ir.specs.Program.{Program}
 use Rattle.split_model.specs.declared.split.Part.{Part}
 use Rattle.split_model.specs.Shown.{is_replicated}
 use Rattle.transfer_header.specs.Frames.{IsFrame}
-use Rattle.writeback_table.specs.Batches.{Shows}
+use Rattle.writeback_table.specs.Batches.{LookupsSee}
 use Rattle.writeback_table.specs.Commands.{pair_through}
 use Rattle.writeback_table.specs.Pair.{visible, first_pair}
 use Rattle.writeback_table.specs.declared.command.Command.{Command}
-use Rattle.switch_ir.specs.Code.{Code}
 use Rattle.switch_ir.specs.Emitted.{emitted}
-use Rattle.switch_ir.specs.Meaning.{after_stages, down_given}
+use Rattle.switch_ir.specs.Meaning.{down_given}
 use Rattle.switch_ir.specs.Port.{OfItsParts}
-use Rattle.switch_ir.specs.Staged.{IsOver, Staging, is_had, post_staging, pre_staging}
+use Rattle.switch_ir.specs.Staged.{HasNoMore, IsOver, staging}
 use Rattle.switch_ir.specs.Tables.{Told, pair_at, seen_tables}
 use Rattle.switch_ir.specs.UnderWay.{Passes, PassState, ToldPass, UnderWay}
 use Rattle.replay_state.specs.Answers.{Setup}
@@ -57,22 +55,12 @@ pub record AreOnSwitch (setup : Setup) (packets : List Packet) (st : State) (pas
 
 -- lookups after these commands see the replicated objects of a store
 abbrev pub AreShown : Program → List Part → ℕ → List Command → Store → Type 0
-AreShown f split writeback commands store = Shows (is_replicated f split) f.objects writeback commands (length commands) store
+AreShown f split writeback commands store = LookupsSee (is_replicated f split) f.objects writeback commands (length commands) store
 
 -- so do those that go by this bit
 abbrev pub Views : Program → List Part → ℕ → Bool → List Command → Store → Type 0
 Views f split writeback bit commands store = (o : ℕ) → is_replicated f split o ≡ true
     → visible bit (pair_through o (first_pair f.objects writeback o) commands) ≡ (object_at store o).contents
-
--- the pass before the server, or behind it
-abbrev pub staging : Bool → Code → Staging
-staging true code = pre_staging code
-staging false code = post_staging code
-
--- what the pass doesn't have once the stages up to t are done counts as 0
-abbrev pub HasNoMore : Staging → Reading → Store → Packet → Type 0
-HasNoMore p given tables packet =
-    (t : ℕ) (v : ValueId) → is_had p t v ≡ false → after_stages p.code.steps given tables packet (suc t) v ≡ 0
 
 -- What a pass knows that entered with this bit, over a packet and with what it was given: numbers that the whole pass
 -- computes over the tables of its entry, which show the replicated objects of this store.
@@ -92,8 +80,8 @@ pub record Knows (f : Program) (split : List Part) (writeback : ℕ) (pre : Bool
   pub over : IsOver (staging pre (emitted f split writeback)) given (seen_tables first) packet own.stage pass.numbers
   pub no_more : HasNoMore (staging pre (emitted f split writeback)) given (seen_tables first) packet
 
--- So it is of a pass before the server, which is over this packet and given nothing, and of one behind it, which is
--- over what this frame says and given that.
+-- What a pass knows before the server, where it is over this packet and given nothing, and behind it, where it is over
+-- what this frame says and given that.
 abbrev pub KnowsOver : Bool → Program → List Part → ℕ → Packet → List ℕ → Store → Bool → PassState → Type 0
 KnowsOver true f split writeback packet frame store bit own = Knows f split writeback true nothing packet bit store own
 KnowsOver false f split writeback packet frame store bit own =
@@ -102,8 +90,8 @@ KnowsOver false f split writeback packet frame store bit own =
     × OfItsParts code frame (λ number packet values.
     Knows f split writeback false (down_given code values packet) packet bit store own)
 
--- and of a pass of the state: before the server it is over the packet of its number, and behind it over the frame that
--- came down
+-- what a pass of the state knows: before the server it is over the packet of its number, and behind it over the frame
+-- that came down
 abbrev pub KnowsItsOwn : Program → List Part → ℕ → List Packet → List Call → State → Pass → PassState → Type 0
 KnowsItsOwn f split writeback packets calls st pass own =
     KnowsOver pass.pre f split writeback (packet_at packets pass.number)

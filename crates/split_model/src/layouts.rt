@@ -32,7 +32,7 @@ struct Crossings {
     post: ValueSet,
     /// The server reads it.
     server: ValueSet,
-    /// It decides whether a write takes effect.
+    /// The value decides whether a write takes effect.
     guards: ValueSet,
     /// The server sets a field to it.
     written: ValueSet,
@@ -200,7 +200,8 @@ impl Crossings {
     }
 }
 
-/// What is handed up, and what is handed down.
+/// The values that preprocessing hands up to the server, and those that the server hands down to postprocessing, values
+/// that it was handed up among them.
 #[derive(Debug, Drop)]
 pub struct Layouts {
     pub up: Layout,
@@ -208,7 +209,20 @@ pub struct Layouts {
 }
 
 impl Layouts {
-    /// Those of a split, by what decides on the program's writes. It takes one step an operand and a value.
+    /// The layouts of a split. Finding them takes one step an operand, a block and a value.
+    pub fn of(alloc: Global, f: &Flat, s: &Split) -> Result<Layouts, NoMemory>
+        requires { IsBounded (program_of f.now) }
+        ensures up { IfOk result (λ both. both.up ≡ up_layout (program_of f.now) s.now) }
+        ensures down { IfOk result (λ both. both.down ≡ down_layout (program_of f.now) s.now) }
+        ensures few_up { IfOk result (λ both. length both.up < 2 ^ 26) }
+        ensures few_down { IfOk result (λ both. length both.down < 2 ^ 26) }
+    {
+        let guards = guard_values(alloc, f)?;
+        Layouts::find(alloc, f, s, &guards)
+    }
+
+    /// The layouts of a split, by what decides on the program's writes. Finding them takes one step an operand and a
+    /// value.
     pub fn find(alloc: Global, f: &Flat, s: &Split, guards: &ValueSet) -> Result<Layouts, NoMemory>
         requires bounded { IsBounded (program_of f.now) }
         requires guards { AreMarked (length f.now.code) (guards_write (program_of f.now)) guards.now }
@@ -222,32 +236,4 @@ impl Layouts {
         let down = found.layout(alloc, f, s, Way::Down)?;
         Ok(Layouts { up, down })
     }
-}
-
-// What decides whether a value crosses.
-fn found_crossings(alloc: Global, f: &Flat, s: &Split) -> Result<Crossings, NoMemory>
-    requires { IsBounded (program_of f.now) }
-    ensures { IfOk result (λ found. AreFound (program_of f.now) s.now found) }
-{
-    let guards = guard_values(alloc, f)?;
-    Crossings::find(alloc, f, s, guards)
-}
-
-/// The values that preprocessing hands up to the server. It takes one step an operand, a block and a value.
-pub fn up_layout(alloc: Global, f: &Flat, s: &Split) -> Result<Layout, NoMemory>
-    requires bounded { IsBounded (program_of f.now) }
-    ensures exact { IfOk result (λ layout. layout ≡ up_layout (program_of f.now) s.now) }
-    ensures few { IfOk result (λ layout. length layout < 2 ^ 32) }
-{
-    found_crossings(alloc, f, s)?.layout(alloc, f, s, Way::Up)
-}
-
-/// The values that the server hands down to postprocessing, those that it was handed up among them. It takes one step
-/// an operand, a block and a value.
-pub fn down_layout(alloc: Global, f: &Flat, s: &Split) -> Result<Layout, NoMemory>
-    requires bounded { IsBounded (program_of f.now) }
-    ensures exact { IfOk result (λ layout. layout ≡ down_layout (program_of f.now) s.now) }
-    ensures few { IfOk result (λ layout. length layout < 2 ^ 32) }
-{
-    found_crossings(alloc, f, s)?.layout(alloc, f, s, Way::Down)
 }

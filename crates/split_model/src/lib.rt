@@ -15,7 +15,7 @@ mod values;
 pub use bounds::is_bounded;
 pub use guards::guard_values;
 pub use layout::{Crossing, Layout};
-pub use layouts::{Layouts, down_layout, is_at_hand, up_layout};
+pub use layouts::{Layouts, is_at_hand};
 pub use readers::{Reader, read_by};
 pub use shown::replicated;
 pub use split::{Part, Slow, Split, stage_or_zero};

@@ -92,7 +92,7 @@ impl Split {
         self.items.len()
     }
 
-    /// What it says of an instruction. One past the end is the server's alone.
+    /// The part that has an instruction. One past the end is the server's alone.
     pub fn part(&self, instruction: usize) -> Part
         ensures { result ≡ part_at self.now instruction }
     {

@@ -1,6 +1,3 @@
-pub mod Words
-pub mod Numbers
-pub mod Plain
 pub mod Operands
 pub mod Gone
 pub mod PartLines

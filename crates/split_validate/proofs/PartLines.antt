@@ -1,22 +1,23 @@
 -- The line of a part, as it is printed and as it is read.
-use Rattle.std.proofs.Common.{◌≡◌, ℕ, ◌⊎◌, inl, inr, ◌<◌, ◌^◌, Bool, true, false, ◌&&◌, cond, List, ◌∷◌, ◌++◌, Option, Some, None, refl, ap, subst, ◌∙◌, lit<, arith}
+use Rattle.std.proofs.Common.{◌≡◌, ℕ, ◌⊎◌, inl, inr, ◌<◌, ◌^◌, Bool, true, false, ◌&&◌, cond, eqb, List, [], ◌∷◌, ◌++◌, Option, Some, None, refl, ap, subst, ◌∙◌, lit<, arith}
 use Rattle.std.specs.Prelude.{codes}
 use Rattle.std.specs.Fmt.{decimal}
 use Rattle.std.specs.Option.{option_map}
-use Rattle.std.specs.Str.{bytes_eq}
+use Rattle.std.specs.Str.{all_ascii_digits, bytes_eq}
 use Rattle.std.specs.List.{list_any, list_all, before_first, after_first}
 use Rattle.std.proofs.lemmas.Bool.{and_parts, eqb-true, eq-eqb}
+use Rattle.std.proofs.lemmas.Bool.Decides.{nat_tests}
 use Rattle.std.proofs.lemmas.Option.{same_Some}
 use Rattle.gal_io.specs.Number.{number_up_to}
 use Rattle.split_model.specs.declared.split.Slow.{Slow}
 use Rattle.split_model.specs.declared.split.Slow.TheVariants.{Carried, Server, Post}
 use Rattle.split_model.specs.declared.split.Part.{Part}
 use Rattle.split_validate.specs.SplitText.{pre_text, slow_text}
-use Rattle.split_validate.specs.SplitSteps.{is_count, is_it, is_space, is_title, part_of, part_with, post_of, pre_of, slow_of, stage_of, title, words_of, writes}
+use Rattle.gal_io.specs.Lines.{is_space}
+use Rattle.split_validate.specs.SplitSteps.{is_count, is_it, is_title, part_of, part_with, post_of, pre_of, slow_of, stage_of, title, words_of, writes}
 use Rattle.split_validate.proofs.Gone.{IsLow, IsLowPre, IsLowSlow, part_told}
-use Rattle.split_validate.proofs.Numbers.{decimal_digits, number_back, number_printed, number_small}
-use Rattle.split_validate.proofs.Plain.{digits_no_dash, digits_unspaced}
-use Rattle.split_validate.proofs.Words.{after_space, before_space, parted, space_there, unspaced}
+use Rattle.gal_io.proofs.NumberLemmas.{decimal_digits, number_back, number_printed, number_small}
+use Rattle.gal_io.proofs.Spaces.{after_space, before_space, parted, space_there, unspaced, digits_unspaced}
 use Rattle.lemmas.proofs.Lists.{bytes_eq_true}
 use Rattle.lemmas.proofs.Tests.{some_of_cond}
 
@@ -48,6 +49,12 @@ title_sound count line small h =
     let words : back ≡ codes "1" ++ (32 ∷ decimal count) =
     parted back r.0 ∙ ap (λ b. b ++ (32 ∷ number)) (bytes_eq_true version (codes "1") s.0) ∙ ap (λ b. codes "1" ++ (32 ∷ b)) (writes_sound count number small s.1) in
     parted line p.0 ∙ ap (λ b. b ++ (32 ∷ back)) (bytes_eq_true front (codes "split") q.0) ∙ ap (λ b. codes "split" ++ (32 ∷ b)) words
+
+digits_no_dash : (ds : List ℕ) → all_ascii_digits ds ≡ true → bytes_eq ds (45 ∷ []) ≡ false
+digits_no_dash [] h = refl
+digits_no_dash (d ∷ ds) h =
+    let other : eqb d 45 ≡ false = grind (arith, nat_tests, h) in
+    rw other refl
 
 pre_unspaced : (pre : Option ℕ) → IsLowPre pre → list_all unspaced (pre_text pre) ≡ true
 pre_unspaced None low = refl

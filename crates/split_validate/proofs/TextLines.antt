@@ -14,7 +14,7 @@ use Rattle.split_validate.specs.SplitSteps.{ended, line_read, step, taken, title
 use Rattle.split_validate.specs.declared.reading.Progress.{Progress}
 use Rattle.split_validate.specs.declared.reading.Progress.TheVariants.{All}
 use Rattle.split_validate.proofs.Gone.{Fits, at, last, parts_told, so_far, split_told}
-use Rattle.split_validate.proofs.Plain.{IsTold, all_told}
+use Rattle.gal_io.proofs.ToldLines.{IsTold, all_told}
 use Rattle.split_validate.proofs.Told.{all_plain, few_of, low_of, text_lines}
 use Rattle.split_validate.proofs.Steps.{IsEarly, can_go, early_stops, one_split, step_goes, step_stops, tail_is}
 use Rattle.lemmas.proofs.Lists.{drop_line, line_within, lines_passed, take_fewer, take_line, take_lines}

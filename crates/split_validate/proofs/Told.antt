@@ -4,7 +4,7 @@ use Rattle.std.specs.Fmt.{decimal}
 use Rattle.std.specs.List.{AllByRecursion, list_all}
 use Rattle.std.proofs.lemmas.Fmt.{decimal_nonempty}
 use Rattle.std.proofs.lemmas.Option.{same_Some}
-use Rattle.gal_io.specs.Lines.{lines, line_end}
+use Rattle.gal_io.specs.Lines.{lines, line_end, lined}
 use Rattle.split_model.specs.declared.split.Slow.{Slow}
 use Rattle.split_model.specs.declared.split.Slow.TheVariants.{Post}
 use Rattle.split_model.specs.declared.split.Part.{Part}
@@ -13,8 +13,8 @@ use Rattle.split_model.specs.Bounds.{HasFewStages}
 use Rattle.split_validate.specs.SplitText.{first_line, part_line, part_lines, pre_text, slow_text, split_text}
 use Rattle.split_validate.specs.SplitSteps.{title}
 use Rattle.split_validate.proofs.Gone.{AreLow, IsLow, IsLowPre, IsLowSlow, last, part_told, parts_told, split_told}
-use Rattle.split_validate.proofs.Numbers.{decimal_digits}
-use Rattle.split_validate.proofs.Plain.{IsTold, digits_plain, digits_told, lined, lines_lined, plain, told_both}
+use Rattle.gal_io.proofs.NumberLemmas.{decimal_digits}
+use Rattle.gal_io.proofs.ToldLines.{IsTold, digits_plain, digits_told, told_lines, plain, told_both}
 use Rattle.lemmas.proofs.Lists.{list_all_append}
 
 -- ## Stages
@@ -107,4 +107,4 @@ text_lined split =
     ∙ append_assoc (title (length split)) line_end (lined (parts_told 0 split ++ last ∷ []))
 
 pub text_lines : (split : List Part) → length split < 2 ^ 64 → AreLow split → lines (split_text split) ≡ split_told split
-text_lines split small low = ap lines (text_lined split) ∙ lines_lined (split_told split) (all_plain split small low)
+text_lines split small low = ap lines (text_lined split) ∙ told_lines (split_told split) (all_plain split small low)

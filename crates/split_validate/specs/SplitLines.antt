@@ -1,5 +1,5 @@
 -- The lines of a text that is a split, and the first line at which it is none.
-use Rattle.std.specs.Prelude.{◌≡◌, ◌<◌, ◌≤◌, ℕ, suc, List, [], ◌∷◌, ◌++◌, length, take, if◌then◌else◌}
+use Rattle.std.specs.Prelude.{◌≡◌, ◌<◌, ◌≤◌, ℕ, suc, List, [], ◌++◌, length, take}
 use Rattle.gal_io.specs.Lines.{lines, told_of}
 use Rattle.split_model.specs.declared.split.Part.{Part}
 use Rattle.split_model.specs.Bounds.{HasFewStages}
@@ -22,8 +22,8 @@ IsSplitText count text split = AreLinesOf count (lines text) split
 abbrev pub Begins : ℕ → List (List ℕ) → Type 0
 Begins count front = (more : List (List ℕ)) × (split : List Part) × AreLinesOf count (front ++ more) split
 
--- These lines are of no split. The text of one begins with those before the first wrong line, and none with that one as
--- well; where that one is behind the last, they end too early.
+-- Lines that are of no split, and the place of the first wrong one: the text of some split begins with the lines before
+-- it, and none with that one as well. Where it is behind the last, the lines end too early.
 pub record IsFirstWrong (count : ℕ) (ls : List (List ℕ)) (before : ℕ) : Type 0 where
   pub within : before ≤ length ls
   pub begins : Begins count (take before ls)

@@ -4,16 +4,13 @@ use Rattle.std.specs.Prelude.{decimal, if◌then◌else◌, Option, Some, None}
 use Rattle.std.specs.Option.{option_map}
 use Rattle.std.specs.Str.{bytes_eq}
 use Rattle.std.specs.List.{before_first, after_first, list_any}
-use Rattle.gal_io.specs.Lines.{is_skipped}
+use Rattle.gal_io.specs.Lines.{is_skipped, is_space}
 use Rattle.gal_io.specs.Number.{number_up_to}
 use Rattle.split_model.specs.declared.split.Slow.{Slow}
 use Rattle.split_model.specs.declared.split.Slow.TheVariants.{Carried, Server, Post}
 use Rattle.split_model.specs.declared.split.Part.{Part}
 use Rattle.split_validate.specs.declared.reading.Progress.{Progress}
 use Rattle.split_validate.specs.declared.reading.Progress.TheVariants.{Nothing, Title, All}
-
-abbrev pub is_space : ℕ → Bool
-is_space byte = byte == 32
 
 abbrev pub stage_of : List ℕ → Option ℕ
 stage_of word = number_up_to 4096 word

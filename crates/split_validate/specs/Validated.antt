@@ -6,7 +6,7 @@ use Rattle.split_model.specs.Legal.{IsLegal, IsFirstBroken}
 use Rattle.resource_limits.specs.declared.limits.Limits.{Limits}
 use Rattle.resource_limits.specs.declared.exceeding.Over.{Over}
 use Rattle.resource_limits.specs.Counts.{counts_of}
-use Rattle.resource_limits.specs.Kept.{KeepsLimits, first_over}
+use Rattle.resource_limits.specs.Kept.{KeepsLimits, first_excess}
 use Rattle.split_validate.specs.declared.validating.Illegal.{Illegal}
 use Rattle.split_validate.specs.declared.validating.Illegal.TheVariants.{Rule, Exceeds, NoMemory}
 
@@ -18,7 +18,7 @@ pub record IsAccepted (f : Program) (split : List Part) (limits : Limits) : Type
 -- the split is legal and exceeds a limit, and this one first
 pub record IsExceeding (f : Program) (split : List Part) (limits : Limits) (over : Over) : Type 0 where
   pub legal : IsLegal f split
-  pub first : first_over (counts_of f split limits.writeback) limits ≡ Some over
+  pub first : first_excess (counts_of f split limits.writeback) limits ≡ Some over
 
 -- A refusal names the lowest broken rule at the first instruction that breaks it, or else the first exceeded limit;
 -- want of memory is free.

@@ -1,37 +1,13 @@
 //! The lines of a split text, one by one.
-ghost use Rattle.std.specs.Prelude.{◌≡◌, ◌≤◌, false, true, length, MatchOption};
-ghost use Rattle.std.specs.List.{after_first, before_first, list_any, position_or_len};
-ghost use Rattle.split_validate.specs.SplitSteps.{is_count, is_space, is_title, part_of, post_of, pre_of, slow_of};
+ghost use Rattle.std.specs.Prelude.{◌≡◌};
+ghost use Rattle.split_validate.specs.SplitSteps.{is_count, is_title, part_of, post_of, pre_of, slow_of};
 ghost use Rattle.split_validate.specs.SplitSteps.{stage_of, words_of, writes};
 
-use gal_io::number_up_to;
+use gal_io::{number_up_to, split_at_space};
 use split_model::{Part, Slow};
 
 /// The highest stage that a text may name.
 const MAX_STAGE: u64 = 4_096;
-
-// Where the first space stands, or the line ends.
-fn space_at(line: &[u8]) -> usize
-    ensures place { result ≡ position_or_len is_space line.now }
-    ensures within { result ≤ length line.now }
-{
-    line.iter().take_while(|byte| **byte != b' ').count()
-}
-
-// What stands before the first space of a line, and behind it.
-#[tactic(auto, using(std::proofs::lemmas::Grind::common_steps, crate::proofs::Words::any_space))]
-fn split_at_space(line: &[u8]) -> Option<(&[u8], &[u8])>
-    ensures { MatchOption result (list_any is_space line.now ≡ false)
-        (λ parts. (list_any is_space line.now ≡ true)
-        × (parts.0.now ≡ before_first is_space line.now)
-        × (parts.1.now ≡ after_first is_space line.now)) }
-{
-    let at = space_at(line);
-    if at == line.len() {
-        return None;
-    }
-    Some((&line[..at], &line[at + 1..]))
-}
 
 // Whether a word writes this number.
 fn writes_number(word: &[u8], number: usize) -> bool

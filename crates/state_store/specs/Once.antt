@@ -1,4 +1,4 @@
--- That a store keeps what was declared has at most one proof.
+-- At most one proof that a store keeps what was declared.
 use Rattle.std.specs.Prelude.{List}
 use Rattle.std.specs.Coded.{Coded-set, coded_bool, coded_ℕ, le_prop}
 use Rattle.state_store.specs.Codes.{contents_code, kind_code}

@@ -13,6 +13,9 @@ mod Tested
 pub mod Spanned
 pub mod Staging
 pub mod Going
+pub mod Declared
+pub mod InStages
+pub mod Lacking
 mod Needing
 pub mod Planning
 mod Listing

@@ -1,9 +1,11 @@
 -- A journal as contracts see it, and how its calls lie in memory.
-use Rattle.std.specs.Prelude.{◌≡◌, ℕ, ◌+◌, ◌≤◌, List, [], ◌∷◌, length, take, drop}
+use Rattle.std.specs.Prelude.{◌≡◌, ℕ, ◌+◌, ◌≤◌, List, [], ◌∷◌, length, take, drop, Result, Ok, Err}
 use Rattle.packet_fields.specs.declared.verdict.Verdict.TheVariants as verdict
 use Rattle.writeback_table.specs.declared.command.To.TheVariants as to
 use Rattle.writeback_table.specs.declared.command.Command.{Command}
 use Rattle.writeback_table.specs.declared.command.Command.TheVariants as command
+use Rattle.switch_ir.specs.declared.port.PortError.{PortError}
+use Rattle.switch_ir.specs.declared.port.PortError.TheVariants.{Failed, NoMemory}
 use Rattle.switch_ir.specs.declared.port.UpEnd.{UpEnd}
 use Rattle.switch_ir.specs.declared.port.UpEnd.TheVariants as up
 use Rattle.switch_ir.specs.declared.port.DownEnd.{DownEnd}
@@ -42,20 +44,20 @@ entry_of (call.Visible object) = entry.Visible object
 -- ## What marks stand for
 
 -- the end of a pass whose answer has these bytes
-abbrev pub up_in : End → List ℕ → UpEnd
-up_in end.Drop bytes = up.Finished verdict.Drop
-up_in (end.Send port) bytes = up.Finished (verdict.Send port bytes)
-up_in end.Up bytes = up.Up bytes
-up_in end.Going bytes = up.Going
-up_in end.Failed bytes = up.Failed
-up_in end.NoMemory bytes = up.NoMemory
+abbrev pub up_in : End → List ℕ → Result UpEnd PortError
+up_in end.Drop bytes = Ok (up.Finished verdict.Drop)
+up_in (end.Send port) bytes = Ok (up.Finished (verdict.Send port bytes))
+up_in end.Up bytes = Ok (up.Up bytes)
+up_in end.Going bytes = Ok up.Going
+up_in end.Failed bytes = Err Failed
+up_in end.NoMemory bytes = Err NoMemory
 
-abbrev pub down_in : End → List ℕ → DownEnd
-down_in end.Drop bytes = down.Verdict verdict.Drop
-down_in (end.Send port) bytes = down.Verdict (verdict.Send port bytes)
-down_in end.Failed bytes = down.Failed
-down_in end.NoMemory bytes = down.NoMemory
-down_in _ bytes = down.Going
+abbrev pub down_in : End → List ℕ → Result DownEnd PortError
+down_in end.Drop bytes = Ok (down.Verdict verdict.Drop)
+down_in (end.Send port) bytes = Ok (down.Verdict (verdict.Send port bytes))
+down_in end.Failed bytes = Err Failed
+down_in end.NoMemory bytes = Err NoMemory
+down_in _ bytes = Ok down.Going
 
 -- the command of an object, with these numbers of its key and of its values
 abbrev pub command_in : Form → ℕ → List ℕ → List ℕ → Command

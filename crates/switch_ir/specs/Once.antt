@@ -1,4 +1,4 @@
--- That code can be run has at most one proof.
+-- At most one proof that code can be run.
 use Rattle.std.specs.Prelude.{◌≡◌, ◌≤◌, ◌<◌, ℕ, true, List, [], length}
 use Rattle.std.specs.List.{All, AllByRecursion, AllByRecursion-prop}
 use Rattle.std.specs.Coded.{Coded-set, coded_bool, coded_ℕ, le_prop, ×_prop, Unit-prop}

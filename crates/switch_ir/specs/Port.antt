@@ -1,6 +1,6 @@
 -- A switch as contracts see it, and what its calls do.
 use Rattle.std.specs.Prelude.{◌≡◌, ◌≤◌, ◌<◌, ◌^◌, ℕ, suc, nat_lt, Bool, true, false, ◌&&◌, List, [], ◌∷◌, ◌++◌, length, ⊤}
-use Rattle.std.specs.Prelude.{Option, Some, None, map, IfSome, IsSome, IsTrue}
+use Rattle.std.specs.Prelude.{Option, Some, None, Result, Ok, Err, map, IfOk, IfSome, IsSome, IsTrue}
 use Rattle.std.specs.Option.{option_map}
 use Rattle.std.specs.List.{AllByRecursion as Each}
 use Rattle.gal_io.specs.Count.{IsCountedIf}
@@ -25,16 +25,12 @@ use Rattle.switch_ir.specs.Tables.{Told, IsStart, seen_tables, pair_at, told_aft
 use Rattle.switch_ir.specs.UnderWay.{UnderWay, none_under_way, PassState, HasEntered, HasGoneOn, EndsWith, OthersStay}
 use Rattle.switch_ir.specs.UnderWay.{GoesUp, GoesDown, BegunUp, BegunDown, LeavesUp, LeavesDown}
 use Rattle.switch_ir.specs.UnderWay.{EndsUpAtOnce, EndsDownAtOnce, DisturbsNone}
-use Rattle.switch_ir.specs.declared.port.PortEnd.{PortEnd}
-use Rattle.switch_ir.specs.declared.port.PortEnd.TheVariants as port
+use Rattle.switch_ir.specs.declared.port.PortError.{PortError}
+use Rattle.switch_ir.specs.declared.port.PortError.TheVariants.{Failed, NoMemory}
 use Rattle.switch_ir.specs.declared.port.UpEnd.{UpEnd}
 use Rattle.switch_ir.specs.declared.port.UpEnd.TheVariants as up
 use Rattle.switch_ir.specs.declared.port.DownEnd.{DownEnd}
 use Rattle.switch_ir.specs.declared.port.DownEnd.TheVariants as down
-use Rattle.switch_ir.specs.declared.port.CommandEnd.{CommandEnd}
-use Rattle.switch_ir.specs.declared.port.CommandEnd.TheVariants as command
-use Rattle.switch_ir.specs.declared.port.RowsEnd.{RowsEnd}
-use Rattle.switch_ir.specs.declared.port.RowsEnd.TheVariants as rows
 use Rattle.switch_ir.specs.declared.journal.Entry.{Entry}
 use Rattle.switch_ir.specs.declared.journal.Entry.TheVariants as entry
 
@@ -65,11 +61,24 @@ pub record KeepsTables (old new : PortState) : Type 0 where
   pub told : new.told ≡ old.told
   pub spare : old.spare ≤ new.spare
 
--- ## Loading
+-- ## How a call ends
 
-abbrev pub has_failed : PortEnd → Bool
-has_failed port.Failed = true
+-- the switch failed
+abbrev pub has_failed : {A : Type 0} → Result A PortError → Bool
+has_failed (Err Failed) = true
 has_failed _ = false
+
+-- there was memory
+abbrev pub HadMemory : {A : Type 0} → Result A PortError → Type 0
+HadMemory (Err NoMemory) = ⊥
+HadMemory _ = ⊤
+
+-- the entry of a call with its end; one without memory leaves none
+abbrev pub noted : {A : Type 0} → (Result A PortError → Entry) → Result A PortError → List Entry
+noted call (Err NoMemory) = []
+noted call end = call end ∷ []
+
+-- ## Loading
 
 -- the start tables are told after a load where tables were told before it
 abbrev pub StartsTold : Code → Option Told → Option Told → Type 0
@@ -89,41 +98,30 @@ pub record IsAsBefore (old new : PortState) : Type 0 where
   pub kept : Keeps old new
   pub journal : new.journal ≡ old.journal
 
-abbrev pub LoadsBy : PortEnd → Code → PortState → PortState → Type 0
-LoadsBy port.Done code old new = IsLoadedWith code old new
-LoadsBy _ code old new = IsAsBefore old new
+abbrev pub LoadsBy : Result (Unit {0}) PortError → Code → PortState → PortState → Type 0
+LoadsBy (Ok done) code old new = IsLoadedWith code old new
+LoadsBy (Err error) code old new = IsAsBefore old new
 
-pub record Loads (end : PortEnd) (code : Code) (old new : PortState) : Type 0 where
+pub record Loads (end : Result (Unit {0}) PortError) (code : Code) (old new : PortState) : Type 0 where
   pub state : LoadsBy end code old new
   pub faults : IsCountedIf (has_failed end) old.faults new.faults
 
 -- ## Room for commands
 
-abbrev pub RoomBy : PortEnd → ℕ → PortState → PortState → Type 0
-RoomBy port.Done commands old new = (commands ≤ new.spare) × (new.journal ≡ old.journal ++ entry.Room commands ∷ [])
-RoomBy _ commands old new = new.journal ≡ old.journal
+abbrev pub RoomBy : Result (Unit {0}) PortError → ℕ → PortState → PortState → Type 0
+RoomBy (Ok done) commands old new =
+    (commands ≤ new.spare) × (new.journal ≡ old.journal ++ entry.Room commands ∷ [])
+RoomBy (Err error) commands old new = new.journal ≡ old.journal
 
-pub record MakesRoom (end : PortEnd) (commands : ℕ) (old new : PortState) : Type 0 where
+pub record MakesRoom (end : Result (Unit {0}) PortError) (commands : ℕ) (old new : PortState) : Type 0 where
   pub kept : Keeps old new
   pub room : RoomBy end commands old new
   pub faults : IsCountedIf (has_failed end) old.faults new.faults
 
 -- ## Packets that arrive
 
-abbrev pub up_failed : UpEnd → Bool
-up_failed up.Failed = true
-up_failed _ = false
-
--- the entry of a call with its end; one without memory leaves none
-abbrev pub noted_up : (UpEnd → Entry) → UpEnd → List Entry
-noted_up call up.NoMemory = []
-noted_up call (up.Finished verdict) = call (up.Finished verdict) ∷ []
-noted_up call (up.Up frame) = call (up.Up frame) ∷ []
-noted_up call up.Going = call up.Going ∷ []
-noted_up call up.Failed = call up.Failed ∷ []
-
-abbrev pub up_entry : ℕ → ℕ → List ℕ → UpEnd → List Entry
-up_entry number port packet end = noted_up (λ answer. entry.Up number port packet answer) end
+abbrev pub up_entry : ℕ → ℕ → List ℕ → Result UpEnd PortError → List Entry
+up_entry number port packet end = noted (λ answer. entry.Up number port packet answer) end
 
 -- a frame that goes up has the code's layout, and this number, port and packet, whatever its values
 abbrev pub IsUpFrame : Code → ℕ → ℕ → List ℕ → UpEnd → Type 0
@@ -140,64 +138,56 @@ EndsUp code told number packet (up.Up frame) =
     × (frame ≡ up_frame code.up number packet.port (up_values code (seen_tables told) packet) packet.bytes)
 EndsUp code told number packet _ = ⊤
 
-pub record PassesUp (end : UpEnd) (number port : ℕ) (packet : List ℕ) (old new : PortState) : Type 0 where
+pub record PassesUp (end : Result UpEnd PortError) (number port : ℕ) (packet : List ℕ) (old new : PortState)
+    : Type 0 where
   pub kept : Keeps old new
   pub journal : new.journal ≡ old.journal ++ up_entry number port packet end
-  pub faults : IsCountedIf (up_failed end) old.faults new.faults
-  pub ends : EndsUpAtOnce end
-  pub frame : (code : Code) → old.code ≡ Some code → IsUpFrame code number port packet end
+  pub faults : IsCountedIf (has_failed end) old.faults new.faults
+  pub ends : IfOk end EndsUpAtOnce
+  pub frame : (code : Code) → old.code ≡ Some code → IfOk end (IsUpFrame code number port packet)
   pub told : (code : Code) (told : Told) → old.code ≡ Some code → old.told ≡ Some told
-      → EndsUp code told number (record { port = port; bytes = packet }) end
+      → IfOk end (EndsUp code told number (record { port = port; bytes = packet }))
 
 -- preprocessing is given nothing
 abbrev pub IsNothing : Reading → Type 0
 IsNothing given = given ≡ nothing
 
 -- A packet arrives, and its pass enters. A pass without a stage above 0 ends at once.
-pub record BeginsUp (end : UpEnd) (number port : ℕ) (packet : List ℕ) (old new : PortState) : Type 0 where
+pub record BeginsUp (end : Result UpEnd PortError) (number port : ℕ) (packet : List ℕ) (old new : PortState)
+    : Type 0 where
   pub kept : KeepsTables old new
-  pub journal : new.journal ≡ old.journal ++ noted_up (λ answer. entry.BeginUp number port packet answer) end
-  pub faults : IsCountedIf (up_failed end) old.faults new.faults
+  pub journal : new.journal ≡ old.journal ++ noted (λ answer. entry.BeginUp number port packet answer) end
+  pub faults : IsCountedIf (has_failed end) old.faults new.faults
   pub post : new.passes.post ≡ old.passes.post
   pub others : OthersStay number old.passes.pre new.passes.pre
-  pub goes : (code : Code) → old.code ≡ Some code → GoesUp (nat_lt 0 code.pre.highest) end
+  pub goes : (code : Code) → old.code ≡ Some code → IfOk end (GoesUp (nat_lt 0 code.pre.highest))
   pub pass : (code : Code) → old.code ≡ Some code
       → BegunUp (HasEntered (pre_staging code) IsNothing (record { port = port; bytes = packet }) old.told) end
       (new.passes.pre number)
-  pub frame : (code : Code) → old.code ≡ Some code → IsUpFrame code number port packet end
+  pub frame : (code : Code) → old.code ≡ Some code → IfOk end (IsUpFrame code number port packet)
   pub told : (code : Code) (told : Told) → old.code ≡ Some code → old.told ≡ Some told
-      → EndsUp code told number (record { port = port; bytes = packet }) end
+      → IfOk end (EndsUp code told number (record { port = port; bytes = packet }))
 
 -- The pass of this packet goes on by a stage, or ends with it.
-pub record StagesUp (end : UpEnd) (number : ℕ) (old new : PortState) : Type 0 where
+pub record StagesUp (end : Result UpEnd PortError) (number : ℕ) (old new : PortState) : Type 0 where
   pub kept : KeepsTables old new
-  pub journal : new.journal ≡ old.journal ++ noted_up (λ answer. entry.StageUp number answer) end
-  pub faults : IsCountedIf (up_failed end) old.faults new.faults
+  pub journal : new.journal ≡ old.journal ++ noted (λ answer. entry.StageUp number answer) end
+  pub faults : IsCountedIf (has_failed end) old.faults new.faults
   pub post : new.passes.post ≡ old.passes.post
   pub others : OthersStay number old.passes.pre new.passes.pre
   pub goes : (code : Code) (pass : PassState) → old.code ≡ Some code → old.passes.pre number ≡ Some pass
-      → GoesUp (nat_lt (suc pass.stage) code.pre.highest) end
+      → IfOk end (GoesUp (nat_lt (suc pass.stage) code.pre.highest))
   pub pass : (code : Code) (pass : PassState) → old.code ≡ Some code → old.passes.pre number ≡ Some pass
       → LeavesUp (HasGoneOn (pre_staging code) old.told pass) end pass (new.passes.pre number)
   pub frame : (code : Code) (pass : PassState) → old.code ≡ Some code → old.passes.pre number ≡ Some pass
-      → IsUpFrame code number pass.packet.port pass.packet.bytes end
+      → IfOk end (IsUpFrame code number pass.packet.port pass.packet.bytes)
   pub told : (code : Code) (pass : PassState) → old.code ≡ Some code → old.passes.pre number ≡ Some pass
-      → EndsWith (pre_staging code) old.told pass (λ reads. EndsBy code reads number pass.packet end)
+      → EndsWith (pre_staging code) old.told pass (λ reads. IfOk end (EndsBy code reads number pass.packet))
 
 -- ## Packets that come down
 
-abbrev pub down_failed : DownEnd → Bool
-down_failed down.Failed = true
-down_failed _ = false
-
-abbrev pub noted_down : (DownEnd → Entry) → DownEnd → List Entry
-noted_down call down.NoMemory = []
-noted_down call (down.Verdict verdict) = call (down.Verdict verdict) ∷ []
-noted_down call down.Going = call down.Going ∷ []
-noted_down call down.Failed = call down.Failed ∷ []
-
-abbrev pub down_entry : List ℕ → DownEnd → List Entry
-down_entry frame end = noted_down (λ answer. entry.Down frame answer) end
+abbrev pub down_entry : List ℕ → Result DownEnd PortError → List Entry
+down_entry frame end = noted (λ answer. entry.Down frame answer) end
 
 -- the verdict is the code's, of what the frame says
 abbrev pub EndsDown : Code → Told → List ℕ → DownEnd → Type 0
@@ -206,12 +196,13 @@ EndsDown code told frame (down.Verdict verdict) =
     → verdict ≡ down_end code values (seen_tables told) (record { port = port; bytes = packet })
 EndsDown code told frame _ = ⊤
 
-pub record PassesDown (end : DownEnd) (frame : List ℕ) (old new : PortState) : Type 0 where
+pub record PassesDown (end : Result DownEnd PortError) (frame : List ℕ) (old new : PortState) : Type 0 where
   pub kept : Keeps old new
   pub journal : new.journal ≡ old.journal ++ down_entry frame end
-  pub faults : IsCountedIf (down_failed end) old.faults new.faults
-  pub ends : EndsDownAtOnce end
-  pub told : (code : Code) (told : Told) → old.code ≡ Some code → old.told ≡ Some told → EndsDown code told frame end
+  pub faults : IsCountedIf (has_failed end) old.faults new.faults
+  pub ends : IfOk end EndsDownAtOnce
+  pub told : (code : Code) (told : Told) → old.code ≡ Some code → old.told ≡ Some told
+      → IfOk end (EndsDown code told frame)
 
 -- postprocessing is given what a frame says, and what the code and the packet give
 abbrev pub IsHandedDown : Code → (Crossing → ℕ) → Packet → Reading → Type 0
@@ -225,33 +216,34 @@ OfItsParts code frame Holds =
     → Holds number (record { port = port; bytes = packet }) values
 
 -- A frame comes down, and the pass of its packet enters. A pass without a stage above 0 ends at once.
-pub record BeginsDown (end : DownEnd) (frame : List ℕ) (old new : PortState) : Type 0 where
+pub record BeginsDown (end : Result DownEnd PortError) (frame : List ℕ) (old new : PortState) : Type 0 where
   pub kept : KeepsTables old new
-  pub journal : new.journal ≡ old.journal ++ noted_down (λ answer. entry.BeginDown frame answer) end
-  pub faults : IsCountedIf (down_failed end) old.faults new.faults
+  pub journal : new.journal ≡ old.journal ++ noted (λ answer. entry.BeginDown frame answer) end
+  pub faults : IsCountedIf (has_failed end) old.faults new.faults
   pub pre : new.passes.pre ≡ old.passes.pre
   pub others : (code : Code) → old.code ≡ Some code
       → OfItsParts code frame (λ number packet values. OthersStay number old.passes.post new.passes.post)
-  pub goes : (code : Code) → old.code ≡ Some code → GoesDown (nat_lt 0 code.post.highest) end
+  pub goes : (code : Code) → old.code ≡ Some code → IfOk end (GoesDown (nat_lt 0 code.post.highest))
   pub pass : (code : Code) → old.code ≡ Some code
       → OfItsParts code frame (λ number packet values.
       BegunDown (HasEntered (post_staging code) (IsHandedDown code values packet) packet old.told) end
       (new.passes.post number))
-  pub told : (code : Code) (told : Told) → old.code ≡ Some code → old.told ≡ Some told → EndsDown code told frame end
+  pub told : (code : Code) (told : Told) → old.code ≡ Some code → old.told ≡ Some told
+      → IfOk end (EndsDown code told frame)
 
 -- The pass of this packet goes on by a stage, or ends with it.
-pub record StagesDown (end : DownEnd) (number : ℕ) (old new : PortState) : Type 0 where
+pub record StagesDown (end : Result DownEnd PortError) (number : ℕ) (old new : PortState) : Type 0 where
   pub kept : KeepsTables old new
-  pub journal : new.journal ≡ old.journal ++ noted_down (λ answer. entry.StageDown number answer) end
-  pub faults : IsCountedIf (down_failed end) old.faults new.faults
+  pub journal : new.journal ≡ old.journal ++ noted (λ answer. entry.StageDown number answer) end
+  pub faults : IsCountedIf (has_failed end) old.faults new.faults
   pub pre : new.passes.pre ≡ old.passes.pre
   pub others : OthersStay number old.passes.post new.passes.post
   pub goes : (code : Code) (pass : PassState) → old.code ≡ Some code → old.passes.post number ≡ Some pass
-      → GoesDown (nat_lt (suc pass.stage) code.post.highest) end
+      → IfOk end (GoesDown (nat_lt (suc pass.stage) code.post.highest))
   pub pass : (code : Code) (pass : PassState) → old.code ≡ Some code → old.passes.post number ≡ Some pass
       → LeavesDown (HasGoneOn (post_staging code) old.told pass) end pass (new.passes.post number)
   pub told : (code : Code) (pass : PassState) → old.code ≡ Some code → old.passes.post number ≡ Some pass
-      → EndsWith (post_staging code) old.told pass (λ reads. EndsDownBy code reads pass.packet end)
+      → EndsWith (post_staging code) old.told pass (λ reads. IfOk end (EndsDownBy code reads pass.packet))
 
 -- the bytes are a frame that may come down to the code that is loaded
 abbrev pub IsDownFrame : PortState → List ℕ → Type 0
@@ -259,21 +251,19 @@ IsDownFrame state frame = IfSome state.code (λ code. IsFrame 2 code.down frame)
 
 -- ## Commands
 
-abbrev pub command_failed : CommandEnd → Bool
-command_failed command.Failed = true
-command_failed command.Done = false
+abbrev pub told_by : Result (Unit {0}) PortError → Command → Option Told → Option Told
+told_by (Ok done) c told = option_map (told_after c) told
+told_by (Err error) c told = told
 
-abbrev pub told_by : CommandEnd → Command → Option Told → Option Told
-told_by command.Done c told = option_map (told_after c) told
-told_by command.Failed c told = told
-
-pub record Commands (end : CommandEnd) (c : Command) (old new : PortState) : Type 0 where
+-- a command never ends for want of memory
+pub record Commands (end : Result (Unit {0}) PortError) (c : Command) (old new : PortState) : Type 0 where
+  pub memory : HadMemory end
   pub code : new.code ≡ old.code
   pub told : new.told ≡ told_by end c old.told
   pub passes : new.passes ≡ old.passes
   pub journal : new.journal ≡ old.journal ++ entry.Command c end ∷ []
   pub spare : suc new.spare ≡ old.spare
-  pub faults : IsCountedIf (command_failed end) old.faults new.faults
+  pub faults : IsCountedIf (has_failed end) old.faults new.faults
 
 -- an object that can change, with its declaration
 pub record IsReplicatedIn (code : Code) (o : ℕ) (d : ObjectDecl) : Type 0 where
@@ -296,13 +286,9 @@ IsCommandOf code _ = Unit {0}
 
 -- ## Rows
 
-abbrev pub rows_failed : RowsEnd → Bool
-rows_failed rows.Failed = true
-rows_failed _ = false
-
-abbrev pub rows_entry : ℕ → RowsEnd → List Entry
-rows_entry o (rows.Rows r) = entry.Visible o ∷ []
-rows_entry o _ = []
+abbrev pub rows_entry : ℕ → Result (List Row) PortError → List Entry
+rows_entry o (Ok rows) = entry.Visible o ∷ []
+rows_entry o (Err error) = []
 
 abbrev pub fits_row : ObjectDecl → Row → Bool
 fits_row d r = have_widths d.keys r.keys && have_widths d.values r.values
@@ -316,21 +302,16 @@ pub record AreRowsOf (d : ObjectDecl) (list : List Row) : Type 0 where
   pub fit : Each (λ r. IsTrue (fits_row d r)) list
   pub rising : IsSorted (map entry_of list)
 
-abbrev pub GivesRowsOf : ObjectDecl → RowsEnd → Type 0
-GivesRowsOf d (rows.Rows list) = AreRowsOf d list
-GivesRowsOf d _ = ⊤
-
 -- the rows are those that lookups see
-abbrev pub EndsSeen : Told → ℕ → RowsEnd → Type 0
-EndsSeen told o (rows.Rows list) = list ≡ visible_rows told.bit (pair_at told.pairs o)
-EndsSeen told o _ = ⊤
+abbrev pub AreSeen : Told → ℕ → List Row → Type 0
+AreSeen told o list = list ≡ visible_rows told.bit (pair_at told.pairs o)
 
-pub record ShowsRows (end : RowsEnd) (o : ℕ) (old new : PortState) : Type 0 where
+pub record ShowsRows (end : Result (List Row) PortError) (o : ℕ) (old new : PortState) : Type 0 where
   pub kept : Keeps old new
   pub journal : new.journal ≡ old.journal ++ rows_entry o end
-  pub faults : IsCountedIf (rows_failed end) old.faults new.faults
-  pub rows : (code : Code) (d : ObjectDecl) → old.code ≡ Some code → IsReplicatedIn code o d → GivesRowsOf d end
-  pub told : (told : Told) → old.told ≡ Some told → EndsSeen told o end
+  pub faults : IsCountedIf (has_failed end) old.faults new.faults
+  pub rows : (code : Code) (d : ObjectDecl) → old.code ≡ Some code → IsReplicatedIn code o d → IfOk end (AreRowsOf d)
+  pub told : (told : Told) → old.told ≡ Some told → IfOk end (AreSeen told o)
 
 -- ## Conditions of calls
 

@@ -63,7 +63,7 @@ is_condition blocks v (suc k) = is_value v (block_at blocks k).cond
 abbrev pub is_tested : PassCode → ValueId → Bool
 is_tested pass v = list_any (λ b. list_any (is_condition pass.blocks v) (line pass.blocks b)) pass.rest
 
--- It is read once all stages are done: a frame takes it up, a packet's way hangs on it, or the released packet.
+-- A value is read once all stages are done: a frame takes it up, a packet's way hangs on it, or the released packet.
 abbrev pub is_read_last : List Crossing → PassCode → ValueId → Bool
 is_read_last up pass v =
     list_any (λ (c : Crossing). is_value v c.value) up

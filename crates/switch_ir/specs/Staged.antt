@@ -42,6 +42,11 @@ pre_staging code = record { code = code.pre; tables = code.tables; handed = []; 
 abbrev pub post_staging : Code → Staging
 post_staging code = record { code = code.post; tables = code.tables; handed = code.down; layout = [] }
 
+-- the pass before the server, or behind it
+abbrev pub staging : Bool → Code → Staging
+staging true code = pre_staging code
+staging false code = post_staging code
+
 -- the values that a pass has; what it is given counts as one of stage 0
 abbrev pub all_values : Staging → List Written
 all_values p = written_in p.tables p.handed p.code
@@ -104,6 +109,11 @@ pub record IsOver (p : Staging) (given : Reading) (tables : Store) (packet : Pac
   pub enough : KeepsEnough p t numbers
   pub right : (v : ValueId) (n : ℕ) → numbers v ≡ Some n
       → n ≡ after_stages p.code.steps given tables packet (suc t) v
+
+-- what the pass doesn't have once the stages up to t are done counts as 0
+abbrev pub HasNoMore : Staging → Reading → Store → Packet → Type 0
+HasNoMore p given tables packet =
+    (t : ℕ) (v : ValueId) → is_had p t v ≡ false → after_stages p.code.steps given tables packet (suc t) v ≡ 0
 
 -- ## Answers
 

@@ -1,12 +1,13 @@
 -- Passes that are under way, and what a call leaves of them. A pass is known by its kind and by the number of its
 -- packet.
-use Rattle.std.specs.Prelude.{◌≡◌, ◌≢◌, ℕ, suc, Bool, true, false, Option, Some, None, ⊤}
+use Rattle.std.specs.Prelude.{◌≡◌, ◌≢◌, ℕ, suc, Bool, true, false, Option, Some, None, Result, Ok, Err, ⊤}
 use Rattle.packet_fields.specs.declared.packet.Packet.{Packet}
 use Rattle.flat_ir.specs.Blocks.{Reading}
 use Rattle.writeback_table.specs.declared.command.Command.{Command}
 use Rattle.writeback_table.specs.Views.{disturbs}
 use Rattle.switch_ir.specs.Staged.{Numbers, Staging, IsEntered, IsStaged, last_numbers}
 use Rattle.switch_ir.specs.Tables.{Told, view_of}
+use Rattle.switch_ir.specs.declared.port.PortError.{PortError}
 use Rattle.switch_ir.specs.declared.port.UpEnd.{UpEnd}
 use Rattle.switch_ir.specs.declared.port.UpEnd.TheVariants as up
 use Rattle.switch_ir.specs.declared.port.DownEnd.{DownEnd}
@@ -84,39 +85,33 @@ EndsWith p told pass IsAnswer =
 -- a pass has stages left just where it goes on
 abbrev pub GoesUp : Bool → UpEnd → Type 0
 GoesUp left up.Going = left ≡ true
-GoesUp left up.Failed = ⊤
-GoesUp left up.NoMemory = ⊤
 GoesUp left _ = left ≡ false
 
 abbrev pub GoesDown : Bool → DownEnd → Type 0
 GoesDown left down.Going = left ≡ true
-GoesDown left (down.Verdict verdict) = left ≡ false
-GoesDown left _ = ⊤
+GoesDown left _ = left ≡ false
 
 -- What a call that begins a pass leaves of it: where the pass has stages left it is under way, as this says, and else
 -- none is.
-abbrev pub BegunUp : (PassState → Type 0) → UpEnd → Option PassState → Type 0
-BegunUp IsNew up.Going new = (pass : PassState) × (new ≡ Some pass) × IsNew pass
+abbrev pub BegunUp : (PassState → Type 0) → Result UpEnd PortError → Option PassState → Type 0
+BegunUp IsNew (Ok up.Going) new = (pass : PassState) × (new ≡ Some pass) × IsNew pass
 BegunUp _ _ new = new ≡ None
 
-abbrev pub BegunDown : (PassState → Type 0) → DownEnd → Option PassState → Type 0
-BegunDown IsNew down.Going new = (pass : PassState) × (new ≡ Some pass) × IsNew pass
+abbrev pub BegunDown : (PassState → Type 0) → Result DownEnd PortError → Option PassState → Type 0
+BegunDown IsNew (Ok down.Going) new = (pass : PassState) × (new ≡ Some pass) × IsNew pass
 BegunDown _ _ new = new ≡ None
 
 -- What a stage leaves of its pass: where the pass goes on it is under way, as this says; where the call didn't come
 -- about it is as before; and else it is under way no longer.
-abbrev pub LeavesUp : (PassState → Type 0) → UpEnd → PassState → Option PassState → Type 0
-LeavesUp IsNew up.Going old new = (pass : PassState) × (new ≡ Some pass) × IsNew pass
-LeavesUp IsNew (up.Finished verdict) old new = new ≡ None
-LeavesUp IsNew (up.Up frame) old new = new ≡ None
-LeavesUp IsNew up.Failed old new = new ≡ Some old
-LeavesUp IsNew up.NoMemory old new = new ≡ Some old
+abbrev pub LeavesUp : (PassState → Type 0) → Result UpEnd PortError → PassState → Option PassState → Type 0
+LeavesUp IsNew (Ok up.Going) old new = (pass : PassState) × (new ≡ Some pass) × IsNew pass
+LeavesUp IsNew (Ok end) old new = new ≡ None
+LeavesUp IsNew (Err error) old new = new ≡ Some old
 
-abbrev pub LeavesDown : (PassState → Type 0) → DownEnd → PassState → Option PassState → Type 0
-LeavesDown IsNew down.Going old new = (pass : PassState) × (new ≡ Some pass) × IsNew pass
-LeavesDown IsNew (down.Verdict verdict) old new = new ≡ None
-LeavesDown IsNew down.Failed old new = new ≡ Some old
-LeavesDown IsNew down.NoMemory old new = new ≡ Some old
+abbrev pub LeavesDown : (PassState → Type 0) → Result DownEnd PortError → PassState → Option PassState → Type 0
+LeavesDown IsNew (Ok down.Going) old new = (pass : PassState) × (new ≡ Some pass) × IsNew pass
+LeavesDown IsNew (Ok end) old new = new ≡ None
+LeavesDown IsNew (Err error) old new = new ≡ Some old
 
 -- a pass of one event has no stages left
 abbrev pub EndsUpAtOnce : UpEnd → Type 0

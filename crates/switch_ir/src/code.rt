@@ -15,7 +15,7 @@ use std::marker::Model;
 /// An instruction of a pass.
 #[derive(Debug, Drop)]
 pub struct PassStep {
-    /// Its place in the code of the flat program, from 0.
+    /// The place in the code of the flat program, from 0.
     pub instruction: u32,
     /// The stage in which it is computed. Those of a stage read what was there before the stage.
     pub stage: u32,

@@ -18,7 +18,7 @@ use crate::spans::{no_plan, plan_of, spans_of, values_are_few};
 use crate::steps::{Role, given_steps, highest, steps, values};
 use flat_ir::{FieldValue, Flat, Out, Spans, what_fits_can_run};
 use gal_io::NoMemory;
-use split_model::{Layout, Split, down_layout, up_layout};
+use split_model::{Layout, Layouts, Split};
 use std::alloc::Global;
 
 /// The code of the switch's part of a split program, with room for `writeback` rows in each write-back table.
@@ -37,17 +37,16 @@ pub fn emit(alloc: Global, f: &Flat, s: &Split, writeback: u32) -> Result<Switch
     let count = values(f);
     let mut pre = pre_pass(alloc, f, s)?;
     let mut post = post_pass(alloc, f, s)?;
-    let up = up_layout(alloc, f, s)?;
-    let down = down_layout(alloc, f, s)?;
+    let layouts = Layouts::of(alloc, f, s)?;
     let tables = looked_up(alloc, f, s)?;
     let none = Layout::new(alloc);
-    pre.plan = plan_of(alloc, &pre, &none, &up, &tables, f.code.len())?;
-    post.plan = plan_of(alloc, &post, &down, &none, &tables, f.code.len())?;
+    pre.plan = plan_of(alloc, &pre, &none, &layouts.up, &tables, f.code.len())?;
+    post.plan = plan_of(alloc, &post, &layouts.down, &none, &tables, f.code.len())?;
     Ok(SwitchCode {
         pre,
         post,
-        up,
-        down,
+        up: layouts.up,
+        down: layouts.down,
         tables,
         writeback,
         values: count,
@@ -57,9 +56,9 @@ pub fn emit(alloc: Global, f: &Flat, s: &Split, writeback: u32) -> Result<Switch
 /// For how long the values of the two passes of a switch are needed.
 #[derive(Debug, Drop)]
 pub struct PassSpans {
-    /// Those of the pass over a packet that arrives.
+    /// Of the pass over a packet that arrives.
     pub pre: Spans,
-    /// Those of the pass over a packet that comes down.
+    /// Of the pass over a packet that comes down.
     pub post: Spans,
 }
 
@@ -76,13 +75,12 @@ pub fn spans_of_passes(alloc: Global, f: &Flat, s: &Split) -> Result<PassSpans, 
     values_are_few(f);
     let pre = pre_pass(alloc, f, s)?;
     let post = post_pass(alloc, f, s)?;
-    let carried = up_layout(alloc, f, s)?;
-    let down = down_layout(alloc, f, s)?;
+    let layouts = Layouts::of(alloc, f, s)?;
     let tables = looked_up(alloc, f, s)?;
     let none = Layout::new(alloc);
     Ok(PassSpans {
-        pre: spans_of(alloc, &pre, &none, &carried, &tables, f.code.len())?,
-        post: spans_of(alloc, &post, &down, &none, &tables, f.code.len())?,
+        pre: spans_of(alloc, &pre, &none, &layouts.up, &tables, f.code.len())?,
+        post: spans_of(alloc, &post, &layouts.down, &none, &tables, f.code.len())?,
     })
 }
 

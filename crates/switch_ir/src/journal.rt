@@ -5,7 +5,7 @@ ghost use Rattle.switch_ir.specs.Journal.{command_in, down_in, entries_of, entry
 ghost use Rattle.switch_ir.specs.Journal.{IsFilled, IsShort};
 ghost use Rattle.switch_ir.specs.declared.journal.Entry.TheVariants as entry;
 
-use crate::port::{CommandEnd, DownEnd, UpEnd};
+use crate::port::{DownEnd, PortError, UpEnd};
 use gal_bits::Values;
 use gal_io::{Bytes, NoMemory};
 use packet_fields::Verdict;
@@ -25,33 +25,33 @@ pub enum Entry {
         number: u32,
         port: u8,
         packet: Bytes,
-        answer: UpEnd,
+        answer: Result<UpEnd, PortError>,
     },
     Down {
         frame: Bytes,
-        answer: DownEnd,
+        answer: Result<DownEnd, PortError>,
     },
     /// A packet arrived whose pass goes stage by stage, also where it has no stages left.
     BeginUp {
         number: u32,
         port: u8,
         packet: Bytes,
-        answer: UpEnd,
+        answer: Result<UpEnd, PortError>,
     },
     StageUp {
         number: u32,
-        answer: UpEnd,
+        answer: Result<UpEnd, PortError>,
     },
     /// A frame came down whose packet's pass goes stage by stage, also where it has no stages left.
     BeginDown {
         frame: Bytes,
-        answer: DownEnd,
+        answer: Result<DownEnd, PortError>,
     },
     StageDown {
         number: u32,
-        answer: DownEnd,
+        answer: Result<DownEnd, PortError>,
     },
-    Command(Command, CommandEnd),
+    Command(Command, Result<(), PortError>),
     /// The rows of the object of this number were asked for.
     Visible(u32),
 }
@@ -61,13 +61,13 @@ pub enum Entry {
 pub enum Call<'a> {
     Load,
     Room(usize),
-    Up(u32, u8, &'a [u8], &'a UpEnd),
-    Down(&'a [u8], &'a DownEnd),
-    BeginUp(u32, u8, &'a [u8], &'a UpEnd),
-    StageUp(u32, &'a UpEnd),
-    BeginDown(&'a [u8], &'a DownEnd),
-    StageDown(u32, &'a DownEnd),
-    Command(&'a Command, CommandEnd),
+    Up(u32, u8, &'a [u8], &'a Result<UpEnd, PortError>),
+    Down(&'a [u8], &'a Result<DownEnd, PortError>),
+    BeginUp(u32, u8, &'a [u8], &'a Result<UpEnd, PortError>),
+    StageUp(u32, &'a Result<UpEnd, PortError>),
+    BeginDown(&'a [u8], &'a Result<DownEnd, PortError>),
+    StageDown(u32, &'a Result<DownEnd, PortError>),
+    Command(&'a Command, Result<(), PortError>),
     Visible(u32),
 }
 
@@ -102,7 +102,8 @@ impl Entry {
 }
 
 impl<'a> Call<'a> {
-    // Its outline, the numbers of its key and of its values, the bytes that it was given, and those of its answer.
+    // The outline of a call, the numbers of its key and of its values, the bytes that it was given, and those of its
+    // answer.
     #[tactic(auto, using(std::proofs::lemmas::List::take_at, std::proofs::lemmas::List::drop_at))]
     fn parts(&self) -> (Outline, &'a [u64], &'a [u64], &'a [u8], &'a [u8])
         ensures entry { entry_in result.0 (result.1.now ++ result.2.now) (result.3.now ++ result.4.now)
@@ -174,7 +175,7 @@ enum Outline {
     BeginDown(End, usize),
     StageDown(End, u32),
     // A command with the number of its object, and with how many numbers its key and its values have.
-    Command(CommandEnd, Form, u32, u8, u8),
+    Command(Result<(), PortError>, Form, u32, u8, u8),
     Visible(u32),
 }
 
@@ -202,58 +203,60 @@ enum Form {
 }
 
 // An end without its bytes, and these.
-fn up_parts(end: &UpEnd) -> (End, &[u8])
+fn up_parts(end: &Result<UpEnd, PortError>) -> (End, &[u8])
     ensures { up_in result.0 result.1.now ≡ end.now }
 {
     match end {
-        UpEnd::Finished(Verdict::Drop) => (End::Drop, &[]),
-        UpEnd::Finished(Verdict::Send(port, bytes)) => (End::Send(*port), bytes.as_slice()),
-        UpEnd::Up(frame) => (End::Up, frame.as_slice()),
-        UpEnd::Going => (End::Going, &[]),
-        UpEnd::Failed => (End::Failed, &[]),
-        UpEnd::NoMemory => (End::NoMemory, &[]),
+        Ok(UpEnd::Finished(Verdict::Drop)) => (End::Drop, &[]),
+        Ok(UpEnd::Finished(Verdict::Send(port, bytes))) => (End::Send(*port), bytes.as_slice()),
+        Ok(UpEnd::Up(frame)) => (End::Up, frame.as_slice()),
+        Ok(UpEnd::Going) => (End::Going, &[]),
+        Err(PortError::Failed) => (End::Failed, &[]),
+        Err(PortError::NoMemory) => (End::NoMemory, &[]),
     }
 }
 
-fn down_parts(end: &DownEnd) -> (End, &[u8])
+fn down_parts(end: &Result<DownEnd, PortError>) -> (End, &[u8])
     ensures { down_in result.0 result.1.now ≡ end.now }
 {
     match end {
-        DownEnd::Verdict(Verdict::Drop) => (End::Drop, &[]),
-        DownEnd::Verdict(Verdict::Send(port, bytes)) => (End::Send(*port), bytes.as_slice()),
-        DownEnd::Going => (End::Going, &[]),
-        DownEnd::Failed => (End::Failed, &[]),
-        DownEnd::NoMemory => (End::NoMemory, &[]),
+        Ok(DownEnd::Verdict(Verdict::Drop)) => (End::Drop, &[]),
+        Ok(DownEnd::Verdict(Verdict::Send(port, bytes))) => (End::Send(*port), bytes.as_slice()),
+        Ok(DownEnd::Going) => (End::Going, &[]),
+        Err(PortError::Failed) => (End::Failed, &[]),
+        Err(PortError::NoMemory) => (End::NoMemory, &[]),
     }
 }
 
 // The end of a pass whose answer has these bytes.
-fn up_in(alloc: Global, end: End, bytes: &[u8]) -> Result<UpEnd, NoMemory>
+fn up_in(alloc: Global, end: End, bytes: &[u8]) -> Result<Result<UpEnd, PortError>, NoMemory>
     ensures { IfOk result (λ made. made ≡ up_in end bytes.now) }
 {
     Ok(match end {
-        End::Drop => UpEnd::Finished(Verdict::Drop),
+        End::Drop => Ok(UpEnd::Finished(Verdict::Drop)),
         End::Send(port) => {
-            UpEnd::Finished(Verdict::Send(port, Bytes::from_slice(alloc, bytes)?))
+            let bytes = Bytes::from_slice(alloc, bytes)?;
+            Ok(UpEnd::Finished(Verdict::Send(port, bytes)))
         }
-        End::Up => UpEnd::Up(Bytes::from_slice(alloc, bytes)?),
-        End::Going => UpEnd::Going,
-        End::Failed => UpEnd::Failed,
-        End::NoMemory => UpEnd::NoMemory,
+        End::Up => Ok(UpEnd::Up(Bytes::from_slice(alloc, bytes)?)),
+        End::Going => Ok(UpEnd::Going),
+        End::Failed => Err(PortError::Failed),
+        End::NoMemory => Err(PortError::NoMemory),
     })
 }
 
-fn down_in(alloc: Global, end: End, bytes: &[u8]) -> Result<DownEnd, NoMemory>
+fn down_in(alloc: Global, end: End, bytes: &[u8]) -> Result<Result<DownEnd, PortError>, NoMemory>
     ensures { IfOk result (λ made. made ≡ down_in end bytes.now) }
 {
     Ok(match end {
-        End::Drop => DownEnd::Verdict(Verdict::Drop),
+        End::Drop => Ok(DownEnd::Verdict(Verdict::Drop)),
         End::Send(port) => {
-            DownEnd::Verdict(Verdict::Send(port, Bytes::from_slice(alloc, bytes)?))
+            let bytes = Bytes::from_slice(alloc, bytes)?;
+            Ok(DownEnd::Verdict(Verdict::Send(port, bytes)))
         }
-        End::Up | End::Going => DownEnd::Going,
-        End::Failed => DownEnd::Failed,
-        End::NoMemory => DownEnd::NoMemory,
+        End::Up | End::Going => Ok(DownEnd::Going),
+        End::Failed => Err(PortError::Failed),
+        End::NoMemory => Err(PortError::NoMemory),
     })
 }
 
@@ -294,7 +297,7 @@ fn form_parts(command: &Command) -> (Form, u32, &[u64], &[u64])
 // The outline of a command, and the numbers of its key and of its values.
 #[inline]
 #[tactic(auto, using(std::proofs::lemmas::List::take_at, std::proofs::lemmas::List::drop_at))]
-fn command_parts(command: &Command, end: CommandEnd) -> (Outline, &[u64], &[u64])
+fn command_parts(command: &Command, end: Result<(), PortError>) -> (Outline, &[u64], &[u64])
     ensures entry { entry_in result.0 (result.1.now ++ result.2.now) [] ≡ entry.Command command.now end }
     ensures count { number_count result.0 ≡ length result.1.now + length result.2.now }
     ensures few { length result.1.now + length result.2.now ≤ 16 }
@@ -558,10 +561,10 @@ impl Journal {
         ensures err { OnErr result (self.new ≡ self.old) }
     {
         match call {
-            Call::StageUp(number, UpEnd::Going) => {
+            Call::StageUp(number, Ok(UpEnd::Going)) => {
                 self.note_mark(Outline::StageUp(End::Going, number))
             }
-            Call::StageDown(number, DownEnd::Going) => {
+            Call::StageDown(number, Ok(DownEnd::Going)) => {
                 self.note_mark(Outline::StageDown(End::Going, number))
             }
             _ => self.note_parts(&call),
@@ -605,7 +608,7 @@ impl Journal {
 
     /// Puts a command last, in memory that was taken before, without a copy of it.
     #[inline]
-    pub fn push_command(&mut self, command: &Command, end: CommandEnd)
+    pub fn push_command(&mut self, command: &Command, end: Result<(), PortError>)
         requires { 0 < self.old.spare }
         ensures { self.new ≡ record {
           entries = self.old.entries ++ entry.Command command.now end ∷ [];

@@ -14,4 +14,4 @@ mod steps;
 pub use code::{Pass, PassStep, Steps, SwitchCode, Table, Tables};
 pub use emitter::{PassSpans, emit, spans_of_passes};
 pub use journal::{Call, Entry, Journal};
-pub use port::{CommandEnd, DownEnd, PortEnd, RowsEnd, SwitchPort, UpEnd};
+pub use port::{DownEnd, PortError, SwitchPort, UpEnd};

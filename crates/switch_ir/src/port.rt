@@ -15,14 +15,23 @@ use state_store::Rows;
 use std::alloc::Global;
 use writeback_table::Command;
 
-/// How a load, or a call for room, ends.
+/// Why a call of a switch has no answer.
 #[derive(Clone, Copy, Debug, PartialEq, Eq)]
-pub enum PortEnd {
-    Done,
-    /// The switch failed, and its count of faults rose by one. All else is as before.
+pub enum PortError {
+    /// The switch failed, and its count of faults rose by one. The code, the tables and the passes are as before.
     Failed,
     /// There was no memory. All is as before.
     NoMemory,
+}
+
+impl From<NoMemory> for PortError {
+    ghost use Rattle.switch_ir.specs.declared.port.PortError.TheVariants as error;
+
+    ghost from_gives = { λ _ e. e ≡ error.NoMemory };
+
+    fn from(_: NoMemory) -> PortError {
+        PortError::NoMemory
+    }
 }
 
 /// How the pass over a packet that arrives ends.
@@ -34,10 +43,6 @@ pub enum UpEnd {
     Up(Bytes),
     /// The pass has stages left. A pass of one call never ends so.
     Going,
-    /// The switch failed, and its count of faults rose by one.
-    Failed,
-    /// There was no memory.
-    NoMemory,
 }
 
 /// How the pass over a packet that comes down ends.
@@ -46,10 +51,6 @@ pub enum DownEnd {
     Verdict(Verdict),
     /// The pass has stages left. A pass of one call never ends so.
     Going,
-    /// The switch failed, and its count of faults rose by one.
-    Failed,
-    /// There was no memory.
-    NoMemory,
 }
 
 impl UpEnd {
@@ -61,8 +62,6 @@ impl UpEnd {
             UpEnd::Finished(verdict) => UpEnd::Finished(copy_verdict(alloc, verdict)?),
             UpEnd::Up(frame) => UpEnd::Up(frame.copy(alloc)?),
             UpEnd::Going => UpEnd::Going,
-            UpEnd::Failed => UpEnd::Failed,
-            UpEnd::NoMemory => UpEnd::NoMemory,
         })
     }
 }
@@ -75,8 +74,6 @@ impl DownEnd {
         Ok(match self {
             DownEnd::Verdict(verdict) => DownEnd::Verdict(copy_verdict(alloc, verdict)?),
             DownEnd::Going => DownEnd::Going,
-            DownEnd::Failed => DownEnd::Failed,
-            DownEnd::NoMemory => DownEnd::NoMemory,
         })
     }
 }
@@ -88,24 +85,6 @@ fn copy_verdict(alloc: Global, verdict: &Verdict) -> Result<Verdict, NoMemory>
         Verdict::Drop => Verdict::Drop,
         Verdict::Send(port, bytes) => Verdict::Send(*port, bytes.copy(alloc)?),
     })
-}
-
-/// How a command ends.
-#[derive(Clone, Copy, Debug, PartialEq, Eq)]
-pub enum CommandEnd {
-    Done,
-    /// The switch failed, and its count of faults rose by one. The tables and the bit are as before.
-    Failed,
-}
-
-/// How a call for rows ends.
-#[derive(Debug, Drop)]
-pub enum RowsEnd {
-    Rows(Rows),
-    /// The switch failed, and its count of faults rose by one.
-    Failed,
-    /// There was no memory.
-    NoMemory,
 }
 
 /// A switch.
@@ -122,57 +101,69 @@ pub trait SwitchPort {
     ghost seen: { Self → PortState };
 
     /// Loads code: the tables have their start rows, the bit is 0, no pass is under way, and the journal begins anew.
-    fn load(&mut self, alloc: Global, code: &SwitchCode) -> PortEnd
+    fn load(&mut self, alloc: Global, code: &SwitchCode) -> Result<(), PortError>
         requires { IsEmitted (code_of code.now) }
         ensures { Loads result (code_of code.now) (seen self.old) (seen self.new) };
 
     /// Takes the memory for this many commands.
-    fn room(&mut self, alloc: Global, commands: usize) -> PortEnd
+    fn room(&mut self, alloc: Global, commands: usize) -> Result<(), PortError>
         requires { IsLoaded (seen self.old) }
         ensures { MakesRoom result commands (seen self.old) (seen self.new) };
 
     /// A packet arrives, which is known by its number.
-    fn pass_up(&mut self, alloc: Global, number: u32, port: u8, packet: &[u8]) -> UpEnd
+    fn pass_up(
+        &mut self,
+        alloc: Global,
+        number: u32,
+        port: u8,
+        packet: &[u8],
+    ) -> Result<UpEnd, PortError>
         requires loaded { IsLoaded (seen self.old) }
         requires size { length packet.now ≤ largest_packet }
         ensures { PassesUp result number port packet.now (seen self.old) (seen self.new) };
 
     /// A frame comes down from the server.
-    fn pass_down(&mut self, alloc: Global, frame: &[u8]) -> DownEnd
+    fn pass_down(&mut self, alloc: Global, frame: &[u8]) -> Result<DownEnd, PortError>
         requires loaded { IsLoaded (seen self.old) }
         requires frame { IsDownFrame (seen self.old) frame.now }
         ensures { PassesDown result frame.now (seen self.old) (seen self.new) };
 
     /// A packet arrives, which is known by its number, and its pass enters. It ends at once where it has no stage above
     /// 0, as `pass_up` does.
-    fn begin_up(&mut self, alloc: Global, number: u32, port: u8, packet: &[u8]) -> UpEnd
+    fn begin_up(
+        &mut self,
+        alloc: Global,
+        number: u32,
+        port: u8,
+        packet: &[u8],
+    ) -> Result<UpEnd, PortError>
         requires loaded { IsLoaded (seen self.old) }
         requires size { length packet.now ≤ largest_packet }
         requires none { HasNoUpPass (seen self.old) number }
         ensures { BeginsUp result number port packet.now (seen self.old) (seen self.new) };
 
     /// The pass over the packet of this number that arrived takes a stage.
-    fn stage_up(&mut self, alloc: Global, number: u32) -> UpEnd
+    fn stage_up(&mut self, alloc: Global, number: u32) -> Result<UpEnd, PortError>
         requires { HasUpPass (seen self.old) number }
         ensures { StagesUp result number (seen self.old) (seen self.new) };
 
     /// A frame comes down from the server, and the pass of its packet enters. It ends at once where it has no stage above
     /// 0, as `pass_down` does.
-    fn begin_down(&mut self, alloc: Global, frame: &[u8]) -> DownEnd
+    fn begin_down(&mut self, alloc: Global, frame: &[u8]) -> Result<DownEnd, PortError>
         requires loaded { IsLoaded (seen self.old) }
         requires frame { IsDownFrame (seen self.old) frame.now }
         requires none { HasNoDownPassOf (seen self.old) frame.now }
         ensures { BeginsDown result frame.now (seen self.old) (seen self.new) };
 
     /// The pass over the packet of this number that came down takes a stage.
-    fn stage_down(&mut self, alloc: Global, number: u32) -> DownEnd
+    fn stage_down(&mut self, alloc: Global, number: u32) -> Result<DownEnd, PortError>
         requires { HasDownPass (seen self.old) number }
         ensures { StagesDown result number (seen self.old) (seen self.new) };
 
     /// Changes a table or the bit. A command that would change what a pass under way sees has to wait for it: a change of
     /// the main tables for passes that entered with bit 0, and one that is staged for those that entered with bit 1. This
     /// takes no memory.
-    fn command(&mut self, command: &Command) -> CommandEnd
+    fn command(&mut self, command: &Command) -> Result<(), PortError>
         requires loaded { IsLoaded (seen self.old) }
         requires named { CanCommand (seen self.old) command.now }
         requires spare { 0 < (seen self.old).spare }
@@ -181,7 +172,7 @@ pub trait SwitchPort {
         ensures { Commands result command.now (seen self.old) (seen self.new) };
 
     /// The rows of an object that lookups see.
-    fn visible(&mut self, alloc: Global, object: u32) -> RowsEnd
+    fn visible(&mut self, alloc: Global, object: u32) -> Result<Rows, PortError>
         requires loaded { IsLoaded (seen self.old) }
         requires replicated { HasReplicated (seen self.old) object }
         ensures { ShowsRows result object (seen self.old) (seen self.new) };

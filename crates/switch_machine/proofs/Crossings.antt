@@ -4,14 +4,14 @@ use Rattle.flat_ir.specs.Blocks.{nothing}
 use Rattle.transfer_header.specs.Registers.{content_of}
 use Rattle.switch_ir.specs.Code.{Code}
 use Rattle.switch_machine.specs.declared.loaded_pass.LoadedPass.{LoadedPass}
-use Rattle.switch_machine.specs.Flights.{flights_in}
+use Rattle.switch_machine.specs.ActivePasses.{active_in}
 use Rattle.switch_machine.specs.Sides.{staging}
 use Rattle.switch_machine.specs.UnderWay.{passes_by, passes_of, IsGiven}
 use Rattle.switch_machine.specs.Workplaces.{StaysMade}
 
 -- passes that stay are told as before
-pub passes_stay : (code : Code) (old new : LoadedPass) → StaysMade old new → new.flights ≡ old.flights → passes_of code new ≡ passes_of code old
-passes_stay code old new same flights = λ i. passes_by (staging (same.side i) code) (same.ranges i) (same.plan i) (flights_in (flights i))
+pub passes_stay : (code : Code) (old new : LoadedPass) → StaysMade old new → new.active ≡ old.active → passes_of code new ≡ passes_of code old
+passes_stay code old new same active = λ i. passes_by (staging (same.side i) code) (same.ranges i) (same.plan i) (active_in (active i))
 
 pub both_stay : (a b c : LoadedPass) → StaysMade a b → StaysMade b c → StaysMade a c
 both_stay a b c one two = record {

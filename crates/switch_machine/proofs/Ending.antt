@@ -20,14 +20,12 @@ use Rattle.switch_ir.specs.UnderWay.{Passes}
 use Rattle.switch_ir.specs.declared.port.UpEnd.{UpEnd}
 use Rattle.switch_ir.specs.declared.port.UpEnd.TheVariants as up
 use Rattle.switch_machine.specs.declared.numbering.ValueRange.{ValueRange}
-use Rattle.switch_machine.specs.declared.sides.Outcome.{Outcome}
-use Rattle.switch_machine.specs.declared.sides.Outcome.TheVariants.{Going}
 use Rattle.switch_machine.specs.declared.sides.Side.{Side}
 use Rattle.switch_machine.specs.declared.sides.Side.TheVariants.{Before, Behind}
 use Rattle.switch_machine.specs.Keeping.{kept, left_with, lines_of, values_in}
 use Rattle.switch_machine.specs.Numbers.{reads_by, AreHeld}
 use Rattle.switch_machine.specs.Ranges.{AreOrdered}
-use Rattle.switch_machine.specs.Sides.{of_side, staging, up_of, EndsOn, IsOf}
+use Rattle.switch_machine.specs.Sides.{of_side, staging, EndsOn, IsOf}
 use Rattle.switch_machine.specs.UnderWay.{leaves_on, Enters, HasEnd}
 use Rattle.switch_machine.proofs.GoingUp.{up_holds}
 use Rattle.switch_machine.proofs.PassValues.{IsRanged}
@@ -101,9 +99,9 @@ some_left true highest e several = absurd (true≢false e)
 some_left false highest e several = lt-ltb 0 highest (omega (arith, several))
 
 -- a pass that is computed to its end begins with no stages left
-pub at_end : (side : Side) (code : Code) (told : Told) (whole : Bool) (number : ℕ) (packet : Packet) (given : Reading) (outcome : Outcome) (old new : Passes)
-    → HasEnd side code number packet false (EndsOn side code (pass_values (staging side code).code given (seen_tables told) packet) number packet) (up_of outcome)
-    → new ≡ old → (not whole && nat_lt 0 (staging side code).code.highest) ≡ false → Enters side code told whole number packet given (up_of outcome) old new
-at_end side code told whole number packet given Going old new h same none = absurd (true≢false (sym h.goes))
-at_end side code told whole number packet given outcome old new h same none =
+pub at_end : (side : Side) (code : Code) (told : Told) (whole : Bool) (number : ℕ) (packet : Packet) (given : Reading) (end : UpEnd) (old new : Passes)
+    → HasEnd side code number packet false (EndsOn side code (pass_values (staging side code).code given (seen_tables told) packet) number packet) end
+    → new ≡ old → (not whole && nat_lt 0 (staging side code).code.highest) ≡ false → Enters side code told whole number packet given end old new
+at_end side code told whole number packet given up.Going old new h same none = absurd (true≢false (sym h.goes))
+at_end side code told whole number packet given end old new h same none =
     record { begun = same; ends = record { goes = none; of = h.of; frame = h.frame; told = h.told } }

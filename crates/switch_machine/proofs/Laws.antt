@@ -13,7 +13,7 @@ use Rattle.switch_ir.specs.Tables.{Told, seen_tables, view_of}
 use Rattle.switch_machine.specs.declared.loaded_pass.LoadedPass.{LoadedPass}
 use Rattle.switch_machine.specs.declared.sides.Side.{Side}
 use Rattle.switch_machine.specs.declared.sides.Side.TheVariants.{Before, Behind}
-use Rattle.switch_machine.specs.Flights.{numbers_in}
+use Rattle.switch_machine.specs.ActivePasses.{numbers_in}
 use Rattle.switch_machine.specs.Keeping.{begins, kept}
 use Rattle.switch_machine.specs.Kept.{KeepsTables}
 use Rattle.switch_machine.specs.Numbers.{AreHeld, stage_gives}
@@ -38,7 +38,7 @@ module _ (code : Code) (l : LoadedPass) (is : IsPassOf code l) (registers : Regi
   what_is_needed : l.side ≡ Behind → AreKeptApart (post_spans code) registers
   what_is_needed behind = subst (λ (s : Side). AreKeptApart (its_spans (staging s code)) registers) behind (kept_apart code l is registers planned)
 
-  -- They serve for what comes down.
+  -- the registers serve for what comes down
   pub what_comes_down_fits : l.side ≡ Behind → FitsLayout code.down registers
   what_comes_down_fits behind = needed_values_fit code.down (post_spans code) registers 0 (what_is_needed behind) is.can.down is.can.down_needed
 
@@ -83,7 +83,7 @@ module _ (code : Code) (l : LoadedPass) (is : IsPassOf code l) (registers : Regi
         a_pass_goes_on =
             staged p l.numbering (ranged_of code l is) t registers (kept_apart code l is registers planned) placed (view_of bit told.pairs) packet (fit bit)
 
-        -- Its last stage leaves what is kept.
+        -- the last stage of a pass leaves what is kept
         pub a_pass_ends : suc t ≡ p.code.highest
             → AreHeld l.numbering (stage_done l.numbering p.code.steps (suc t) (view_of bit told.pairs) packet registers)
             (last_numbers p (suc t) (numbers_in p l.numbering t registers) (view_of bit told.pairs) packet) (kept p)

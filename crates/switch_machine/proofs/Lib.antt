@@ -3,7 +3,7 @@ mod Crossings
 mod EmittedOrder
 mod Ending
 mod Fitting
-mod Flying
+mod ActivePasses
 mod GoingUp
 mod HandedDown
 mod InRegisters

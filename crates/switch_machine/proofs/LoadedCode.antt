@@ -23,7 +23,7 @@ use Rattle.switch_machine.specs.Loading.{code_in, loaded_code}
 use Rattle.switch_machine.specs.Ranges.{entries, AreOrdered, AreRanges}
 use Rattle.switch_machine.specs.Ready.{AreReady}
 use Rattle.switch_machine.specs.Sides.{of_side, staging}
-use Rattle.switch_machine.specs.UnderWay.{passes_on, shown, GoneOn, HasGone, HasStagesLeft, Puts, StaysLoaded}
+use Rattle.switch_machine.specs.UnderWay.{passes_on, shown, GoneOn, HasGoneOnAt, HasStagesLeft, Puts, StaysLoaded}
 use Rattle.switch_machine.specs.Workplaces.{IsMadeBy, IsPassAs, IsPassOf, StaysMade}
 use Rattle.switch_machine.proofs.PassValues.{its_spans}
 
@@ -97,7 +97,7 @@ stages_left side l number left f there =
 
 -- one that went on
 pub gone_on : (side : Side) (l : Loaded) (number : ℕ) (told : Told) (old new : Passes)
-    → Puts number (GoneOn (code_of l.code) number told (of_side side l.before l.behind)) old new → Puts number (HasGone side number told l) old new
+    → Puts number (GoneOn (code_of l.code) number told (of_side side l.before l.behind)) old new → Puts number (HasGoneOnAt side number told l) old new
 gone_on side l number told old new h = (
   h.0,
   subst (λ (s : Side). (before : PassState) → passes_on side l number ≡ Some before → HasGoneOn (staging s (code_of l.code)) (Some told) before h.0) (side_is side l) h.1,

@@ -9,7 +9,7 @@ use Rattle.switch_ir.specs.UnderWay.{Passes, PassState}
 use Rattle.switch_machine.specs.declared.loaded.Loaded.{Loaded}
 use Rattle.switch_machine.specs.declared.sides.Side.{Side}
 use Rattle.switch_machine.specs.declared.sides.Side.TheVariants.{Before, Behind}
-use Rattle.switch_machine.specs.Flights.{with_pass}
+use Rattle.switch_machine.specs.ActivePasses.{with_pass}
 use Rattle.switch_machine.specs.Kept.{AreSafe}
 use Rattle.switch_machine.specs.Loading.{code_in}
 use Rattle.switch_machine.specs.Sides.{of_side}

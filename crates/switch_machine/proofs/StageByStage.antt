@@ -17,7 +17,7 @@ use Rattle.switch_ir.specs.Passes.{Step}
 use Rattle.switch_ir.specs.Spans.{last_read, span_of, Written}
 use Rattle.switch_ir.specs.Staged.{all_values, is_had, is_of_stage, is_read_later, known, last_numbers, IsEntered, IsStaged, KeepsEnough, KeepsOwn, Numbers, Staging}
 use Rattle.switch_machine.specs.declared.numbering.ValueRange.{ValueRange}
-use Rattle.switch_machine.specs.Flights.{numbers_in}
+use Rattle.switch_machine.specs.ActivePasses.{numbers_in}
 use Rattle.switch_machine.specs.Keeping.{kept}
 use Rattle.switch_machine.specs.Numbers.{content_at, number_in, reads_by, AreHeld}
 use Rattle.switch_machine.specs.Planned.{stage_done, FitRanges}

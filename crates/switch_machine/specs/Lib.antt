@@ -1,7 +1,7 @@
 pub mod Calls
 pub mod Codes
 pub mod Counts
-pub mod Flights
+pub mod ActivePasses
 pub mod Keeping
 pub mod Kept
 pub mod Live

@@ -1,5 +1,5 @@
 -- The two sides of the server, the calls over packets at them, and how these end.
-use Rattle.std.specs.Prelude.{◌≡◌, ◌++◌, ◌∷◌, [], ℕ, Bool, true, false, refl}
+use Rattle.std.specs.Prelude.{◌≡◌, ◌++◌, ◌∷◌, [], ℕ, Bool, true, false, Result, Ok, Err, IfOk, refl}
 use Rattle.std.specs.Coded.{Coded, code_by, coded_bool}
 use Rattle.packet_fields.specs.declared.packet.Packet.{Packet}
 use Rattle.flat_ir.specs.Blocks.{Reading}
@@ -8,6 +8,8 @@ use Rattle.switch_ir.specs.Passes.{Code}
 use Rattle.switch_ir.specs.Staged.{EndsBy, EndsDownBy, Staging}
 use Rattle.switch_ir.specs.declared.journal.Entry.{Entry}
 use Rattle.switch_ir.specs.declared.journal.Entry.TheVariants as entry
+use Rattle.switch_ir.specs.declared.port.PortError.{PortError}
+use Rattle.switch_ir.specs.declared.port.PortError.TheVariants.{Failed}
 use Rattle.switch_ir.specs.declared.port.UpEnd.{UpEnd}
 use Rattle.switch_ir.specs.declared.port.UpEnd.TheVariants as up
 use Rattle.switch_ir.specs.declared.port.DownEnd.{DownEnd}
@@ -18,8 +20,6 @@ use Rattle.switch_machine.specs.declared.sides.Event.{Event}
 use Rattle.switch_machine.specs.declared.sides.Event.TheVariants as event
 use Rattle.switch_machine.specs.declared.sides.Side.{Side}
 use Rattle.switch_machine.specs.declared.sides.Side.TheVariants.{Before, Behind}
-use Rattle.switch_machine.specs.declared.sides.Outcome.{Outcome}
-use Rattle.switch_machine.specs.declared.sides.Outcome.TheVariants.{Going, Up, Verdict}
 
 abbrev pub of_side : {X : Type 0} → Side → X → X → X
 of_side Before before behind = before
@@ -52,39 +52,31 @@ staging side code = record {
 
 -- ## How a call ends
 
--- before the server
-abbrev pub up_of : Outcome → UpEnd
-up_of Going = up.Going
-up_of (Up frame) = up.Up frame
-up_of (Verdict verdict) = up.Finished verdict
+-- behind the server, where no packet goes up
+abbrev pub down_of : Result UpEnd PortError → Result DownEnd PortError
+down_of (Ok up.Going) = Ok down.Going
+down_of (Ok (up.Up frame)) = Err Failed
+down_of (Ok (up.Finished verdict)) = Ok (down.Verdict verdict)
+down_of (Err error) = Err error
 
--- behind it, where no packet goes up
-abbrev pub down_of : UpEnd → DownEnd
-down_of up.Going = down.Going
-down_of (up.Up frame) = down.Failed
-down_of (up.Finished verdict) = down.Verdict verdict
-down_of up.Failed = down.Failed
-down_of up.NoMemory = down.NoMemory
-
-abbrev pub up_from : DownEnd → UpEnd
-up_from down.Going = up.Going
-up_from (down.Verdict verdict) = up.Finished verdict
-up_from down.Failed = up.Failed
-up_from down.NoMemory = up.NoMemory
+abbrev pub up_from : Result DownEnd PortError → Result UpEnd PortError
+up_from (Ok down.Going) = Ok up.Going
+up_from (Ok (down.Verdict verdict)) = Ok (up.Finished verdict)
+up_from (Err error) = Err error
 
 abbrev pub IsOf : Side → UpEnd → Type 0
 IsOf Before end = Unit {0}
 IsOf Behind (up.Up frame) = ⊥
 IsOf Behind end = Unit {0}
 
-abbrev pub is_going : Outcome → Bool
-is_going Going = true
-is_going outcome = false
+abbrev pub is_going : UpEnd → Bool
+is_going up.Going = true
+is_going end = false
 
 -- what becomes of a packet by the last numbers of its pass
 abbrev pub EndsOn : Side → Code → Reading → ℕ → Packet → UpEnd → Type 0
 EndsOn Before code reads number packet end = EndsBy code reads number packet end
-EndsOn Behind code reads number packet end = EndsDownBy code reads packet (down_of end)
+EndsOn Behind code reads number packet end = IfOk (down_of (Ok end)) (EndsDownBy code reads packet)
 
 -- ## Calls over packets
 
@@ -102,7 +94,7 @@ kind_of (event.Stage Before number) = kind.StageUp
 kind_of (event.Stage Behind number) = kind.StageDown
 
 -- the entry of one that ended so
-abbrev pub entry_for : Event → UpEnd → Entry
+abbrev pub entry_for : Event → Result UpEnd PortError → Entry
 entry_for (event.Up number port packet true) end = entry.Up number port packet.now end
 entry_for (event.Up number port packet false) end = entry.BeginUp number port packet.now end
 entry_for (event.Down frame true) end = entry.Down frame.now (down_of end)

@@ -1,17 +1,17 @@
 -- What the calls of a switch in memory over packets need, and what they leave.
-use Rattle.std.specs.Prelude.{◌≡◌, ◌≤◌, ◌++◌, ℕ, List, Bool, true, false, Some, None, IsSome, length}
+use Rattle.std.specs.Prelude.{◌≡◌, ◌≤◌, ◌++◌, ℕ, List, Bool, false, Some, None, Result, Ok, Err, IsSome, length}
 use Rattle.gal_io.specs.Count.{IsCountedIf}
 use Rattle.packet_fields.specs.Sizes.{largest_packet}
 use Rattle.flat_ir.specs.Blocks.{nothing}
 use Rattle.transfer_header.specs.Frames.{IsFrame}
 use Rattle.switch_ir.specs.Code.{Code}
 use Rattle.switch_ir.specs.Meaning.{down_given}
-use Rattle.switch_ir.specs.Port.{noted_up, up_failed, OfItsParts}
+use Rattle.switch_ir.specs.Port.{has_failed, noted, OfItsParts}
 use Rattle.switch_ir.specs.Tables.{Told}
 use Rattle.switch_ir.specs.UnderWay.{Passes}
 use Rattle.switch_ir.specs.declared.journal.Entry.{Entry}
+use Rattle.switch_ir.specs.declared.port.PortError.{PortError}
 use Rattle.switch_ir.specs.declared.port.UpEnd.{UpEnd}
-use Rattle.switch_ir.specs.declared.port.UpEnd.TheVariants as up
 use Rattle.switch_machine.specs.declared.calls.CallKind.{CallKind}
 use Rattle.switch_machine.specs.declared.sides.Event.{Event}
 use Rattle.switch_machine.specs.declared.sides.Event.TheVariants as event
@@ -48,25 +48,24 @@ Takes (event.Up number port packet whole) code told = Enters Before code told wh
 Takes (event.Down frame whole) code told = EntersDown frame.now whole code told
 Takes (event.Stage side number) code told = Stages side code told number
 
--- it fails or doesn't
-abbrev pub UpIsPlanned : Bool → UpEnd → Type 0
-UpIsPlanned fails up.Failed = fails ≡ true
-UpIsPlanned fails up.NoMemory = ⊥
-UpIsPlanned fails end = fails ≡ false
+-- what it leaves of them: as this says where the call has an answer, and else as before
+abbrev pub IsTakenBy : (UpEnd → Passes → Passes → Type 0) → Result UpEnd PortError → Passes → Passes → Type 0
+IsTakenBy IsTaken (Ok end) old new = IsTaken end old new
+IsTakenBy IsTaken (Err error) old new = new ≡ old
 
 -- what a call at a side leaves, by its entry and by what it makes of the passes there
-pub record Leaves (side : Side) (call : UpEnd → Entry) (IsTaken : Code → Told → UpEnd → Passes → Passes → Type 0) (end : UpEnd) (old new : MachineState)
-    : Type 0 where
+pub record Leaves (side : Side) (call : Result UpEnd PortError → Entry) (IsTaken : Code → Told → UpEnd → Passes → Passes → Type 0)
+    (end : Result UpEnd PortError) (old new : MachineState) : Type 0 where
   pub code : new.code ≡ old.code
   pub tables : new.tables ≡ old.tables
-  pub entries : new.journal.entries ≡ old.journal.entries ++ noted_up call end
+  pub entries : new.journal.entries ≡ old.journal.entries ++ noted call end
   pub spare : new.journal.spare ≡ old.journal.spare
-  pub faults : IsCountedIf (up_failed end) old.faults new.faults
+  pub faults : IsCountedIf (has_failed end) old.faults new.faults
   pub planned : new.planned ≡ old.planned
   pub calls : new.calls ≡ old.calls
   pub other : of_side side new.passes.post new.passes.pre ≡ of_side side old.passes.post old.passes.pre
   pub loaded : (code : Code) × (old.code ≡ Some code)
-  pub takes : (code : Code) → old.code ≡ Some code → IsTaken code old.tables end (passes_at side old) (passes_at side new)
+  pub takes : (code : Code) → old.code ≡ Some code → IsTakenBy (IsTaken code old.tables) end (passes_at side old) (passes_at side new)
 
 -- the state with a call of this kind counted
 abbrev pub with_call : CallKind → MachineState → MachineState

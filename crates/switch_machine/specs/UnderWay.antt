@@ -13,13 +13,13 @@ use Rattle.switch_ir.specs.Tables.{seen_tables, view_of, Told}
 use Rattle.switch_ir.specs.UnderWay.{none_under_way, EndsWith, GoesUp, HasEntered, HasGoneOn, Passes, PassState, UnderWay}
 use Rattle.switch_ir.specs.declared.port.UpEnd.{UpEnd}
 use Rattle.switch_ir.specs.declared.port.UpEnd.TheVariants as up
-use Rattle.switch_machine.specs.declared.flight.Flight.{Flight}
+use Rattle.switch_machine.specs.declared.active_pass.ActivePass.{ActivePass}
 use Rattle.switch_machine.specs.declared.loaded.Loaded.{Loaded}
 use Rattle.switch_machine.specs.declared.loaded_pass.LoadedPass.{LoadedPass}
 use Rattle.switch_machine.specs.declared.numbering.ValueRange.{ValueRange}
 use Rattle.switch_machine.specs.declared.sides.Side.{Side}
 use Rattle.switch_machine.specs.declared.sides.Side.TheVariants.{Before, Behind}
-use Rattle.switch_machine.specs.Flights.{flights_in, numbers_in, packet_in, with_pass, NumberedFlights}
+use Rattle.switch_machine.specs.ActivePasses.{active_in, numbers_in, packet_in, with_pass, NumberedActivePasses}
 use Rattle.switch_machine.specs.Keeping.{begins}
 use Rattle.switch_machine.specs.Planned.{BeginsWith}
 use Rattle.switch_machine.specs.Sides.{of_side, staging, EndsOn, IsOf}
@@ -27,21 +27,21 @@ use Rattle.switch_machine.specs.Sides.{of_side, staging, EndsOn, IsOf}
 -- ## What it tells of them
 
 -- the registers of a pass, by the plan of the code
-abbrev pub held : Option RegisterPlan → Flight → Registers
+abbrev pub held : Option RegisterPlan → ActivePass → Registers
 held plan f = record { plan = plan; numbers = f.registers.numbers }
 
-abbrev pub shown : Staging → List ValueRange → Option RegisterPlan → Flight → PassState
+abbrev pub shown : Staging → List ValueRange → Option RegisterPlan → ActivePass → PassState
 shown p ranges plan f = record {
   packet = packet_in f;
   stage = f.stage;
   told = Some (record { bit = f.bit; numbers = numbers_in p ranges f.stage (held plan f) });
 }
 
-abbrev pub passes_by : Staging → List ValueRange → Option RegisterPlan → NumberedFlights → Passes
-passes_by p ranges plan flights n = option_map (shown p ranges plan) (flights n)
+abbrev pub passes_by : Staging → List ValueRange → Option RegisterPlan → NumberedActivePasses → Passes
+passes_by p ranges plan active n = option_map (shown p ranges plan) (active n)
 
 abbrev pub passes_of : Code → LoadedPass → Passes
-passes_of code l = passes_by (staging l.side code) l.numbering l.registers.plan (flights_in l.flights)
+passes_of code l = passes_by (staging l.side code) l.numbering l.registers.plan (active_in l.active)
 
 abbrev pub passes_on : Side → Loaded → Passes
 passes_on side l = passes_of (code_of l.code) (of_side side l.before l.behind)
@@ -68,9 +68,7 @@ Begins number IsNew old new end = new ≡ old
 -- a pass that took a stage goes on, as this says, or is under way no longer
 abbrev pub Settles : ℕ → (PassState → Type 0) → Passes → Passes → UpEnd → Type 0
 Settles number IsNew old new up.Going = Puts number IsNew old new
-Settles number IsNew old new (up.Up frame) = new ≡ with_pass number None old
-Settles number IsNew old new (up.Finished verdict) = new ≡ with_pass number None old
-Settles number IsNew old new end = new ≡ old
+Settles number IsNew old new end = new ≡ with_pass number None old
 
 -- how a call ends over the packet of this number, whose pass has stages left or has none, by what this tells
 pub record HasEnd (side : Side) (code : Code) (number : ℕ) (packet : Packet) (left : Bool) (IsTold : UpEnd → Type 0) (end : UpEnd) : Type 0 where
@@ -109,13 +107,13 @@ GoneOn code number told l pass =
 
 -- the pass of a number has more than one stage left, or just one
 abbrev pub HasStagesLeft : ℕ → LoadedPass → Type 0
-HasStagesLeft number l = (f : Flight) → flights_in l.flights number ≡ Some f → suc (suc f.stage) < length l.stages
+HasStagesLeft number l = (f : ActivePass) → active_in l.active number ≡ Some f → suc (suc f.stage) < length l.stages
 
 abbrev pub IsAtLast : ℕ → LoadedPass → Type 0
-IsAtLast number l = (f : Flight) → flights_in l.flights number ≡ Some f → suc (suc f.stage) ≡ length l.stages
+IsAtLast number l = (f : ActivePass) → active_in l.active number ≡ Some f → suc (suc f.stage) ≡ length l.stages
 
 -- the numbers with which a pass ends
-abbrev pub numbers_at_last : Code → Told → LoadedPass → Flight → Reading
+abbrev pub numbers_at_last : Code → Told → LoadedPass → ActivePass → Reading
 numbers_at_last code told l f =
     let p = staging l.side code in
     last_numbers p (suc f.stage) (numbers_in p l.numbering f.stage (held l.registers.plan f)) (view_of f.bit told.pairs) (packet_in f)
@@ -131,7 +129,7 @@ pub record StaysLoaded (side : Side) (old new : Loaded) : Type 0 where
   pub other : of_side side (passes_on Behind new) (passes_on Before new) ≡ of_side side (passes_on Behind old) (passes_on Before old)
 
 -- the pass of a number at a side that went on by a stage, over the tables as it sees them
-abbrev pub HasGone : Side → ℕ → Told → Loaded → PassState → Type 0
-HasGone side number told l pass =
+abbrev pub HasGoneOnAt : Side → ℕ → Told → Loaded → PassState → Type 0
+HasGoneOnAt side number told l pass =
     (before : PassState) → passes_on side l number ≡ Some before
     → HasGoneOn (staging side (code_of l.code)) (Some told) before pass

@@ -1,5 +1,5 @@
 //! Packets that pass loaded code, before the server and behind it.
-ghost use Rattle.std.specs.Prelude.{◌≡◌, ◌≤◌, ℕ, List, suc, nat_lt, drop, length, true, false, if◌then◌else◌, Some, None, IfOk, IsSome, OnErr, OnOk};
+ghost use Rattle.std.specs.Prelude.{◌≡◌, ◌≤◌, ℕ, List, suc, nat_lt, drop, length, true, false, if◌then◌else◌, Some, None, Ok, IfOk, IsSome, OnErr, OnOk};
 ghost use Rattle.packet_fields.specs.Shape.{shape_of};
 ghost use Rattle.packet_fields.specs.Sizes.{largest_packet};
 ghost use Rattle.flat_ir.specs.Blocks.{nothing};
@@ -12,10 +12,10 @@ ghost use Rattle.switch_ir.specs.Meaning.{down_given};
 ghost use Rattle.switch_ir.specs.Port.{OfItsParts};
 ghost use Rattle.switch_ir.specs.UnderWay.{PassState};
 ghost use Rattle.switch_machine.specs.Kept.{KeepsTables};
-ghost use Rattle.switch_machine.specs.Sides.{entry_for, is_going, side_of, staging, up_of, with_last, IsOf};
-ghost use Rattle.switch_machine.specs.Staging.{CanTake, EntersDown, Takes, UpIsPlanned};
-ghost use Rattle.switch_machine.specs.UnderWay.{passes_on, Enters, HasGone, IsGiven, Puts, Stages, StaysLoaded, Steps};
-ghost use Rattle.switch_machine.specs.Flights.{with_pass};
+ghost use Rattle.switch_machine.specs.Sides.{entry_for, is_going, side_of, staging, with_last, IsOf};
+ghost use Rattle.switch_machine.specs.Staging.{CanTake, EntersDown, Takes};
+ghost use Rattle.switch_machine.specs.UnderWay.{passes_on, Enters, HasGoneOnAt, IsGiven, Puts, Stages, StaysLoaded, Steps};
+ghost use Rattle.switch_machine.specs.ActivePasses.{with_pass};
 ghost use Rattle.switch_machine.specs.Ready.{AreReady};
 ghost use Rattle.switch_machine.specs.Workplaces.{IsPassOf, StaysMade};
 ghost use Rattle.switch_machine.specs.declared.sides.Event.TheVariants as event;
@@ -26,7 +26,7 @@ use crate::loaded_pass::LoadedPass;
 use crate::passes::{are_few, run_steps};
 use crate::ready::ReadyStages;
 use crate::run::Nothing;
-use crate::sides::{Event, Outcome, Side};
+use crate::sides::{Event, Side, is_going};
 use crate::tables::SwitchTables;
 use flat_ir::Arrival;
 use gal_io::NoMemory;
@@ -36,14 +36,13 @@ use switch_ir::{Journal, SwitchCode, UpEnd};
 use transfer_header::{Head, unpack_down};
 
 impl Loaded {
-    /// A call over a packet, which fails or doesn't, with its entry. Without memory all is as before.
+    /// A call over a packet that doesn't fail, with its entry. Without memory all is as before.
     pub fn take(
         &mut self,
         alloc: Global,
         tables: &SwitchTables,
         journal: &mut Journal,
         event: &Event<'_>,
-        fails: bool,
     ) -> Result<UpEnd, NoMemory>
         requires safe { KeepsTables (code_of self.old.code) tables.now }
         requires can { CanTake event.now (code_of self.old.code) (passes_on (side_of event.now) self.old) }
@@ -51,49 +50,45 @@ impl Loaded {
         ensures takes { IfOk result (λ end. Takes event.now (code_of self.old.code) tables.now end
             (passes_on (side_of event.now) self.old) (passes_on (side_of event.now) self.new)) }
         ensures side { IfOk result (IsOf (side_of event.now)) }
-        ensures plan { IfOk result (UpIsPlanned fails) }
-        ensures noted { IfOk result (λ end. journal.new ≡ with_last (entry_for event.now end) journal.old) }
+        ensures noted { IfOk result (λ end. journal.new ≡ with_last (entry_for event.now (Ok end)) journal.old) }
         ensures kept { OnErr result (passes_on (side_of event.now) self.new ≡ passes_on (side_of event.now) self.old) }
         ensures err { OnErr result (journal.new ≡ journal.old) }
     {
-        if fails {
-            return event.note(journal, UpEnd::Failed);
-        }
         match *event {
             Event::Up(number, port, packet, whole) => {
-                let outcome = self.up(alloc, tables, number, port, packet, whole)?;
-                self.close(journal, event, number, outcome)
+                let end = self.up(alloc, tables, number, port, packet, whole)?;
+                self.close(journal, event, number, end)
             }
             Event::Down(frame, whole) => {
                 let made = self.down(alloc, tables, frame, whole)?;
-                let (number, outcome) = made;
-                self.close(journal, event, number, outcome)
+                let (number, end) = made;
+                self.close(journal, event, number, end)
             }
             Event::Stage(side, number) => self.stage(alloc, tables, journal, side, number),
         }
     }
 
-    // Notes a call by which a pass began, with what became of it. Without memory for that, the pass isn't under way.
+    // Notes a call by which a pass began, with its end. Without memory for that, the pass isn't under way.
     fn close(
         &mut self,
         journal: &mut Journal,
         event: &Event<'_>,
         number: u32,
-        outcome: Outcome,
+        end: UpEnd,
     ) -> Result<UpEnd, NoMemory>
-        requires { IsOf (side_of event.now) (up_of outcome) }
+        requires { IsOf (side_of event.now) end }
         ensures stays { StaysLoaded (side_of event.now) self.old self.new }
-        ensures end { IfOk result (λ end. end ≡ up_of outcome) }
+        ensures end { IfOk result (λ same. same ≡ end) }
         ensures kept { OnOk result (passes_on (side_of event.now) self.new ≡ passes_on (side_of event.now) self.old) }
-        ensures noted { IfOk result (λ end. journal.new ≡ with_last (entry_for event.now end) journal.old) }
-        ensures undone { OnErr result (passes_on (side_of event.now) self.new ≡ (if is_going outcome
+        ensures noted { OnOk result (journal.new ≡ with_last (entry_for event.now (Ok end)) journal.old) }
+        ensures undone { OnErr result (passes_on (side_of event.now) self.new ≡ (if is_going end
             then with_pass number None (passes_on (side_of event.now) self.old)
             else passes_on (side_of event.now) self.old)) }
         ensures err { OnErr result (journal.new ≡ journal.old) }
     {
-        let begun = outcome.is_going();
-        match event.note(journal, outcome.end()) {
-            Ok(end) => Ok(end),
+        let begun = is_going(&end);
+        match event.note(journal, end) {
+            Ok(same) => Ok(same),
             Err(failed) => {
                 if begun {
                     self.remove(event.side(), number);
@@ -118,20 +113,20 @@ impl Loaded {
         ensures stages { IfOk result (λ end. Stages side (code_of self.old.code) tables.now number end
             (passes_on side self.old) (passes_on side self.new)) }
         ensures side { IfOk result (IsOf side) }
-        ensures plan { IfOk result (UpIsPlanned false) }
-        ensures noted { IfOk result (λ end. journal.new ≡ with_last (entry_for (event.Stage side number) end) journal.old) }
+        ensures noted { IfOk result (λ end. journal.new
+            ≡ with_last (entry_for (event.Stage side number) (Ok end)) journal.old) }
         ensures kept { OnErr result (passes_on side self.new ≡ passes_on side self.old) }
         ensures err { OnErr result (journal.new ≡ journal.old) }
     {
-        let outcome = self.next(alloc, side, tables, number)?;
-        if outcome.is_going() {
+        let end = self.next(alloc, side, tables, number)?;
+        if is_going(&end) {
             side.note_stage(journal, number)?;
             self.go_on(side, tables, number);
             return Ok(UpEnd::Going);
         }
-        let end = Event::Stage(side, number).note(journal, outcome.end())?;
+        let same = Event::Stage(side, number).note(journal, end)?;
         self.remove(side, number);
-        Ok(end)
+        Ok(same)
     }
 
     // A packet arrives, and its pass begins, or goes to its end at once where it is to be `whole`.
@@ -143,12 +138,12 @@ impl Loaded {
         port: u8,
         packet: &[u8],
         whole: bool,
-    ) -> Result<Outcome, NoMemory>
+    ) -> Result<UpEnd, NoMemory>
         requires size { length packet.now ≤ largest_packet }
         requires safe { KeepsTables (code_of self.old.code) tables.now }
         ensures stays { StaysLoaded Before self.old self.new }
-        ensures enters { IfOk result (λ outcome. Enters Before (code_of self.old.code) tables.now whole number
-            (record { port = port; bytes = packet.now }) nothing (up_of outcome) (passes_on Before self.old) (passes_on Before self.new)) }
+        ensures enters { IfOk result (λ end. Enters Before (code_of self.old.code) tables.now whole number
+            (record { port = port; bytes = packet.now }) nothing end (passes_on Before self.old) (passes_on Before self.new)) }
         ensures err { OnErr result (passes_on Before self.new ≡ passes_on Before self.old) }
     {
         self.before.clear();
@@ -170,14 +165,14 @@ impl Loaded {
         tables: &SwitchTables,
         frame: &[u8],
         whole: bool,
-    ) -> Result<(u32, Outcome), NoMemory>
+    ) -> Result<(u32, UpEnd), NoMemory>
         requires frame { IsFrame 2 self.old.code.down frame.now }
         requires safe { KeepsTables (code_of self.old.code) tables.now }
         ensures stays { StaysLoaded Behind self.old self.new }
         ensures number { IfOk result (λ made. OfItsParts (code_of self.old.code) frame.now (λ number packet values. made.0 ≡ number)) }
-        ensures enters { IfOk result (λ made. EntersDown frame.now whole (code_of self.old.code) tables.now (up_of made.1)
+        ensures enters { IfOk result (λ made. EntersDown frame.now whole (code_of self.old.code) tables.now made.1
             (passes_on Behind self.old) (passes_on Behind self.new)) }
-        ensures side { IfOk result (λ made. IsOf Behind (up_of made.1)) }
+        ensures side { IfOk result (λ made. IsOf Behind made.1) }
         ensures err { OnErr result (passes_on Behind self.new ≡ passes_on Behind self.old) }
     {
         let code = &self.code;
@@ -190,10 +185,10 @@ impl Loaded {
         };
         self.behind.give(alloc, code, &self.given, &arrival);
         let number = head.number;
-        let outcome = self
+        let end = self
             .behind
             .begin(alloc, code, tables, number, &arrival, whole)?;
-        Ok((number, outcome))
+        Ok((number, end))
     }
 
     // What the next stage makes of the pass over the packet of this number at a side. The pass is under way as before.
@@ -203,13 +198,13 @@ impl Loaded {
         side: Side,
         tables: &SwitchTables,
         number: u32,
-    ) -> Result<Outcome, NoMemory>
+    ) -> Result<UpEnd, NoMemory>
         requires safe { KeepsTables (code_of self.old.code) tables.now }
         requires there { IsSome (passes_on side self.old number) }
         ensures stays { StaysLoaded side self.old self.new }
         ensures passes { passes_on side self.new ≡ passes_on side self.old }
         ensures steps { (before : PassState) → passes_on side self.old number ≡ Some before
-            → IfOk result (λ outcome. Steps side (code_of self.old.code) tables.now number before (up_of outcome)) }
+            → IfOk result (Steps side (code_of self.old.code) tables.now number before) }
     {
         match side {
             Side::Before => self.before.next(alloc, &self.code, tables, number),
@@ -224,7 +219,7 @@ impl Loaded {
         requires left { (before : PassState) → passes_on side self.old number ≡ Some before
             → nat_lt (suc before.stage) (staging side (code_of self.old.code)).code.highest ≡ true }
         ensures stays { StaysLoaded side self.old self.new }
-        ensures goes_on { Puts number (HasGone side number tables.now self.old) (passes_on side self.old) (passes_on side self.new) }
+        ensures goes_on { Puts number (HasGoneOnAt side number tables.now self.old) (passes_on side self.old) (passes_on side self.new) }
     {
         match side {
             Side::Before => self.before.go_on(tables, number),
@@ -251,7 +246,7 @@ impl LoadedPass {
         requires side { self.old.side ≡ Behind }
         requires frame { IsFrame 2 code.now.down frame.now }
         ensures made { StaysMade self.old self.new }
-        ensures flights { self.new.flights ≡ self.old.flights }
+        ensures active { self.new.active ≡ self.old.active }
         ensures parts { IsFrameOf 2 code.now.down result.number result.port (value_in self.new.registers)
             (drop result.packet_at frame.now) frame.now }
         ensures within { result.packet_at ≤ length frame.now }
@@ -275,7 +270,7 @@ impl LoadedPass {
         requires planned { self.old.registers.plan ≡ Some code.now.post.plan }
         requires given { AreReady self.old.numbering code.now.post.plan (code_of code.now).post.given 0 given.now }
         ensures made { StaysMade self.old self.new }
-        ensures flights { self.new.flights ≡ self.old.flights }
+        ensures active { self.new.active ≡ self.old.active }
         ensures given { IsGiven (code_of code.now) self.new
             (down_given (code_of code.now) (value_in self.old.registers) (packet_of arrival.now)) }
     {

@@ -1,9 +1,9 @@
 //! A switch in memory. It computes a pass stage by stage, where each stage reads all that it needs before it writes.
 #![tactic(auto)]
 
+mod active_pass;
 mod calls;
 mod crossing;
-mod flight;
 mod going;
 mod live;
 mod loaded;

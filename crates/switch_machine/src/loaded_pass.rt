@@ -4,11 +4,11 @@ ghost use Rattle.std.specs.List.{AllByRecursion as Each};
 ghost use Rattle.switch_ir.specs.Passes.{Code};
 ghost use Rattle.switch_ir.specs.Code.{pass_of};
 ghost use Rattle.switch_ir.specs.Sound.{CanStep};
-ghost use Rattle.switch_machine.specs.Flights.{flights_in, flights_prop, AreFlights};
+ghost use Rattle.switch_machine.specs.ActivePasses.{active_in, active_prop, AreActivePasses};
 ghost use Rattle.switch_machine.specs.Ready.{can_all_prop, hold_prop, CanAll, HoldResults};
 ghost use Rattle.switch_machine.specs.Sides.{staging};
 
-use crate::flight::Flight;
+use crate::active_pass::ActivePass;
 use crate::numbering::Numbering;
 use crate::ready::ReadyStages;
 use crate::sides::Side;
@@ -32,16 +32,16 @@ pub(crate) struct LoadedPass {
     /// Which blocks are live: a mark for the root, and one for each block.
     pub marks: Vec<bool>,
     /// The passes under way, by the numbers of their packets.
-    pub flights: BTreeMap<u32, Flight>,
+    pub active: BTreeMap<u32, ActivePass>,
     ghost can: { CanAll stages } by { can_all_prop stages },
     ghost room: { HoldResults stages (vec_capacity results) } by { hold_prop stages (vec_capacity results) },
-    ghost flown: { AreFlights (length stages) (length registers.numbers) (flights_in flights) } by { flights_prop (length stages) (length registers.numbers) (flights_in flights) },
+    ghost are_active: { AreActivePasses (length stages) (length registers.numbers) (active_in active) } by { active_prop (length stages) (length registers.numbers) (active_in active) },
 }
 
 impl LoadedPass {
     ghost use Rattle.switch_machine.specs.Workplaces.{IsMadeBy};
 
-    /// That of a side of code which looks up these tables. The values of a layout are handed to it.
+    /// The pass of a side of code, which looks up these tables. The values of a layout are handed to it.
     pub fn of(
         alloc: Global,
         side: Side,
@@ -52,7 +52,7 @@ impl LoadedPass {
         requires { Each CanStep (pass_of pass.now).steps }
         ensures made { (code : Code) → code.tables ≡ tables.now → (staging side code).handed ≡ handed.now
             → (staging side code).code ≡ pass_of pass.now → IfOk result (IsMadeBy side code pass.now.plan) }
-        ensures none { IfOk result (λ made. (n : ℕ) → flights_in made.flights n ≡ None) }
+        ensures none { IfOk result (λ made. (n : ℕ) → active_in made.active n ≡ None) }
     {
         let numbering = Numbering::of(alloc, tables, handed, pass)?;
         let stages = ReadyStages::of(alloc, &pass.steps, pass.highest, &numbering, &pass.plan)?;
@@ -66,7 +66,7 @@ impl LoadedPass {
             registers,
             results,
             marks,
-            flights: BTreeMap::new(alloc),
+            active: BTreeMap::new(alloc),
         })
     }
 }

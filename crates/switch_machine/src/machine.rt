@@ -11,16 +11,14 @@ ghost use Rattle.switch_ir.specs.Journal.{entry_of};
 ghost use Rattle.switch_ir.specs.Sound.{CanBeRun};
 ghost use Rattle.switch_ir.specs.Tables.{pair_at, told_after, IsStart, Told};
 ghost use Rattle.switch_ir.specs.UnderWay.{none_under_way};
-ghost use Rattle.switch_ir.specs.Port.{has_failed, up_failed, down_failed, command_failed};
-ghost use Rattle.switch_ir.specs.Port.{rows_failed, AreRowsOf, IsReplicatedIn};
+ghost use Rattle.switch_ir.specs.Port.{has_failed, AreRowsOf, IsReplicatedIn};
 ghost use Rattle.switch_ir.specs.Port.{Loads, MakesRoom, PassesUp, PassesDown, Commands, ShowsRows};
 ghost use Rattle.switch_ir.specs.Port.{BeginsUp, StagesUp, BeginsDown, StagesDown};
 ghost use Rattle.switch_ir.specs.Port.{IsLoaded, IsDownFrame, CanCommand, HasReplicated, HasRoomFor, WaitsForNone};
 ghost use Rattle.switch_ir.specs.Port.{HasNoUpPass, HasUpPass, HasNoDownPassOf, HasDownPass};
 ghost use Rattle.switch_ir.specs.declared.journal.Entry.TheVariants as entry;
 ghost use Rattle.switch_machine.specs.declared.calls.CallKind.TheVariants as call;
-ghost use Rattle.switch_machine.specs.Calls.{called, IsCountedAs, PortEndsAsPlanned, UpEndsAsPlanned};
-ghost use Rattle.switch_machine.specs.Calls.{DownEndsAsPlanned, CommandEndsAsPlanned, RowsEndAsPlanned};
+ghost use Rattle.switch_machine.specs.Calls.{called, EndsAsPlanned, IsCountedAs, PassEndsAsPlanned};
 ghost use Rattle.switch_machine.specs.Counts.{counted};
 ghost use Rattle.switch_machine.specs.Kept.{safe_prop, AreSafe};
 ghost use Rattle.switch_machine.specs.Loading.{code_in};
@@ -36,9 +34,7 @@ use crate::tables::SwitchTables;
 use gal_io::NoMemory;
 use state_store::Rows;
 use std::alloc::Global;
-use switch_ir::{
-    Call, CommandEnd, DownEnd, Entry, Journal, PortEnd, RowsEnd, SwitchCode, SwitchPort, UpEnd,
-};
+use switch_ir::{Call, DownEnd, Entry, Journal, PortError, SwitchCode, SwitchPort, UpEnd};
 use writeback_table::Command;
 
 /// A switch in memory. It tells its tables, and a call fails where that was planned, and in no other case.
@@ -155,26 +151,25 @@ impl ModelSwitch {
     }
 
     // A call over a packet, with its entry and its fault.
-    fn call(&mut self, alloc: Global, event: &Event<'_>) -> UpEnd
+    fn call(&mut self, alloc: Global, event: &Event<'_>) -> Result<UpEnd, PortError>
         requires loaded { IsSome (machine_of self.old).code }
         requires can { (code : Code) → (machine_of self.old).code ≡ Some code
             → CanTake event.now code (passes_at (side_of event.now) (machine_of self.old)) }
         ensures leaves { Leaves (side_of event.now) (entry_for event.now) (Takes event.now) result
             (with_call (kind_of event.now) (machine_of self.old)) (machine_of self.new) }
-        ensures side { IsOf (side_of event.now) result }
-        ensures plan { UpEndsAsPlanned (fails_next (machine_of self.old) (kind_of event.now)) result }
+        ensures side { IfOk result (IsOf (side_of event.now)) }
+        ensures plan { PassEndsAsPlanned (fails_next (machine_of self.old) (kind_of event.now)) result }
     {
-        let fails = self.is_to_fail(event.kind());
+        if self.is_to_fail(event.kind()) {
+            let failed = event.note_end(&mut self.journal, Err(PortError::Failed))?;
+            self.count_fault(true);
+            return failed;
+        }
         let Some(loaded) = &mut self.loaded else {
             unreachable!()
         };
-        match loaded.take(alloc, &self.tables, &mut self.journal, event, fails) {
-            Ok(end) => {
-                self.count_fault(fails);
-                end
-            }
-            Err(NoMemory) => UpEnd::NoMemory,
-        }
+        let end = loaded.take(alloc, &self.tables, &mut self.journal, event)?;
+        Ok(end)
     }
 
     fn try_load(&mut self, alloc: Global, code: &SwitchCode) -> Result<(), NoMemory>
@@ -235,131 +230,137 @@ impl SwitchPort for ModelSwitch {
 
     ghost seen = { λ m. seen_of (machine_of m) };
 
-    fn load(&mut self, alloc: Global, code: &SwitchCode) -> PortEnd
+    fn load(&mut self, alloc: Global, code: &SwitchCode) -> Result<(), PortError>
         requires { IsEmitted (code_of code.now) }
         ensures loads { Loads result (code_of code.now) (seen_of (machine_of self.old))
             (seen_of (machine_of self.new)) }
-        ensures plan { PortEndsAsPlanned (fails_next (machine_of self.old) call.Load) result }
+        ensures plan { EndsAsPlanned (fails_next (machine_of self.old) call.Load) result }
         ensures counted { IsCountedAs call.Load (has_failed result) (machine_of self.old) (machine_of self.new) }
     {
         if self.fails(CallKind::Load) {
-            return PortEnd::Failed;
+            return Err(PortError::Failed);
         }
-        match self.try_load(alloc, code) {
-            Ok(()) => PortEnd::Done,
-            Err(NoMemory) => PortEnd::NoMemory,
-        }
+        self.try_load(alloc, code)?;
+        Ok(())
     }
 
-    fn room(&mut self, _alloc: Global, commands: usize) -> PortEnd
+    fn room(&mut self, _alloc: Global, commands: usize) -> Result<(), PortError>
         requires { IsLoaded (seen_of (machine_of self.old)) }
         ensures room { MakesRoom result commands (seen_of (machine_of self.old)) (seen_of (machine_of self.new)) }
-        ensures plan { PortEndsAsPlanned (fails_next (machine_of self.old) call.Room) result }
+        ensures plan { EndsAsPlanned (fails_next (machine_of self.old) call.Room) result }
         ensures counted { IsCountedAs call.Room (has_failed result) (machine_of self.old) (machine_of self.new) }
     {
         if self.fails(CallKind::Room) {
-            return PortEnd::Failed;
+            return Err(PortError::Failed);
         }
-        match self.try_room(commands) {
-            Ok(()) => PortEnd::Done,
-            Err(NoMemory) => PortEnd::NoMemory,
-        }
+        self.try_room(commands)?;
+        Ok(())
     }
 
-    fn pass_up(&mut self, alloc: Global, number: u32, port: u8, packet: &[u8]) -> UpEnd
+    fn pass_up(
+        &mut self,
+        alloc: Global,
+        number: u32,
+        port: u8,
+        packet: &[u8],
+    ) -> Result<UpEnd, PortError>
         requires loaded { IsLoaded (seen_of (machine_of self.old)) }
         requires size { length packet.now ≤ largest_packet }
         ensures passes { PassesUp result number port packet.now
             (seen_of (machine_of self.old)) (seen_of (machine_of self.new)) }
-        ensures plan { UpEndsAsPlanned (fails_next (machine_of self.old) call.Up) result }
-        ensures counted { IsCountedAs call.Up (up_failed result) (machine_of self.old) (machine_of self.new) }
+        ensures plan { PassEndsAsPlanned (fails_next (machine_of self.old) call.Up) result }
+        ensures counted { IsCountedAs call.Up (has_failed result) (machine_of self.old) (machine_of self.new) }
     {
         self.call(alloc, &Event::Up(number, port, packet, true))
     }
 
-    fn pass_down(&mut self, alloc: Global, frame: &[u8]) -> DownEnd
+    fn pass_down(&mut self, alloc: Global, frame: &[u8]) -> Result<DownEnd, PortError>
         requires loaded { IsLoaded (seen_of (machine_of self.old)) }
         requires frame { IsDownFrame (seen_of (machine_of self.old)) frame.now }
         ensures passes { PassesDown result frame.now (seen_of (machine_of self.old)) (seen_of (machine_of self.new)) }
-        ensures plan { DownEndsAsPlanned (fails_next (machine_of self.old) call.Down) result }
-        ensures counted { IsCountedAs call.Down (down_failed result) (machine_of self.old) (machine_of self.new) }
+        ensures plan { PassEndsAsPlanned (fails_next (machine_of self.old) call.Down) result }
+        ensures counted { IsCountedAs call.Down (has_failed result) (machine_of self.old) (machine_of self.new) }
     {
         down_end(self.call(alloc, &Event::Down(frame, true)))
     }
 
-    fn begin_up(&mut self, alloc: Global, number: u32, port: u8, packet: &[u8]) -> UpEnd
+    fn begin_up(
+        &mut self,
+        alloc: Global,
+        number: u32,
+        port: u8,
+        packet: &[u8],
+    ) -> Result<UpEnd, PortError>
         requires loaded { IsLoaded (seen_of (machine_of self.old)) }
         requires size { length packet.now ≤ largest_packet }
         requires none { HasNoUpPass (seen_of (machine_of self.old)) number }
         ensures begins { BeginsUp result number port packet.now
             (seen_of (machine_of self.old)) (seen_of (machine_of self.new)) }
-        ensures plan { UpEndsAsPlanned (fails_next (machine_of self.old) call.BeginUp) result }
-        ensures counted { IsCountedAs call.BeginUp (up_failed result) (machine_of self.old) (machine_of self.new) }
+        ensures plan { PassEndsAsPlanned (fails_next (machine_of self.old) call.BeginUp) result }
+        ensures counted { IsCountedAs call.BeginUp (has_failed result) (machine_of self.old) (machine_of self.new) }
     {
         self.call(alloc, &Event::Up(number, port, packet, false))
     }
 
-    fn stage_up(&mut self, alloc: Global, number: u32) -> UpEnd
+    fn stage_up(&mut self, alloc: Global, number: u32) -> Result<UpEnd, PortError>
         requires { HasUpPass (seen_of (machine_of self.old)) number }
         ensures stages { StagesUp result number (seen_of (machine_of self.old)) (seen_of (machine_of self.new)) }
-        ensures plan { UpEndsAsPlanned (fails_next (machine_of self.old) call.StageUp) result }
-        ensures counted { IsCountedAs call.StageUp (up_failed result) (machine_of self.old) (machine_of self.new) }
+        ensures plan { PassEndsAsPlanned (fails_next (machine_of self.old) call.StageUp) result }
+        ensures counted { IsCountedAs call.StageUp (has_failed result) (machine_of self.old) (machine_of self.new) }
     {
         self.call(alloc, &Event::Stage(Side::Before, number))
     }
 
-    fn begin_down(&mut self, alloc: Global, frame: &[u8]) -> DownEnd
+    fn begin_down(&mut self, alloc: Global, frame: &[u8]) -> Result<DownEnd, PortError>
         requires loaded { IsLoaded (seen_of (machine_of self.old)) }
         requires frame { IsDownFrame (seen_of (machine_of self.old)) frame.now }
         requires none { HasNoDownPassOf (seen_of (machine_of self.old)) frame.now }
         ensures begins { BeginsDown result frame.now (seen_of (machine_of self.old)) (seen_of (machine_of self.new)) }
-        ensures plan { DownEndsAsPlanned (fails_next (machine_of self.old) call.BeginDown) result }
-        ensures counted { IsCountedAs call.BeginDown (down_failed result) (machine_of self.old) (machine_of self.new) }
+        ensures plan { PassEndsAsPlanned (fails_next (machine_of self.old) call.BeginDown) result }
+        ensures counted { IsCountedAs call.BeginDown (has_failed result) (machine_of self.old) (machine_of self.new) }
     {
         down_end(self.call(alloc, &Event::Down(frame, false)))
     }
 
-    fn stage_down(&mut self, alloc: Global, number: u32) -> DownEnd
+    fn stage_down(&mut self, alloc: Global, number: u32) -> Result<DownEnd, PortError>
         requires { HasDownPass (seen_of (machine_of self.old)) number }
         ensures stages { StagesDown result number (seen_of (machine_of self.old)) (seen_of (machine_of self.new)) }
-        ensures plan { DownEndsAsPlanned (fails_next (machine_of self.old) call.StageDown) result }
-        ensures counted { IsCountedAs call.StageDown (down_failed result) (machine_of self.old) (machine_of self.new) }
+        ensures plan { PassEndsAsPlanned (fails_next (machine_of self.old) call.StageDown) result }
+        ensures counted { IsCountedAs call.StageDown (has_failed result) (machine_of self.old) (machine_of self.new) }
     {
         down_end(self.call(alloc, &Event::Stage(Side::Behind, number)))
     }
 
-    fn command(&mut self, command: &Command) -> CommandEnd
+    fn command(&mut self, command: &Command) -> Result<(), PortError>
         requires loaded { IsLoaded (seen_of (machine_of self.old)) }
         requires named { CanCommand (seen_of (machine_of self.old)) command.now }
         requires spare { 0 < (seen_of (machine_of self.old)).spare }
         requires room { HasRoomFor (seen_of (machine_of self.old)) command.now }
         requires waits { WaitsForNone (seen_of (machine_of self.old)) command.now }
         ensures commands { Commands result command.now (seen_of (machine_of self.old)) (seen_of (machine_of self.new)) }
-        ensures plan { CommandEndsAsPlanned (fails_next (machine_of self.old) call.Command) result }
-        ensures counted { IsCountedAs call.Command (command_failed result) (machine_of self.old) (machine_of self.new) }
+        ensures plan { EndsAsPlanned (fails_next (machine_of self.old) call.Command) result }
+        ensures counted { IsCountedAs call.Command (has_failed result) (machine_of self.old) (machine_of self.new) }
     {
         if self.fails(CallKind::Command) {
-            self.journal.push_command(command, CommandEnd::Failed);
-            return CommandEnd::Failed;
+            self.journal.push_command(command, Err(PortError::Failed));
+            return Err(PortError::Failed);
         }
         self.tables.apply(command);
-        self.journal.push_command(command, CommandEnd::Done);
-        CommandEnd::Done
+        self.journal.push_command(command, Ok(()));
+        Ok(())
     }
 
-    fn visible(&mut self, alloc: Global, object: u32) -> RowsEnd
+    fn visible(&mut self, alloc: Global, object: u32) -> Result<Rows, PortError>
         requires loaded { IsLoaded (seen_of (machine_of self.old)) }
         requires replicated { HasReplicated (seen_of (machine_of self.old)) object }
         ensures shows { ShowsRows result object (seen_of (machine_of self.old)) (seen_of (machine_of self.new)) }
-        ensures plan { RowsEndAsPlanned (fails_next (machine_of self.old) call.Visible) result }
-        ensures counted { IsCountedAs call.Visible (rows_failed result) (machine_of self.old) (machine_of self.new) }
+        ensures plan { EndsAsPlanned (fails_next (machine_of self.old) call.Visible) result }
+        ensures counted { IsCountedAs call.Visible (has_failed result) (machine_of self.old) (machine_of self.new) }
     {
         if self.fails(CallKind::Visible) {
-            return RowsEnd::Failed;
+            return Err(PortError::Failed);
         }
-        match self.try_rows(alloc, object) {
-            Ok(rows) => RowsEnd::Rows(rows),
-            Err(NoMemory) => RowsEnd::NoMemory,
-        }
+        let rows = self.try_rows(alloc, object)?;
+        Ok(rows)
     }
 }

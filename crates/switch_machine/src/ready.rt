@@ -63,7 +63,7 @@ impl Model for ReadyStage {
 }
 
 impl ReadyStage {
-    // That of some instructions.
+    // The stage of some instructions.
     fn of(
         alloc: Global,
         items: Vec<ReadyStep>,

@@ -1,14 +1,13 @@
 //! The two sides of the server, and the calls over packets at them.
-ghost use Rattle.std.specs.Prelude.{◌≡◌, IfOk, OnErr, OnOk};
-ghost use Rattle.switch_machine.specs.Sides.{down_of, entry_for, is_going, kind_of, side_of, up_from, up_of, with_last, IsOf};
+ghost use Rattle.std.specs.Prelude.{◌≡◌, Ok, IfOk, OnErr, OnOk};
+ghost use Rattle.switch_machine.specs.Sides.{down_of, entry_for, is_going, kind_of, side_of, up_from, with_last, IsOf};
 ghost use Rattle.switch_ir.specs.declared.port.UpEnd.TheVariants.{Going};
 ghost use Rattle.switch_machine.specs.declared.sides.Side.TheVariants.{Behind};
 ghost use Rattle.switch_machine.specs.declared.sides.Event.TheVariants.{Stage};
 
 use crate::calls::CallKind;
-use gal_io::{Bytes, NoMemory};
-use packet_fields::Verdict;
-use switch_ir::{Call, DownEnd, Journal, UpEnd};
+use gal_io::NoMemory;
+use switch_ir::{Call, DownEnd, Journal, PortError, UpEnd};
 
 /// A side of the server: packets that arrive pass the switch before the server, and those that come down behind it.
 #[derive(Clone, Copy, Debug)]
@@ -20,72 +19,44 @@ pub(crate) enum Side {
 impl Side {
     /// Puts a call last in a journal by which a pass at this side takes a stage that isn't its last.
     pub fn note_stage(self, journal: &mut Journal, number: u32) -> Result<(), NoMemory>
-        ensures noted { OnOk result (journal.new ≡ with_last (entry_for (Stage self number) Going) journal.old) }
+        ensures noted { OnOk result (journal.new ≡ with_last (entry_for (Stage self number) (Ok Going)) journal.old) }
         ensures err { OnErr result (journal.new ≡ journal.old) }
     {
         match self {
-            Side::Before => journal.note(Call::StageUp(number, &UpEnd::Going)),
-            Side::Behind => journal.note(Call::StageDown(number, &DownEnd::Going)),
+            Side::Before => journal.note(Call::StageUp(number, &Ok(UpEnd::Going))),
+            Side::Behind => journal.note(Call::StageDown(number, &Ok(DownEnd::Going))),
         }
     }
 }
 
-/// What a call makes of the pass over a packet.
-#[derive(Debug, Drop)]
-pub(crate) enum Outcome {
-    /// The pass has stages left.
-    Going,
-    /// The packet goes up to the server, in this frame. Only before the server it can.
-    Up(Bytes),
-    Verdict(Verdict),
-}
-
-impl Outcome {
-    /// Whether the pass has stages left.
-    pub fn is_going(&self) -> bool
-        ensures { result ≡ is_going self.now }
-    {
-        match self {
-            Outcome::Going => true,
-            Outcome::Up(_) | Outcome::Verdict(_) => false,
-        }
-    }
-
-    /// How the call ends.
-    pub fn end(self) -> UpEnd
-        ensures { result ≡ up_of self }
-    {
-        match self {
-            Outcome::Going => UpEnd::Going,
-            Outcome::Up(frame) => UpEnd::Up(frame),
-            Outcome::Verdict(verdict) => UpEnd::Finished(verdict),
-        }
-    }
+/// Whether the pass has stages left.
+pub(crate) fn is_going(end: &UpEnd) -> bool
+    ensures { result ≡ is_going end.now }
+{
+    matches!(end, UpEnd::Going)
 }
 
 /// How a call behind the server ends, where no packet goes up.
-pub(crate) fn down_end(end: UpEnd) -> DownEnd
-    requires { IsOf Behind end }
+pub(crate) fn down_end(end: Result<UpEnd, PortError>) -> Result<DownEnd, PortError>
+    requires { IfOk end (IsOf Behind) }
     ensures { result ≡ down_of end }
 {
     match end {
-        UpEnd::Going => DownEnd::Going,
-        UpEnd::Up(_) => unreachable!(),
-        UpEnd::Finished(verdict) => DownEnd::Verdict(verdict),
-        UpEnd::Failed => DownEnd::Failed,
-        UpEnd::NoMemory => DownEnd::NoMemory,
+        Ok(UpEnd::Going) => Ok(DownEnd::Going),
+        Ok(UpEnd::Up(_)) => unreachable!(),
+        Ok(UpEnd::Finished(verdict)) => Ok(DownEnd::Verdict(verdict)),
+        Err(error) => Err(error),
     }
 }
 
 // The end of which it was made.
-fn up_end(end: DownEnd) -> UpEnd
+fn up_end(end: Result<DownEnd, PortError>) -> Result<UpEnd, PortError>
     ensures { result ≡ up_from end }
 {
     match end {
-        DownEnd::Going => UpEnd::Going,
-        DownEnd::Verdict(verdict) => UpEnd::Finished(verdict),
-        DownEnd::Failed => UpEnd::Failed,
-        DownEnd::NoMemory => UpEnd::NoMemory,
+        Ok(DownEnd::Going) => Ok(UpEnd::Going),
+        Ok(DownEnd::Verdict(verdict)) => Ok(UpEnd::Finished(verdict)),
+        Err(error) => Err(error),
     }
 }
 
@@ -112,7 +83,7 @@ impl Event<'_> {
         }
     }
 
-    /// Its kind.
+    /// The kind of the call.
     pub fn kind(&self) -> CallKind
         ensures { result ≡ kind_of self.now }
     {
@@ -126,9 +97,27 @@ impl Event<'_> {
         }
     }
 
-    /// Puts it last in a journal with its end, and gives the end back.
+    /// Puts it last in a journal with its answer, and gives the answer back.
     pub fn note(&self, journal: &mut Journal, end: UpEnd) -> Result<UpEnd, NoMemory>
         requires { IsOf (side_of self.now) end }
+        ensures end { IfOk result (λ same. same ≡ end) }
+        ensures noted { OnOk result (journal.new ≡ with_last (entry_for self.now (Ok end)) journal.old) }
+        ensures err { OnErr result (journal.new ≡ journal.old) }
+    {
+        match self.note_end(journal, Ok(end))? {
+            Ok(same) => Ok(same),
+            Err(_) => unreachable!(),
+        }
+    }
+
+    /// Puts it last in a journal with its end, also where it failed, and gives the end back.
+    #[tactic(auto, using(crate::proofs::Telling::same_end))]
+    pub fn note_end(
+        &self,
+        journal: &mut Journal,
+        end: Result<UpEnd, PortError>,
+    ) -> Result<Result<UpEnd, PortError>, NoMemory>
+        requires { IfOk end (IsOf (side_of self.now)) }
         ensures end { IfOk result (λ same. same ≡ end) }
         ensures noted { OnOk result (journal.new ≡ with_last (entry_for self.now end) journal.old) }
         ensures err { OnErr result (journal.new ≡ journal.old) }

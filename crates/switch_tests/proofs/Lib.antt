@@ -1,4 +1,2 @@
 mod Kept
-mod Loaded
 mod Plain
-mod UnderWay

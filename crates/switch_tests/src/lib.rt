@@ -1,5 +1,5 @@
-//! Tests of frames, of the code of a switch, of a switch in memory and of the server, one module for each crate, on
-//! values from outside: no clause says them.
+//! Tests of frames, of the code of a switch and of the server, one module for each crate, on values from outside: no
+//! clause says them.
 #![tactic(auto)]
 
 #[cfg(test)]
@@ -8,7 +8,5 @@ mod samples;
 mod server_runtime_tests;
 #[cfg(test)]
 mod switch_ir_tests;
-#[cfg(test)]
-mod switch_machine_tests;
 #[cfg(test)]
 mod transfer_header_tests;

@@ -120,7 +120,7 @@ fn chained(alloc: Global) -> Result<Server, Fail> {
     beside_a_switch(alloc, &f, 3, 3)
 }
 
-// It hands on what it is handed, also where preprocessing would give other numbers, and computes nothing.
+// A server that computes nothing hands on what it is handed, also where preprocessing would give other numbers.
 fn hands_on(server: &mut Server) -> bool {
     let mut wanted = Wanted {
         number: 0,

@@ -8,8 +8,7 @@ use split_model::Layout;
 use std::alloc::Global;
 use std::test::Fail;
 use switch_ir::{
-    Call, CommandEnd, DownEnd, Entry, Journal, Pass, Steps, SwitchCode, UpEnd, emit,
-    spans_of_passes,
+    Call, DownEnd, Entry, Journal, Pass, PortError, Steps, SwitchCode, UpEnd, emit, spans_of_passes,
 };
 use writeback_table::{Command, To, Update};
 
@@ -184,11 +183,11 @@ fn is_journal_kept(alloc: Global) -> Result<bool, NoMemory> {
     let mut journal = Journal::new(alloc);
     journal.reserve(1)?;
     journal.push(Entry::Load)?;
-    journal.push_command(&Command::Off, CommandEnd::Done);
+    journal.push_command(&Command::Off, Ok(()));
     let entries = journal.entries(alloc)?;
     let are_there = matches!(
         entries.as_slice(),
-        [Entry::Load, Entry::Command(Command::Off, CommandEnd::Done)],
+        [Entry::Load, Entry::Command(Command::Off, Ok(()))],
     );
     Ok(are_there && journal.spare() == 0)
 }
@@ -213,10 +212,10 @@ fn commanded(alloc: Global) -> Result<Journal, NoMemory> {
         to: To::Gone,
     });
     let mut journal = Journal::new(alloc);
-    journal.push(Entry::Command(staged, CommandEnd::Done))?;
+    journal.push(Entry::Command(staged, Ok(())))?;
     journal.push(Entry::Visible(3))?;
-    journal.push(Entry::Command(gone, CommandEnd::Failed))?;
-    journal.push(Entry::Command(Command::Clear(5, two_values(3, 4)), CommandEnd::Done))?;
+    journal.push(Entry::Command(gone, Err(PortError::Failed)))?;
+    journal.push(Entry::Command(Command::Clear(5, two_values(3, 4)), Ok(())))?;
     Ok(journal)
 }
 
@@ -237,10 +236,10 @@ fn are_commands_kept(alloc: Global) -> Result<bool, NoMemory> {
     let entries = journal.entries(alloc)?;
     Ok(match entries.as_slice() {
         [
-            Entry::Command(Command::Stage(staged), CommandEnd::Done),
+            Entry::Command(Command::Stage(staged), Ok(())),
             Entry::Visible(3),
-            Entry::Command(Command::Main(gone), CommandEnd::Failed),
-            Entry::Command(Command::Clear(5, key), CommandEnd::Done),
+            Entry::Command(Command::Main(gone), Err(PortError::Failed)),
+            Entry::Command(Command::Clear(5, key), Ok(())),
         ] => is_staged(staged) && is_gone(gone) && *key == two_values(3, 4),
         _ => false,
     })
@@ -248,40 +247,62 @@ fn are_commands_kept(alloc: Global) -> Result<bool, NoMemory> {
 
 // A pass that goes on and then sends a frame up, and one that ends at once.
 fn passed(alloc: Global) -> Result<Journal, NoMemory> {
-    let frame = UpEnd::Up(Bytes::from_slice(alloc, &[7, 8])?);
-    let sent = DownEnd::Verdict(Verdict::Send(4, Bytes::from_slice(alloc, &[9])?));
+    let frame = Ok(UpEnd::Up(Bytes::from_slice(alloc, &[7, 8])?));
+    let sent = Ok(DownEnd::Verdict(Verdict::Send(4, Bytes::from_slice(alloc, &[9])?)));
     let mut journal = Journal::new(alloc);
-    journal.note(Call::BeginUp(3, 2, &[5, 6], &UpEnd::Going))?;
+    journal.note(Call::BeginUp(3, 2, &[5, 6], &Ok(UpEnd::Going)))?;
     journal.note(Call::StageUp(3, &frame))?;
     journal.note(Call::Down(&[1], &sent))?;
     Ok(journal)
+}
+
+// Whether this is the entry of a packet that arrives, whose pass goes on.
+fn is_begun(entry: &Entry) -> bool {
+    match entry {
+        Entry::BeginUp {
+            number: 3,
+            port: 2,
+            packet,
+            answer: Ok(UpEnd::Going),
+        } => packet.as_slice() == [5, 6].as_slice(),
+        _ => false,
+    }
+}
+
+// Whether this is the entry of a stage that sends the frame up.
+fn is_sent_up(entry: &Entry) -> bool {
+    match entry {
+        Entry::StageUp {
+            number: 3,
+            answer: Ok(UpEnd::Up(frame)),
+        } => frame.as_slice() == [7, 8].as_slice(),
+        _ => false,
+    }
+}
+
+// Whether this is the entry of a frame whose packet leaves by port 4.
+fn is_released(entry: &Entry) -> bool {
+    match entry {
+        Entry::Down {
+            frame,
+            answer: Ok(DownEnd::Verdict(verdict)),
+        } => frame.as_slice() == [1].as_slice() && leaves_by_4(verdict),
+        _ => false,
+    }
+}
+
+fn leaves_by_4(verdict: &Verdict) -> bool {
+    match verdict {
+        Verdict::Send(4, bytes) => bytes.as_slice() == [9].as_slice(),
+        _ => false,
+    }
 }
 
 fn are_passes_kept(alloc: Global) -> Result<bool, NoMemory> {
     let journal = passed(alloc)?;
     let entries = journal.entries(alloc)?;
     Ok(match entries.as_slice() {
-        [
-            Entry::BeginUp {
-                number: 3,
-                port: 2,
-                packet,
-                answer: UpEnd::Going,
-            },
-            Entry::StageUp {
-                number: 3,
-                answer: UpEnd::Up(up),
-            },
-            Entry::Down {
-                frame,
-                answer: DownEnd::Verdict(Verdict::Send(4, sent)),
-            },
-        ] => {
-            packet.as_slice() == [5, 6].as_slice()
-                && up.as_slice() == [7, 8].as_slice()
-                && frame.as_slice() == [1].as_slice()
-                && sent.as_slice() == [9].as_slice()
-        }
+        [first, second, third] => is_begun(first) && is_sent_up(second) && is_released(third),
         _ => false,
     })
 }

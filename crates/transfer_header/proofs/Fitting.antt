@@ -56,7 +56,7 @@ has_cover (first ∷ spans) step value e = elim (or_cases (first.value == value 
       )
 ]
 
--- Such registers serve for the values of a layout that are all needed at one step.
+-- Registers that are kept apart serve for the values of a layout that are all needed at one step.
 pub needed_values_fit : (layout : List Crossing) (spans : List Span) (registers : Registers) (step : ℕ) → AreKeptApart spans registers → IsRising layout → All (λ (c : Crossing). IsNeeded spans step c.number) layout
     → FitsLayout layout registers
 needed_values_fit layout spans registers step kept rising all = record {

@@ -22,28 +22,28 @@ side_by_side u w high low fits fits' room =
 
 -- ---- putting
 -- the bits that a writer holds are its view
-pub record Shows (bytes : List ℕ) (count held : ℕ) (view : List ℕ) : Type 0 where
+pub record HoldsBits (bytes : List ℕ) (count held : ℕ) (view : List ℕ) : Type 0 where
   pub is : bits_in bytes ++ bits_of count held ≡ view
   pub short : count < 8
   pub small : held < 2 ^ count
   pub are : AreBytes bytes
 
 pub shown : (bytes : List ℕ) (count held len room : ℕ) (view : Written) → record { bits = bits_in bytes ++ bits_of count held; capacity = room } ≡ view
-    → (count < 8) × (held < 2 ^ count) × AreBytes bytes × (8 * len + count ≤ 8 * room) → Shows bytes count held view.bits
+    → (count < 8) × (held < 2 ^ count) × AreBytes bytes × (8 * len + count ≤ 8 * room) → HoldsBits bytes count held view.bits
 shown bytes count held len room view is inv = record { is = ap (λ (w : Written). w.bits) is; short = inv.0; small = inv.1; are = inv.2 }
 
-pub length-shown : (bytes : List ℕ) (count held : ℕ) (view : List ℕ) → Shows bytes count held view → length view ≡ 8 * length bytes + count
+pub length-shown : (bytes : List ℕ) (count held : ℕ) (view : List ℕ) → HoldsBits bytes count held view → length view ≡ 8 * length bytes + count
 length-shown bytes count held view s =
     sym (ap (λ (x : List ℕ). length x) s.is) ∙ length-append (bits_in bytes) (bits_of count held) ∙ omega (arith, length-bits_in bytes, length-bits_of count held)
 
-pub are_shown : (bytes : List ℕ) (count held : ℕ) (view : List ℕ) → Shows bytes count held view → AreBits view
+pub are_shown : (bytes : List ℕ) (count held : ℕ) (view : List ℕ) → HoldsBits bytes count held view → AreBits view
 are_shown bytes count held view s = subst AreBits s.is (All-append (λ bit. bit < 2) (bits_in bytes) (bits_of count held) (are_bits_in bytes) (are_bits_of count held))
 
 pub none_held : (bytes : List ℕ) → bits_in bytes ++ bits_of 0 0 ≡ bits_in bytes
 none_held bytes = ap (λ x. bits_in bytes ++ x) (bits_of-zero 0) ∙ append-nil (bits_in bytes)
 
 -- memory for the bits is memory for the bytes
-pub has_room : (bytes : List ℕ) (count held width capacity : ℕ) (view : List ℕ) → Shows bytes count held view → length view + width ≤ 8 * capacity → 8 * length bytes + (count + width) ≤ 8 * capacity
+pub has_room : (bytes : List ℕ) (count held width capacity : ℕ) (view : List ℕ) → HoldsBits bytes count held view → length view + width ≤ 8 * capacity → 8 * length bytes + (count + width) ≤ 8 * capacity
 has_room bytes count held width capacity view s within = omega (arith, length-shown bytes count held view s)
 
 -- the bits of a part behind those that are held, as they are computed
@@ -56,7 +56,7 @@ part_held count held width number small short room =
     (omega (arith, cut, joined.0), omega (arith, cut, joined.2))
 
 -- and bytes that they were pushed into, with those that are left
-pub part_put : (bytes next : List ℕ) (count held width number left : ℕ) (view : List ℕ) → Shows bytes count held view → width < 64 → count + width ≤ 64 → left < 8
+pub part_put : (bytes next : List ℕ) (count held width number left : ℕ) (view : List ℕ) → HoldsBits bytes count held view → width < 64 → count + width ≤ 64 → left < 8
     → let all = held * 2 ^ width % 2 ^ 64 + number % (1 * 2 ^ width % 2 ^ 64) in bits_in next ++ bits_of left all ≡ bits_in bytes ++ bits_of (count + width) all
     → bits_in next ++ bits_of left (all % (1 * 2 ^ left % 2 ^ 64)) ≡ view ++ bits_of width number
 part_put bytes next count held width number left view s short room few pushed =
@@ -103,7 +103,7 @@ last_byte count held some short small =
     let eight : 2 ^ (count + (8 - count)) ≡ 2 ^ 8 = ap (λ k. 2 ^ k) sum in
     (omega (arith, joined.0), omega (arith, joined.1, eight))
 
-pub finished_full : (bytes next : List ℕ) (count held : ℕ) (view : List ℕ) → Shows bytes count held view → 0 < count → next ≡ bytes ++ (held * 2 ^ (8 - count) % 2 ^ 64) ∷ [] → next ≡ packed view
+pub finished_full : (bytes next : List ℕ) (count held : ℕ) (view : List ℕ) → HoldsBits bytes count held view → 0 < count → next ≡ bytes ++ (held * 2 ^ (8 - count) % 2 ^ 64) ∷ [] → next ≡ packed view
 finished_full bytes next count held view s some is =
     let fill : ℕ = 8 - count in
     let byte : ℕ = held * 2 ^ fill % 2 ^ 64 in
@@ -115,7 +115,7 @@ finished_full bytes next count held view s some is =
     ∙ sym (append_assoc (bits_in bytes) (bits_of count held) (replicate fill 0)) ∙ ap (λ x. x ++ replicate fill 0) s.is in
     is_packed next view fill (subst AreBytes (sym is) (All-push (λ byte. byte < 256) bytes byte s.are last.1)) (are_shown bytes count held view s) (omega arith) bits
 
-pub finished_even : (bytes : List ℕ) (count held : ℕ) (view : List ℕ) → Shows bytes count held view → count ≤ 0 → bytes ≡ packed view
+pub finished_even : (bytes : List ℕ) (count held : ℕ) (view : List ℕ) → HoldsBits bytes count held view → count ≤ 0 → bytes ≡ packed view
 finished_even bytes count held view s none =
     let zero : count ≡ 0 = omega arith in
     let bits : bits_in bytes ≡ view ++ replicate 0 0 =

@@ -74,7 +74,7 @@ fn number_at(items: &[u64], place: u32) -> u64
 }
 
 impl PlacedOp {
-    // Its value, from numbers by place.
+    // The value of an operator, from numbers by place.
     fn value(&self, items: &[u64]) -> u64
         requires { CanRun (operator_work self.now) }
         ensures { (st : Objects) (packet : Packet)

@@ -1,16 +1,19 @@
 -- A batch as a whole.
-use Rattle.std.proofs.Common.{◌≡◌, ℕ, zero, suc, ◌+◌, ◌≤◌, ◌<◌, true, false, List, [], ◌∷◌, ◌++◌, map, Option, Some, None, refl, sym, ap, subst, ◌∙◌, arith, length, take}
+use Rattle.std.proofs.Common.{◌≡◌, ℕ, zero, suc, ◌+◌, ◌-◌, ◌≤◌, ◌<◌, true, false, List, [], ◌∷◌, ◌++◌, map, Option, Some, None, refl, sym, ap, subst, ◌∙◌, arith, length, take}
 use Rattle.std.specs.FinMap.{get, empty, len, get-empty, len-empty}
 use Rattle.state_store.specs.Store.{Object, key_cmp, look}
 use Rattle.writeback_table.specs.declared.command.Update.{Update}
 use Rattle.writeback_table.specs.declared.command.Command.{Command}
 use Rattle.writeback_table.specs.declared.command.Command.TheVariants.{Stage, On, Main, Off}
+use Rattle.std.proofs.lemmas.List.{append-nil}
+use Rattle.lemmas.proofs.Lists.{take_past}
+use Rattle.writeback_table.proofs.Ons.{before_on, from_on}
 use Rattle.writeback_table.specs.Pair.{Pair}
 use Rattle.writeback_table.specs.Commands.{clear_of, commands_of, ons, bit_through, pair_through}
 use Rattle.writeback_table.proofs.Slots.{Slot, slot_through, over, sees, IsReadyFor, through_is, same_table}
 use Rattle.writeback_table.specs.Batches.{changed_by, count_of, IsSeenAtOnce}
-use Rattle.writeback_table.proofs.Follows.{Shown, Follows, version_through, version_ons, follows_join, follows_at, follows_room, through_append}
-use Rattle.writeback_table.proofs.Phases.{Laws, staged_by, cleared_by, Shows, staged_shows, stage_follows, stage_through, staged_covers, main_follows, main_through, clear_follows, clear_through, all_cleared}
+use Rattle.writeback_table.proofs.Follows.{Shown, Follows, version_through, version_ons, follows_join, follows_at, through_append}
+use Rattle.writeback_table.proofs.Phases.{Laws, staged_by, cleared_by, Overlays, staged_shows, stage_follows, stage_through, staged_covers, main_follows, main_through, clear_follows, clear_through, all_cleared}
 
 -- how the version goes through the groups
 steady_stage : (v : ℕ) (us : List Update) → version_through v (map (λ u. Stage u) us) ≡ v
@@ -21,8 +24,12 @@ steady_main : (v : ℕ) (us : List Update) → version_through v (map (λ u. Mai
 steady_main v [] = refl
 steady_main v (u ∷ us) = steady_main v us
 
-nothing_over : (old : Object) → Shows empty old old
+nothing_over : (old : Object) → Overlays empty old old
 nothing_over old = λ q. ap (λ x. over x (look old q)) (get-empty key_cmp q)
+
+-- rows that are ready, staged over the old table, show the new one
+ready_shows : (l : Laws) (o : ℕ) (pair : Pair) (us : List Update) → IsReadyFor o pair us → Overlays (staged_by o pair.staged us) pair.main (changed_by o pair.main us)
+ready_shows l o pair us r = staged_shows l o pair.staged pair.main pair.main us r.takes (subst (λ rows. Overlays rows pair.main pair.main) (sym r.empty) (nothing_over pair.main))
 
 -- what is ready to be staged fits
 ready_fits : (o : ℕ) (pair : Pair) (us : List Update) → IsReadyFor o pair us → len pair.staged + count_of o us ≤ pair.room
@@ -62,8 +69,7 @@ main_part : (l : Laws) (o : ℕ) (shown : Shown) (v : ℕ) (pair : Pair) (us : L
     → ((q : List ℕ) → look (changed_by o pair.main us) q ≡ shown v q)
     → Follows o shown v (record { pair = staged_pair o pair us; bit = true }) (from_main us)
 main_part l o shown v pair us r new =
-    let shows : Shows (staged_by o pair.staged us) pair.main (changed_by o pair.main us) =
-    staged_shows l o pair.staged pair.main pair.main us r.takes (subst (λ rows. Shows rows pair.main pair.main) (sym r.empty) (nothing_over pair.main)) in
+    let shows = ready_shows l o pair us r in
     let one = main_follows l o shown v (staged_pair o pair us) us r.takes (staged_covers o pair.staged us) (λ q. shows q ∙ new q) in
     let clear = clear_follows o shown v (new_pair o pair us) us new in
     let off : Follows o shown v (record { pair = new_pair o pair us; bit = true }) (Off ∷ all_clear us) = ((λ q. hidden_too l o pair us r q ∙ new q), refl, clear) in
@@ -73,9 +79,7 @@ main_part l o shown v pair us r new =
   where
     -- the staged rows over the new table show the new table
     hidden_too : (l : Laws) (o : ℕ) (pair : Pair) (us : List Update) → IsReadyFor o pair us → (q : List ℕ) → over (get (staged_by o pair.staged us) q) (look (changed_by o pair.main us) q) ≡ look (changed_by o pair.main us) q
-    hidden_too l o pair us r q =
-        let shows = staged_shows l o pair.staged pair.main pair.main us r.takes (subst (λ rows. Shows rows pair.main pair.main) (sym r.empty) (nothing_over pair.main)) in
-        same_over (get (staged_by o pair.staged us) q) (look pair.main q) (look (changed_by o pair.main us) q) (shows q)
+    hidden_too l o pair us r q = same_over (get (staged_by o pair.staged us) q) (look pair.main q) (look (changed_by o pair.main us) q) (ready_shows l o pair us r q)
       where
         same_over : (row : Option (Option (List ℕ))) (old new : Option (List ℕ)) → over row old ≡ new → over row new ≡ new
         same_over (Some r) old new e = e
@@ -86,43 +90,19 @@ pub batch_follows : (l : Laws) (o : ℕ) (shown : Shown) (v : ℕ) (pair : Pair)
     → Follows o shown v (record { pair = pair; bit = false }) (commands_of us)
 batch_follows l o shown v pair us r old new =
     let fits = ready_fits o pair us r in
-    let shows : Shows (staged_by o pair.staged us) pair.main (changed_by o pair.main us) =
-    staged_shows l o pair.staged pair.main pair.main us r.takes (subst (λ rows. Shows rows pair.main pair.main) (sym r.empty) (nothing_over pair.main)) in
     let on : Follows o shown v (record { pair = staged_pair o pair us; bit = false }) (On ∷ from_main us) = (old, refl, main_part l o shown (suc v) pair us r new) in
     follows_join o shown v (record { pair = pair; bit = false }) (map (λ u. Stage u) us) (On ∷ from_main us) (stage_follows o shown v pair us fits old)
     (subst (λ n. Follows o shown n (slot_through o (record { pair = pair; bit = false }) (map (λ u. Stage u) us)) (On ∷ from_main us)) (sym (steady_stage v us))
     (subst (λ s. Follows o shown v s (On ∷ from_main us)) (sym (stage_through o pair us fits)) on))
 
 -- where the version rises
-stage_ons : (us : List Update) (cs : List Command) (n : ℕ) → n ≤ length us → ons (take n (map (λ u. Stage u) us ++ cs)) ≡ 0
-stage_ons us cs zero h = refl
-stage_ons [] cs (suc n) h = absurd (omega (arith, h))
-stage_ons (u ∷ us) cs (suc n) h = let r = stage_ons us cs n (omega arith) in omega arith
-
-no_ons_clear : (us : List Update) (n : ℕ) → ons (take n (map clear_of us)) ≡ 0
-no_ons_clear us zero = refl
-no_ons_clear [] (suc n) = refl
-no_ons_clear (u ∷ us) (suc n) = let r = no_ons_clear us n in omega arith
-
-no_ons_off : (us : List Update) (n : ℕ) → ons (take n (Off ∷ map clear_of us)) ≡ 0
-no_ons_off us zero = refl
-no_ons_off us (suc n) = let r = no_ons_clear us n in omega arith
-
-no_ons_main : (us vs : List Update) (n : ℕ) → ons (take n (map (λ u. Main u) us ++ (Off ∷ map clear_of vs))) ≡ 0
-no_ons_main [] vs n = no_ons_off vs n
-no_ons_main (u ∷ us) vs zero = refl
-no_ons_main (u ∷ us) vs (suc n) = let r = no_ons_main us vs n in omega arith
-
-past_ons : (us vs : List Update) (n : ℕ) → length us < n → ons (take n (map (λ u. Stage u) us ++ (On ∷ from_main vs))) ≡ 1
-past_ons us vs zero h = absurd (omega (arith, h))
-past_ons [] vs (suc n) h = let r = no_ons_main vs vs n in omega arith
-past_ons (u ∷ us) vs (suc n) h = let r = past_ons us vs n (omega arith) in omega arith
-
 pub ons_before : (us : List Update) (n : ℕ) → n ≤ length us → ons (take n (commands_of us)) ≡ 0
-ons_before us n h = stage_ons us (On ∷ from_main us) n h
+ons_before us n h = ap (λ cs. ons (take n cs)) (sym (append-nil (commands_of us))) ∙ before_on us [] n h
 
 pub ons_after : (us : List Update) (n : ℕ) → length us < n → ons (take n (commands_of us)) ≡ 1
-ons_after us n h = past_ons us us n h
+ons_after us n h =
+    ap (λ cs. ons (take n cs)) (sym (append-nil (commands_of us))) ∙ from_on us [] n h
+    ∙ ap (λ cs. suc (ons cs)) (take_past {X = Command} [] (n - length (commands_of us)) (omega arith))
 
 -- the two versions of a batch
 abbrev two : Object → Object → Shown

@@ -10,15 +10,13 @@ use Rattle.state_store.specs.declared.object.Kind.TheVariants.{Map}
 use Rattle.writeback_table.specs.Pair.{Staged, values_of}
 use Rattle.writeback_table.specs.declared.command.To.{To}
 use Rattle.writeback_table.specs.declared.command.To.TheVariants.{Value, Gone}
+use Rattle.writeback_table.proofs.Slots.{find_first}
 use Rattle.writeback_table.specs.Staging.{put_all, joined, IsCounted, values_then, gone_then}
 
 -- what one map has, before another
 abbrev pub before : (List ℕ → Option (List ℕ)) → Option (List ℕ) → Option (Option (List ℕ)) → Option (Option (List ℕ))
 before f (Some v) below = Some (f v)
 before f None below = below
-
-find_first : (e : List ℕ × List ℕ) (es : List (List ℕ × List ℕ)) (q : List ℕ) → find key_cmp q (e ∷ es) ≡ cond (eq_by_cmp key_cmp q e.0) (Some e.1) (find key_cmp q es)
-find_first e es q = sym (get-from_entries nat_list_cmp_total (e ∷ es) q) ∙ get-insert nat_list_cmp_total (from_entries es) e.0 e.1 q ∙ ap (cond (eq_by_cmp key_cmp q e.0) (Some e.1)) (get-from_entries nat_list_cmp_total es q)
 
 before_cond : (f : List ℕ → Option (List ℕ)) (b : Bool) (v : List ℕ) (x : Option (List ℕ)) (below : Option (Option (List ℕ))) → cond b (Some (f v)) (before f x below) ≡ before f (cond b (Some v) x) below
 before_cond f true v x below = refl

@@ -1,6 +1,7 @@
 pub mod Slots
 pub mod Follows
 pub mod Phases
+pub mod Ons
 pub mod Batches
 pub mod Histories
 pub mod Joins

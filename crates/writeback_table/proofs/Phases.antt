@@ -61,14 +61,14 @@ staged_by o rows [] = rows
 staged_by o rows (u ∷ us) = staged_by o (staged_at o rows u) us
 
 -- rows over a table show another table
-abbrev pub Shows : Staged → Object → Object → Type 0
-Shows rows old new = (q : List ℕ) → over (get rows q) (look old q) ≡ look new q
+abbrev pub Overlays : Staged → Object → Object → Type 0
+Overlays rows old new = (q : List ℕ) → over (get rows q) (look old q) ≡ look new q
 
-shows_step : (l : Laws) → (rows : Staged) (old m : Object) (u : Update) (b : Bool) → cond b (takes m u) true ≡ true → Shows rows old m → Shows (cond b (insert rows u.key (values_of u.to)) rows) old (cond b (changed m u) m)
+shows_step : (l : Laws) → (rows : Staged) (old m : Object) (u : Update) (b : Bool) → cond b (takes m u) true ≡ true → Overlays rows old m → Overlays (cond b (insert rows u.key (values_of u.to)) rows) old (cond b (changed m u) m)
 shows_step l rows old m u true t h = λ q. ap (λ x. over x (look old q)) (get-insert nat_list_cmp_total rows u.key (values_of u.to) q) ∙ shows_key l rows (look old q) m u q _ refl t (h q)
 shows_step l rows old m u false t h = h
 
-pub staged_shows : (l : Laws) → (o : ℕ) (rows : Staged) (old m : Object) (us : List Update) → TakesAll o m us → Shows rows old m → Shows (staged_by o rows us) old (changed_by o m us)
+pub staged_shows : (l : Laws) → (o : ℕ) (rows : Staged) (old m : Object) (us : List Update) → TakesAll o m us → Overlays rows old m → Overlays (staged_by o rows us) old (changed_by o m us)
 staged_shows l o rows old m [] t h = h
 staged_shows l o rows old m (u ∷ us) t h = staged_shows l o (staged_at o rows u) old (changed_at o m u) us t.1 (shows_step l rows old m u (nat_eq u.object o) t.0 h)
 

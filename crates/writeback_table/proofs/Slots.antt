@@ -8,7 +8,7 @@ use Rattle.std.proofs.lemmas.Map.Lookups.{exact_bytes}
 use Rattle.state_store.specs.Store.{Contents, Object, key_cmp, look}
 use Rattle.writeback_table.specs.declared.command.Update.{Update}
 use Rattle.writeback_table.specs.declared.command.Command.{Command}
-use Rattle.writeback_table.specs.Pair.{Pair, Staged, with_row, with_staged, visible, seen}
+use Rattle.writeback_table.specs.Pair.{Pair, with_row, with_staged, visible, seen}
 use Rattle.writeback_table.specs.Commands.{pair_after, room_for, bit_after, pair_through, bit_through}
 use Rattle.writeback_table.specs.Batches.{TakesAll, count_of}
 
@@ -51,10 +51,7 @@ through_is o slot [] = refl
 through_is o slot (c ∷ cs) = through_is o (slot_after o slot c) cs
 
 -- ---- the table that lookups see, key by key
-abbrev row_first : List ℕ × Option (List ℕ) → List (List ℕ × Option (List ℕ)) → List ℕ → Option (Option (List ℕ))
-row_first e es q = cond (eq_by_cmp key_cmp q e.0) (Some e.1) (find key_cmp q es)
-
-find_first : (e : List ℕ × Option (List ℕ)) (es : List (List ℕ × Option (List ℕ))) (q : List ℕ) → find key_cmp q (e ∷ es) ≡ row_first e es q
+pub find_first : {V : Type 0} (e : List ℕ × V) (es : List (List ℕ × V)) (q : List ℕ) → find key_cmp q (e ∷ es) ≡ cond (eq_by_cmp key_cmp q e.0) (Some e.1) (find key_cmp q es)
 find_first e es q =
     sym (get-from_entries nat_list_cmp_total (e ∷ es) q) ∙ get-insert nat_list_cmp_total (from_entries es) e.0 e.1 q
     ∙ ap (cond (eq_by_cmp key_cmp q e.0) (Some e.1)) (get-from_entries nat_list_cmp_total es q)

@@ -57,8 +57,8 @@ abbrev pub seen_after : ℕ → Pair → List Command → ℕ → Contents
 seen_after o pair commands n = visible (bit_through false (take n commands)) (pair_through o pair (take n commands))
 
 -- after the first n of the commands, lookups of the marked objects see those of a store
-abbrev pub Shows : (ℕ → Bool) → List ObjectDecl → ℕ → List Command → ℕ → Store → Type 0
-Shows marked objects writeback commands n store = (o : ℕ) → marked o ≡ true
+abbrev pub LookupsSee : (ℕ → Bool) → List ObjectDecl → ℕ → List Command → ℕ → Store → Type 0
+LookupsSee marked objects writeback commands n store = (o : ℕ) → marked o ≡ true
     → seen_after o (first_pair objects writeback o) commands n ≡ (object_at store o).contents
 
 -- What is seen of object o while the commands of the batches are applied one by one.

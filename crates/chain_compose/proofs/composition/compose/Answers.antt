@@ -9,7 +9,7 @@ use Rattle.element_lang.specs.Tree.{Tree}
 use Rattle.element_lang.specs.View.{tree}
 use Rattle.element_chain.specs.Chain.{Connected, element_at, store_at, chain_run}
 use Rattle.element_chain.specs.Compose.{composed, joined, base_of}
-use Rattle.element_chain.specs.Laws.{IsFit, AreKept}
+use Rattle.element_chain.specs.Laws.{AreKept}
 use Rattle.chain_compose.specs.Parts.{connected}
 use Rattle.chain_compose.specs.Refusals.{IsRefused, IsUnrefused}
 use Rattle.chain_compose.proofs.Answered.{exact, found, of_made}
@@ -34,46 +34,42 @@ returns-clause-found c =
 
 pub returns-clause-verdict : goal.returns-clause-verdict
 returns-clause-verdict g =
-    let r = g.compose_elements.result in
     let wires = g.args.chain.now.wires in
     let c : Connected = connected g.args.classes.now.items wires in
-    of_made c
-    (λ (t : Tree). (stores : List Store) (packet : Packet) → AreKept c.elements stores → IsArrival packet → source_verdict t (joined stores) packet ≡ (chain_run c stores packet).verdict) r
-    (subst (λ (ms : List Middlebox). IfOk r (λ (m : Middlebox). tree m ≡ composed (connected ms wires))) g.deref.ensures.value g.compose_elements.ensures.made)
-    (subst (λ (ms : List Middlebox). IfOk r (λ (_ : Middlebox). IsFit (connected ms wires))) g.deref.ensures.value g.compose_elements.ensures.fits)
+    of_made
+    (λ (t : Tree). (stores : List Store) (packet : Packet) → AreKept c.elements stores → IsArrival packet → source_verdict t (joined stores) packet ≡ (chain_run c stores packet).verdict)
+    g.deref.result.now g.args.classes.now.items wires g.compose_elements.result g.deref.ensures.value
+    g.compose_elements.ensures.made g.compose_elements.ensures.fits
     (λ fit stores packet kept arrives. composition_keeps_the_meaning-verdict c stores packet fit kept arrives)
 
 pub returns-clause-stores : goal.returns-clause-stores
 returns-clause-stores g =
-    let r = g.compose_elements.result in
     let wires = g.args.chain.now.wires in
     let c : Connected = connected g.args.classes.now.items wires in
-    of_made c
-    (λ (t : Tree). (stores : List Store) (packet : Packet) → AreKept c.elements stores → IsArrival packet → source_store t (joined stores) packet ≡ joined (chain_run c stores packet).stores) r
-    (subst (λ (ms : List Middlebox). IfOk r (λ (m : Middlebox). tree m ≡ composed (connected ms wires))) g.deref.ensures.value g.compose_elements.ensures.made)
-    (subst (λ (ms : List Middlebox). IfOk r (λ (_ : Middlebox). IsFit (connected ms wires))) g.deref.ensures.value g.compose_elements.ensures.fits)
+    of_made
+    (λ (t : Tree). (stores : List Store) (packet : Packet) → AreKept c.elements stores → IsArrival packet → source_store t (joined stores) packet ≡ joined (chain_run c stores packet).stores)
+    g.deref.result.now g.args.classes.now.items wires g.compose_elements.result g.deref.ensures.value
+    g.compose_elements.ensures.made g.compose_elements.ensures.fits
     (λ fit stores packet kept arrives. composition_keeps_the_meaning-store c stores packet fit kept arrives)
 
 pub returns-clause-objects : goal.returns-clause-objects
 returns-clause-objects g =
-    let r = g.compose_elements.result in
     let wires = g.args.chain.now.wires in
     let c : Connected = connected g.args.classes.now.items wires in
-    of_made c
+    of_made
     (λ (t : Tree). (stores : List Store) (packet : Packet) (e o : ℕ) → AreKept c.elements stores → IsArrival packet → e < length c.elements → o < length (element_at c.elements e).objects
-    → object_at (source_store t (joined stores) packet) (base_of c.elements e + o) ≡ object_at (store_at (chain_run c stores packet).stores e) o) r
-    (subst (λ (ms : List Middlebox). IfOk r (λ (m : Middlebox). tree m ≡ composed (connected ms wires))) g.deref.ensures.value g.compose_elements.ensures.made)
-    (subst (λ (ms : List Middlebox). IfOk r (λ (_ : Middlebox). IsFit (connected ms wires))) g.deref.ensures.value g.compose_elements.ensures.fits)
+    → object_at (source_store t (joined stores) packet) (base_of c.elements e + o) ≡ object_at (store_at (chain_run c stores packet).stores e) o)
+    g.deref.result.now g.args.classes.now.items wires g.compose_elements.result g.deref.ensures.value
+    g.compose_elements.ensures.made g.compose_elements.ensures.fits
     (λ fit stores packet e o kept arrives low there. composition_keeps_the_meaning-objects c stores packet e o fit kept arrives low there)
 
 pub returns-clause-parts : goal.returns-clause-parts
 returns-clause-parts g =
-    let r = g.compose_elements.result in
     let wires = g.args.chain.now.wires in
     let c : Connected = connected g.args.classes.now.items wires in
-    of_made c (λ (t : Tree). (store : Store) → IsKept t.objects store → (stores : List Store) × AreKept c.elements stores × (store ≡ joined stores)) r
-    (subst (λ (ms : List Middlebox). IfOk r (λ (m : Middlebox). tree m ≡ composed (connected ms wires))) g.deref.ensures.value g.compose_elements.ensures.made)
-    (subst (λ (ms : List Middlebox). IfOk r (λ (_ : Middlebox). IsFit (connected ms wires))) g.deref.ensures.value g.compose_elements.ensures.fits)
+    of_made (λ (t : Tree). (store : Store) → IsKept t.objects store → (stores : List Store) × AreKept c.elements stores × (store ≡ joined stores))
+    g.deref.result.now g.args.classes.now.items wires g.compose_elements.result g.deref.ensures.value
+    g.compose_elements.ensures.made g.compose_elements.ensures.fits
     (λ fit store kept. composition_keeps_the_meaning-parts c store kept)
 
 pub returns-clause-refused : goal.returns-clause-refused

@@ -1,7 +1,6 @@
-use Rattle.std.proofs.Common.{◌≡◌, ◌≤◌, ◌+◌, ◌++◌, ◌∷◌, [], List, length, map, drop, sym, ap, ◌∙◌, arith, append_assoc, append-nil}
-use Rattle.std.proofs.lemmas.List.{drop_all}
+use Rattle.std.proofs.Common.{◌≡◌, ◌+◌, ◌++◌, ◌∷◌, [], map, drop, sym, ap, ◌∙◌, arith, append_assoc}
 use Rattle.element_lang.specs.Surface.{named_row}
-use Rattle.element_lang.specs.Token.{Token, fixed}
+use Rattle.element_lang.specs.Token.{fixed}
 use Rattle.element_lang.specs.declared.mark.Mark.TheVariants as marks
 use Rattle.element_print.specs.Printed.{literals_tokens, rows_tokens}
 use Rattle.element_print.specs.Spaced.{spaced}

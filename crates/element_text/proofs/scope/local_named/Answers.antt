@@ -1,4 +1,4 @@
-use Rattle.std.proofs.Common.{◌≡◌, ℕ, Bor, Vec, Global, Some, is_some, option_map, sym, ap, ◌∙◌}
+use Rattle.std.proofs.Common.{ℕ, Bor, Vec, Global, is_some, option_map, sym, ap, ◌∙◌}
 use Rattle.std.specs.Option.{option_copied}
 use Rattle.std.specs.Str.{bytes_eq}
 use Rattle.std.specs.Map.{lookup}

@@ -2,9 +2,8 @@ use Rattle.std.proofs.lemmas.List.Elements.{recursion_from_All}
 use Rattle.std.proofs.lemmas.Result.{err_from_is_err_and}
 use Rattle.element_lang.specs.View.{tree}
 use Rattle.flat_ir.specs.Arrivals.{IsArrival}
-use Rattle.gallium_cli.proofs.Counted.{goes_further}
+use Rattle.gallium_cli.proofs.Written.{goes_further, reads_in_all}
 use Rattle.gallium_cli.proofs.Files.{report_refused}
-use Rattle.gallium_cli.proofs.Written.{reads_in_all}
 use Rattle.lemmas.proofs.Numbers.{same_within}
 use Rattle.gallium_cli.proofs.audit.load_audited.Goals as goal
 

@@ -6,7 +6,7 @@ use Rattle.element_lang.specs.Accepted.{HasNames}
 use Rattle.element_lang.specs.Rules.{is_good}
 use Rattle.gallium_cli.specs.declared.status.Status.TheVariants as statuses
 use Rattle.gallium_cli.specs.Chains.{class_files, AreClasses, IsNextRefused, MayReadNext, ReadsNext}
-use Rattle.gallium_cli.proofs.Counted.{goes_further}
+use Rattle.gallium_cli.proofs.Written.{goes_further}
 use Rattle.gallium_cli.proofs.Classes.{next_class_refused, few_next, classes_next, all_next, reads_more}
 use Rattle.gallium_cli.proofs.chain.load_classes.Goals as goal
 

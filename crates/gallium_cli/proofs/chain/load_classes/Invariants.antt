@@ -4,7 +4,7 @@ use Rattle.element_lang.specs.View.{tree}
 use Rattle.element_lang.specs.Accepted.{HasNames}
 use Rattle.element_lang.specs.Rules.{is_good}
 use Rattle.gallium_cli.specs.declared.status.Status.TheVariants as statuses
-use Rattle.gallium_cli.specs.Loads.{GoesOn}
+use Rattle.gallium_cli.specs.Loads.{LeavesFiles}
 use Rattle.gallium_cli.specs.Chains.{AreClasses, class_files}
 use Rattle.gallium_cli.specs.Causes.{reads_after}
 use Rattle.gallium_cli.proofs.chain.load_classes.Given as goal
@@ -20,7 +20,7 @@ invariant-loop-alloc g l =
       are : AreClasses first.told (take (length known) l.elements) (map tree known);
       good : All (λ m. IsTrue (is_good (tree m))) known;
       names : All (λ m. HasNames (tree m)) known;
-      goes : GoesOn statuses.Done first now;
+      goes : LeavesFiles statuses.Done first now;
       reads : now.reads ≡ reads_after (class_files (take (length known) l.elements)) first.reads;
     }
 

@@ -2,8 +2,8 @@ use Rattle.std.proofs.Common.{length, subst, sym}
 use Rattle.std.proofs.lemmas.List.Elements.{All-get_or}
 use Rattle.element_lang.specs.Accepted.{HasNames}
 use Rattle.element_lang.specs.View.{tree}
-use Rattle.gallium_cli.proofs.Classes.{is_next, next_known, next_known_files, next_new, next_new_files, next_new_refused}
-use Rattle.gallium_cli.proofs.Classes.{next_new_read, next_new_few, placed_within}
+use Rattle.gallium_cli.proofs.Classes.{is_next, next_known, next_known_files, next_new, next_new_files, next_new_refused, next_new_read, next_new_few}
+use Rattle.gallium_cli.proofs.Classes.{placed_within}
 use Rattle.gallium_cli.proofs.chain.next_class.Goals as goal
 
 pub returns-in-Ok-clause-ok : goal.returns-in-Ok-clause-ok

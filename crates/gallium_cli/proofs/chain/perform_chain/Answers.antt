@@ -2,8 +2,7 @@ use Rattle.std.proofs.Common.{map, refl}
 use Rattle.std.proofs.lemmas.Result.{err_from_is_err_and}
 use Rattle.element_lang.specs.View.{tree}
 use Rattle.gallium_cli.specs.Words.{Chain}
-use Rattle.gallium_cli.proofs.Chained.{chain_answer, chain_read, chain_reads, class_ended, classes_read, uncomposed_ended}
-use Rattle.gallium_cli.proofs.Chained.{wiring_ended}
+use Rattle.gallium_cli.proofs.Chained.{chain_answer, chain_read, chain_reads, class_ended, classes_read, uncomposed_ended, wiring_ended}
 use Rattle.gallium_cli.proofs.Written.{put_ended}
 use Rattle.gallium_cli.proofs.chain.perform_chain.Goals as goal
 

@@ -1,8 +1,7 @@
 use Rattle.std.proofs.Common.{refl}
 use Rattle.std.proofs.lemmas.Result.{err_from_is_err_and}
 use Rattle.gallium_cli.specs.Words.{Gen}
-use Rattle.gallium_cli.proofs.Counted.{unread}
-use Rattle.gallium_cli.proofs.Written.{put_ended, replay_ended, summary_put}
+use Rattle.gallium_cli.proofs.Written.{unread, put_ended, replay_ended, summary_put}
 use Rattle.gallium_cli.proofs.generated.perform_gen.Goals as goal
 
 pub returns-in_err-text : goal.returns-in_err-text

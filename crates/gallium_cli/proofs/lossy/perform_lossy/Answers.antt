@@ -1,9 +1,9 @@
-use Rattle.std.proofs.Common.{refl}
+use Rattle.std.proofs.Common.{refl, ◌∙◌}
 use Rattle.std.proofs.lemmas.Result.{err_from_is_err_and}
+use Rattle.gallium_cli.specs.Links.{IsLinkTraffic}
 use Rattle.gallium_cli.specs.Words.{Lossy}
-use Rattle.gallium_cli.proofs.Counted.{goes_further}
-use Rattle.gallium_cli.proofs.OverLinks.{link_answer, link_broken, link_read}
-use Rattle.gallium_cli.proofs.Written.{all_reads, link_goes, more_ended, put_ended, replay_ended, split_ended}
+use Rattle.gallium_cli.proofs.Written.{goes_further, all_reads, link_goes, more_ended, put_ended, replay_ended, split_ended}
+use Rattle.gallium_cli.proofs.Files.{link_passed, told_before}
 use Rattle.gallium_cli.proofs.lossy.perform_lossy.Goals as goal
 
 pub returns-in_err-middlebox : goal.returns-in_err-middlebox
@@ -29,14 +29,19 @@ returns-in_err-text g c =
     let found = c.in_ok-middlebox.ensures in
     let came = c.in_ok-packets.ensures in
     let none = c.in_err-text.ensures in
+    let f = g.F.Files.seen c.args.files.now in
+    let h = g.F.Files.seen c.load_link_traffic.new.files in
+    let traffic = told_before (λ told. IsLinkTraffic told c.args.trace.now c.args.schedule.now c.in_ok-packets.packets c.in_ok-packets.events) f
+    (g.F.Files.seen c.load_within.new.files) found.reads.0 came.ok in
     rw (p.1, p.2)
-    (replay_ended _ (Lossy c.args.source.now c.args.trace.now c.args.schedule.now c.args.limits.now)
-    (g.F.Files.seen c.args.files.now) (g.F.Files.seen c.load_link_traffic.new.files)
-    (g.S.SwitchPort.seen c.args.port.now) (g.S.SwitchPort.seen c.report.new.port) (g.O.Sink.seen c.args.out.now)
-    none.err refl
-    (link_read _ _ _ _ _ _ _ _ _ _ _ _ _ _ _ found.ok found.reads.0 came.ok found.reads.1 came.reads.1)
-    (λ failed. link_broken _ _ _ _ _ _ _ _ _ _ _ (g.S.SwitchPort.seen c.args.port.now) (g.S.SwitchPort.seen c.report.new.port)
-    found.reads.0 found.ok came.ok (none.broken failed))
+    (replay_ended _ (Lossy c.args.source.now c.args.trace.now c.args.schedule.now c.args.limits.now) f h
+    (g.S.SwitchPort.seen c.args.port.now) (g.S.SwitchPort.seen c.report.new.port) (g.O.Sink.seen c.args.out.now) none.err refl
+    record {
+      passed = link_passed c.args.source.now c.args.trace.now c.args.schedule.now c.args.limits.now f.told _ _ _ _ _ found.ok traffic;
+      reads = all_reads _ _ _ _ f (g.F.Files.seen c.load_within.new.files) h
+          (link_goes c.args.source.now c.args.trace.now c.args.schedule.now c.args.limits.now) found.reads.1 came.reads.1;
+    }
+    (λ failed. (_, _, _, _, _, found.ok, traffic, none.broken failed))
     none.stays (goes_further _ _ _ _ found.reads.0 came.reads.0))
 
 pub returns : goal.returns
@@ -44,12 +49,14 @@ returns g c =
     let found = c.in_ok-middlebox.ensures in
     let came = c.in_ok-packets.ensures in
     let text = c.in_ok-text.ensures in
-    put_ended _ (Lossy c.args.source.now c.args.trace.now c.args.schedule.now c.args.limits.now) c.as_slice.result.now
-    (g.F.Files.seen c.args.files.now) (g.F.Files.seen c.load_link_traffic.new.files)
+    let f = g.F.Files.seen c.args.files.now in
+    let h = g.F.Files.seen c.load_link_traffic.new.files in
+    let traffic = told_before (λ told. IsLinkTraffic told c.args.trace.now c.args.schedule.now c.in_ok-packets.packets c.in_ok-packets.events) f
+    (g.F.Files.seen c.load_within.new.files) found.reads.0 came.ok in
+    put_ended _ (Lossy c.args.source.now c.args.trace.now c.args.schedule.now c.args.limits.now) c.as_slice.result.now f h
     (g.S.SwitchPort.seen c.args.port.now) (g.S.SwitchPort.seen c.report.new.port)
     (g.O.Sink.seen c.args.out.now) (g.O.Sink.seen c.put.new.out)
-    (link_answer _ _ _ _ _ _ _ _ _ _ _ _ _ (g.S.SwitchPort.seen c.args.port.now) (g.S.SwitchPort.seen c.report.new.port)
-    found.reads.0 found.ok came.ok text.ok c.as_slice.ensures)
-    (all_reads _ _ _ _ (g.F.Files.seen c.args.files.now) (g.F.Files.seen c.load_within.new.files) (g.F.Files.seen c.load_link_traffic.new.files)
+    (_, _, _, _, _, text.ok.0, found.ok, traffic, (c.as_slice.ensures ∙ text.ok.1.0, text.ok.1.1))
+    (all_reads _ _ _ _ f (g.F.Files.seen c.load_within.new.files) h
     (link_goes c.args.source.now c.args.trace.now c.args.schedule.now c.args.limits.now) found.reads.1 came.reads.1)
     (goes_further _ _ _ _ found.reads.0 came.reads.0) text.stays text.no_fault c.put.ensures.ok c.put.ensures.err

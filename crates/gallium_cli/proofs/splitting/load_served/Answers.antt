@@ -16,5 +16,4 @@ returns-in-Ok-clause-runnable g c =
     let m = tree c.in_ok-program.program.middlebox in
     let sound = c.in_ok-program.ensures.sound in
     let split = c.in-Ok.ensures in
-    served_runs m _ c.in-Ok.split _ sound.2 sound.0 sound.1 (stores_are_kept-start m sound.2) split.legal
-    split.parts split.unseen
+    served_runs m _ c.in-Ok.split sound.2 sound.0 sound.1 (stores_are_kept-start m sound.2) split.legal split.greatest

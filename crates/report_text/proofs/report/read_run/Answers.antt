@@ -36,19 +36,19 @@ returns-then-not-taken-clause-err c =
     ap (λ o. line_read o c.loop-line.reading l) (sym c.as_slice.ensures) ∙ taken_no c.in_ok-taken.taken c.take_line.new.self _ c.in_ok-taken.ensures not_it_is in
     inr (line_stop c.args.objects.now (all_known c.args.objects.now c.requires) n c.args.text.now rest l c.loop-line.reading next c.loop-line.invariant.read told)
 
-pub returns-in-Some-finish-clause-ok : goal.returns-in-Some-finish-clause-ok
-returns-in-Some-finish-clause-ok c =
+pub returns-in-Some-finish : goal.returns-in-Some-finish
+returns-in-Some-finish c =
     let i = c.loop-line.invariant in
-    let whole = whole_walked c.args.objects.now c.loop-line.number (lines c.args.text.now) (Some c.loop-line.reading) i.within (sym i.ahead ∙ ap lines c.in_default.ensures.parts) i.read in
-    let is : ended c.loop-line.reading ≡ Some c.in-Some-finish.run' = sym c.finish.ensures ∙ c.in-Some-finish.is in
-    read_is c.args.objects.now (all_known c.args.objects.now c.requires) c.args.text.now c.loop-line.reading c.in-Some-finish.run' whole is
-
-pub returns-in-Some-finish-clause-only : goal.returns-in-Some-finish-clause-only
-returns-in-Some-finish-clause-only c =
-    let i = c.loop-line.invariant in
-    let whole = whole_walked c.args.objects.now c.loop-line.number (lines c.args.text.now) (Some c.loop-line.reading) i.within (sym i.ahead ∙ ap lines c.in_default.ensures.parts) i.read in
-    let is : ended c.loop-line.reading ≡ Some c.in-Some-finish.run' = sym c.finish.ensures ∙ c.in-Some-finish.is in
-    λ other h. read_only c.args.objects.now (all_known c.args.objects.now c.requires) c.args.text.now c.loop-line.reading c.in-Some-finish.run' other whole is h
+    let objects = c.args.objects.now in
+    let run = c.in-Some-finish.run' in
+    let known = all_known objects c.requires in
+    let whole = whole_walked objects c.loop-line.number (lines c.args.text.now) (Some c.loop-line.reading) i.within (sym i.ahead ∙ ap lines c.in_default.ensures.parts) i.read in
+    let is : ended c.loop-line.reading ≡ Some run = sym c.finish.ensures ∙ c.in-Some-finish.is in
+    record {
+      ok = read_is objects known c.args.text.now c.loop-line.reading run whole is;
+      only = λ other h. read_only objects known c.args.text.now c.loop-line.reading run other whole is h;
+      err = tt;
+    }
 
 pub returns-in-None-clause-err : goal.returns-in-None-clause-err
 returns-in-None-clause-err c =

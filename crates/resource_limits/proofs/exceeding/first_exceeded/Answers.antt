@@ -1,5 +1,5 @@
 use Rattle.std.proofs.Common.{◌≡◌, sym, ◌∙◌}
-use Rattle.resource_limits.specs.Kept.{first_over, of_all, of_objects}
+use Rattle.resource_limits.specs.Kept.{first_excess, of_all, of_objects}
 use Rattle.resource_limits.specs.declared.exceeding.LimitName.TheVariants.{Accesses, Stages, TableBits, Writeback, TransferBytes}
 use Rattle.resource_limits.proofs.Kept.{found_in_turn, keeps_if_none, none_if_keeps}
 use Rattle.resource_limits.proofs.exceeding.first_exceeded.Goals as goal
@@ -30,5 +30,5 @@ returns-clause-first c =
 
 pub returns-clause-none : goal.returns-clause-none
 returns-clause-none c =
-    let e : c.or-4.result ≡ first_over c.args.c.now c.args.l.now = returns-clause-first c in
+    let e : c.or-4.result ≡ first_excess c.args.c.now c.args.l.now = returns-clause-first c in
     (λ h. keeps_if_none c.args.c.now c.args.l.now (sym e ∙ h), λ h. e ∙ none_if_keeps c.args.c.now c.args.l.now h)

@@ -2,7 +2,8 @@ use Rattle.std.proofs.Common.{◌≡◌, false, ℕ, ◌<◌, ◌++◌, drop, ma
 use Rattle.run_model.specs.declared.link_event.LinkEvent.{LinkEvent}
 use Rattle.run_model.specs.LinkEvents.{takes_stage}
 use Rattle.run_text.specs.LinkSchedule.{link_event_line, link_event_text}
-use Rattle.run_text.specs.Printed.{IsLineOf, lined}
+use Rattle.gal_io.specs.Lines.{lined}
+use Rattle.run_text.specs.Printed.{IsLineOf}
 use Rattle.run_text.proofs.link_schedule.put_link_events.Given as goal
 
 -- the text so far, and the lines ahead, are the whole; and each line so far is read as its event, unless that is a stage

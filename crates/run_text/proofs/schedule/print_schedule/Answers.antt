@@ -1,7 +1,8 @@
 use Rattle.std.proofs.Common.{◌≡◌, ◌∙◌, ◌++◌, List, ap, append-nil, append_assoc, arith, map, sym, true}
 use Rattle.std.proofs.lemmas.Grind.{common_steps}
 use Rattle.run_model.specs.declared.event.Event.{Event}
-use Rattle.run_text.specs.Printed.{drain_lines, event_text, fine_lines, lined}
+use Rattle.gal_io.specs.Lines.{lined}
+use Rattle.run_text.specs.Printed.{drain_lines, event_text, fine_lines}
 use Rattle.run_text.specs.Trace.{schedule_of}
 use Rattle.run_text.proofs.PrintedBack.{schedule_back}
 use Rattle.run_text.proofs.schedule.print_schedule.Goals as goal

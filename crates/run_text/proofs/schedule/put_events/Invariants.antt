@@ -1,6 +1,7 @@
 use Rattle.std.proofs.Common.{◌≡◌, ℕ, ◌<◌, ◌++◌, drop, map, get_or}
 use Rattle.run_model.specs.declared.event.Event.{Event}
-use Rattle.run_text.specs.Printed.{IsLineOf, lined, event_text}
+use Rattle.gal_io.specs.Lines.{lined}
+use Rattle.run_text.specs.Printed.{IsLineOf, event_text}
 use Rattle.run_text.specs.Trace.{event_line}
 use Rattle.run_text.proofs.schedule.put_events.Given as goal
 

@@ -1,6 +1,7 @@
 use Rattle.std.proofs.Common.{◌≡◌, ℕ, ◌<◌, ◌++◌, drop, map, get_or}
 use Rattle.packet_fields.specs.declared.packet.Packet.{Packet}
-use Rattle.run_text.specs.Printed.{IsLineOf, lined, packet_text}
+use Rattle.gal_io.specs.Lines.{lined}
+use Rattle.run_text.specs.Printed.{IsLineOf, packet_text}
 use Rattle.run_text.specs.Trace.{packet_line}
 use Rattle.run_text.proofs.trace.print_trace.Given as goal
 

@@ -1,7 +1,7 @@
 use Rattle.std.proofs.Common.{◌≡◌, ◌∙◌, ap}
 use Rattle.std.specs.Prelude.{is_some, IfOk}
 use Rattle.std.proofs.lemmas.Result.{err_from_is_err_and, IfErr-weaker, IfOk-weaker}
-use Rattle.replay_contracts.specs.Replayer.{Fails, given_of}
+use Rattle.replay_contracts.specs.Replayer.{Fails, inputs_of}
 use Rattle.replay_contracts.specs.declared.job.Replayed.{Replayed}
 use Rattle.schedule_replay.proofs.Concluding.{broken_at_once, either_way, is_reported, is_run_of}
 use Rattle.replay_course.proofs.Failing.{broken_behind}
@@ -12,11 +12,11 @@ use Rattle.replay_course.proofs.Going.{counts_behind}
 use Rattle.schedule_replay.proofs.perform.replay.Goals as goal
 
 pub start-requires-clause-few : goal.start-requires-clause-few
-start-requires-clause-few g c = few_events_are_left-commands (given_of c.args.job.now) c.requires.split c.requires.few_packets
+start-requires-clause-few g c = few_events_are_left-commands (inputs_of c.args.job.now) c.requires.split c.requires.few_packets
 
 pub returns : goal.returns
 returns g c =
-    let x = given_of c.args.job.now in
+    let x = inputs_of c.args.job.now in
     let events = c.args.job.now.events in
     let drain = c.args.job.now.drain in
     let first = g.S.SwitchPort.seen c.args.port.now in
@@ -55,14 +55,14 @@ pub returns-in_err-conclude-clause-fails : goal.returns-in_err-conclude-clause-f
 returns-in_err-conclude-clause-fails g c =
     let p = err_from_is_err_and c.from_residual-in_err-conclude.result c.from_residual-in_err-conclude.ensures.1 in
     let gone = c.in_ok-perform.ensures.gone in
-    rw (p.1, p.2) (broken_behind (given_of c.args.job.now) _ gone.under_way.calls (g.S.SwitchPort.seen c.args.port.now)
+    rw (p.1, p.2) (broken_behind (inputs_of c.args.job.now) _ gone.under_way.calls (g.S.SwitchPort.seen c.args.port.now)
     (g.S.SwitchPort.seen c.start.new.port) (g.S.SwitchPort.seen c.perform.new.port) (g.S.SwitchPort.seen c.conclude.new.port)
     c.in_ok-course.ensures.loads gone.under_way.replay.called gone.stays c.in_err-conclude.ensures.fails)
 
 pub returns-in_err-perform-clause-fails : goal.returns-in_err-perform-clause-fails
 returns-in_err-perform-clause-fails g c =
     let p = err_from_is_err_and c.from_residual-in_err-perform.result c.from_residual-in_err-perform.ensures.1 in
-    rw (p.1, p.2) (broken_at_once (given_of c.args.job.now) _ (g.S.SwitchPort.seen c.args.port.now) (g.S.SwitchPort.seen c.start.new.port)
+    rw (p.1, p.2) (broken_at_once (inputs_of c.args.job.now) _ (g.S.SwitchPort.seen c.args.port.now) (g.S.SwitchPort.seen c.start.new.port)
     (g.S.SwitchPort.seen c.perform.new.port) c.in_ok-course.ensures.loads c.in_err-perform.ensures.fails)
 
 pub returns-in_err-course-clause-fails : goal.returns-in_err-course-clause-fails

@@ -3,7 +3,7 @@ use Rattle.flat_ir.specs.Program.{program_of}
 use Rattle.split_model.specs.Layouts.{up_layout}
 use Rattle.transfer_header.specs.Told.{number_in, packet_in, reads_in}
 use Rattle.server_runtime.specs.Plans.{ServerPlan}
-use Rattle.server_runtime.specs.Turns.{IsOutcome}
+use Rattle.server_runtime.specs.StepsTaken.{IsOutcome}
 use Rattle.server_runtime.proofs.Outcomes.{outcome_read, part_is}
 use Rattle.server_runtime.proofs.run.answer.Goals as goal
 

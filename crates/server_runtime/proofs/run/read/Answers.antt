@@ -6,7 +6,7 @@ use Rattle.transfer_header.specs.Frames.{IsUnpacked}
 use Rattle.transfer_header.specs.Registers.{FitsLayout}
 use Rattle.server_runtime.specs.Registers.{AreServing}
 use Rattle.server_runtime.specs.Resolved.{AreResolved}
-use Rattle.server_runtime.specs.Turns.{IsRead}
+use Rattle.server_runtime.specs.StepsTaken.{IsRead}
 use Rattle.server_runtime.proofs.Handed.{by_result, ok_more}
 use Rattle.server_runtime.proofs.Needed.{cleared_serving, still_serving}
 use Rattle.server_runtime.proofs.ByPlaces.{planned_resolved, still_resolved}
@@ -51,10 +51,10 @@ returns-clause-resolved c =
     let whole = c.args.whole.now in
     let f = program_of whole.flat in
     let seats = whole.seats.items in
-    let turns = whole.turns.items in
+    let steps = whole.steps.items in
     let before = c.clear.new.self in
     let after = c.unpack_up.new.into in
-    let cleared = still_resolved f c.args.values.now before c.clear.ensures.places seats turns c.requires.resolved in
-    by_result (λ (head : Head). IsUnpacked 1 whole.up c.args.frame.now before after head) (after ≡ before) (AreResolved f seats turns after)
-    (λ head h. planned_resolved f seats turns before after h.kept.plan h.kept.count cleared) (λ e. subst (AreResolved f seats turns) (sym e) cleared)
+    let cleared = still_resolved f c.args.values.now before c.clear.ensures.places seats steps c.requires.resolved in
+    by_result (λ (head : Head). IsUnpacked 1 whole.up c.args.frame.now before after head) (after ≡ before) (AreResolved f seats steps after)
+    (λ head h. planned_resolved f seats steps before after h.kept.plan h.kept.count cleared) (λ e. subst (AreResolved f seats steps) (sym e) cleared)
     c.unpack_up.result c.unpack_up.ensures.ok c.unpack_up.ensures.kept

@@ -5,7 +5,7 @@ use Rattle.transfer_header.specs.Frames.{down_frame, frame_of}
 use Rattle.transfer_header.specs.Registers.{value_in, AllHaveRegisters, Holds}
 use Rattle.transfer_header.specs.Values.{value_by}
 use Rattle.server_runtime.specs.Registers.{handed}
-use Rattle.server_runtime.specs.Turns.{sent_by}
+use Rattle.server_runtime.specs.StepsTaken.{sent_by}
 use Rattle.server_runtime.proofs.Begun.{begun_of}
 use Rattle.server_runtime.proofs.Frames.{packet_last, packet_replaced, packet_within}
 use Rattle.server_runtime.proofs.Laws.{a_server_run_has_an_outcome-fits, a_server_run_has_an_outcome-outcome}
@@ -17,20 +17,20 @@ pack_down_in-frame-requires-clause-fits c =
     let f = program_of whole.flat in
     let packet = packet_of c.args.arrival.now in
     let up = handed f whole.split c.args.values.now in
-    let registers = c.take_turns.new.values in
-    let fits = a_server_run_has_an_outcome-fits f whole.split up c.args.store.now packet registers c.take_turns.new.store
-    c.take_turns.new.updates.items (begun_of whole up c.args.store.now packet c.requires.prepared c.requires.kept c.requires.fit c.requires.arrives)
-    c.take_turns.ensures.run in
+    let registers = c.take_steps.new.values in
+    let fits = a_server_run_has_an_outcome-fits f whole.split up c.args.store.now packet registers c.take_steps.new.store
+    c.take_steps.new.updates.items (begun_of whole up c.args.store.now packet c.requires.prepared c.requires.kept c.requires.fit c.requires.arrives)
+    c.take_steps.ensures.run in
     subst (λ l. AllHaveRegisters l registers) (sym c.requires.prepared.down) fits.among
 
 pub set_fields-down-requires-clause-within : goal.set_fields-down-requires-clause-within
 set_fields-down-requires-clause-within c =
-    packet_within 2 c.args.whole.now.down c.args.number c.args.arrival.now.port (value_in c.take_turns.new.values) c.args.arrival.now.bytes.now
+    packet_within 2 c.args.whole.now.down c.args.number c.args.arrival.now.port (value_in c.take_steps.new.values) c.args.arrival.now.bytes.now
     c.pack_down_in-frame.result.items c.pack_down_in-frame.ensures.bytes
 
 pub set_fields-down-requires-clause-last : goal.set_fields-down-requires-clause-last
 set_fields-down-requires-clause-last c =
-    packet_last 2 c.args.whole.now.down c.args.number c.args.arrival.now.port (value_in c.take_turns.new.values) c.args.arrival.now.bytes.now
+    packet_last 2 c.args.whole.now.down c.args.number c.args.arrival.now.port (value_in c.take_steps.new.values) c.args.arrival.now.bytes.now
     c.pack_down_in-frame.result.items c.pack_down_in-frame.ensures.bytes
 
 pub returns-clause-outcome : goal.returns-clause-outcome
@@ -40,14 +40,14 @@ returns-clause-outcome c =
     let packet = packet_of c.args.arrival.now in
     let up = handed f whole.split c.args.values.now in
     let number = c.args.number in
-    let registers = c.take_turns.new.values in
+    let registers = c.take_steps.new.values in
     let sent = sent_by f whole.split registers packet.bytes in
     let frame = c.pack_down_in-frame.result.items in
-    a_server_run_has_an_outcome-outcome f whole.split up c.args.store.now packet registers c.take_turns.new.store
-    c.take_turns.new.updates.items number
+    a_server_run_has_an_outcome-outcome f whole.split up c.args.store.now packet registers c.take_steps.new.store
+    c.take_steps.new.updates.items number
     (record { number = number; down = c.set_fields-down.result; updates = c.from.result; evaluated = whole.evaluated })
     (begun_of whole up c.args.store.now packet c.requires.prepared c.requires.kept c.requires.fit c.requires.arrives)
-    c.take_turns.ensures.run (omega (arith, c.ranges.number.fits)) refl c.from.ensures c.requires.prepared.evaluated
+    c.take_steps.ensures.run (omega (arith, c.ranges.number.fits)) refl c.from.ensures c.requires.prepared.evaluated
     (c.set_fields-down.ensures ∙ packet_replaced 2 whole.down number packet.port (value_in registers) packet.bytes frame c.pack_down_in-frame.ensures.bytes sent
     ∙ ap (λ l. frame_of 2 l number packet.port (value_in registers) sent) c.requires.prepared.down)
     (λ reads held. c.set_fields-down.ensures
@@ -57,5 +57,5 @@ returns-clause-outcome c =
 
 pub returns-clause-serving : goal.returns-clause-serving
 returns-clause-serving c =
-    let ready = c.take_turns.ensures.run.ready in
+    let ready = c.take_steps.ensures.run.ready in
     record { apart = ready.apart; placed = ready.placed }

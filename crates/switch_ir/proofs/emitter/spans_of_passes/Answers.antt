@@ -12,5 +12,5 @@ spans_of-requires c =
 
 pub spans_of-requires-2 : goal.spans_of-requires-2
 spans_of-requires-2 c =
-    post_planned (program_of c.args.f.now) c.args.s.now c.requires.bounded c.requires.legal c.requires.stages c.values_are_few.ensures c.in_ok-tables.tables c.in_ok-down.down
-    (pass_of c.in_ok-post.post) c.len-2.result c.in_ok-tables.ensures c.in_ok-down.ensures.exact c.in_ok-post.ensures (c.len-2.ensures ∙ sym (length-map c.args.f.now.code step_of))
+    post_planned (program_of c.args.f.now) c.args.s.now c.requires.bounded c.requires.legal c.requires.stages c.values_are_few.ensures c.in_ok-tables.tables c.in_ok-layouts.layouts.down
+    (pass_of c.in_ok-post.post) c.len-2.result c.in_ok-tables.ensures c.in_ok-layouts.ensures.down c.in_ok-post.ensures (c.len-2.ensures ∙ sym (length-map c.args.f.now.code step_of))

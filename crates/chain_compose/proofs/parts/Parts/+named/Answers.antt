@@ -12,7 +12,8 @@ use Rattle.chain_compose.specs.Counts.{end_count}
 use Rattle.chain_compose.specs.NamedFrom.{body_steps, all_stepped, started, end_from}
 use Rattle.chain_compose.specs.Parts.{chain_of}
 use Rattle.chain_compose.proofs.Trees.{tree_at}
-use Rattle.chain_compose.proofs.NamedCode.{all_good, large_end, small_end, walked_end, next_tested, sent_tally, stepped_tally, element_tally, told_after, wires_told, wires_within, within_at}
+use Rattle.chain_compose.proofs.NamedCode.{all_good, large_end, small_end, walked_end, next_tested, sent_tally, stepped_tally, element_tally, told_after, wires_within, within_at}
+use Rattle.chain_compose.proofs.RoutesAt.{own_wires}
 use Rattle.chain_compose.proofs.parts.Parts.+named.Goals as goal
 
 -- ## the end of a wire
@@ -83,7 +84,7 @@ element_from-returns t c =
     let b = body_tree c.deref.result.now in
     element_tally (chain_of parts) least (end_count Locals (chain_of parts) c.args.levels) (end_from (chain_of parts) least c.args.levels) e c.args.before c.loop-step.step-index
     c.of-wires.result.now c.has_wires-wired.result b c.deref-step-items.result.now c.put_body.new.out.items _ _ c.loop-step-test.false
-    (wires_told parts e c.of-wires.result.now c.requires.there c.of-wires.ensures)
+    (own_wires parts e c.of-wires.result.now c.requires.there c.of-wires.ensures)
     c.has_wires-wired.ensures
     (ap body_tree (c.deref.ensures.value ∙ ap (λ (k : Middlebox). k.body.items) (sym c.index-self-element.is)) ∙ ap (λ (t : Tree). t.body) (sym (tree_at parts.classes.now e m c.requires.there c.index-self-element.is)))
     c.deref-step-items.ensures.value

@@ -21,8 +21,8 @@ use Rattle.chain_compose.proofs.Below.{known_at, own_known}
 use Rattle.chain_compose.proofs.Steps.{put_more, put_none}
 use Rattle.chain_compose.proofs.Trees.{body_from, tree_at}
 use Rattle.chain_compose.proofs.Weights.{at_most_all, next_level, own_lighter}
-use Rattle.chain_compose.proofs.WireEnds.{no_element_written, pushed_one, closed_put, out_end, last_end, element_end, own_wires, none_sent, sent_put, test_put, no_test_put, first_and_rest}
-use Rattle.chain_compose.proofs.RoutesAt.{few_wires}
+use Rattle.chain_compose.proofs.WireEnds.{no_element_written, pushed_one, closed_put, out_end, last_end, element_end, none_sent, sent_put, test_put, no_test_put, first_and_rest}
+use Rattle.chain_compose.proofs.RoutesAt.{few_wires, own_wires}
 use Rattle.chain_compose.proofs.Levels.{tree_of_let, tree_of_assign, tree_of_set_field, tree_of_look, tree_of_put, tree_of_del, tree_of_repeat, tree_of_send, tree_of_drop, tree_of_local, tree_of_byte}
 use Rattle.element_print.proofs.Ifs.{tree_of_if}
 use Rattle.chain_compose.proofs.parts.Parts.+place.Goals as goal
@@ -176,11 +176,11 @@ put_sent-returns-then-is_empty t c =
     let ends = ends_of c.args.self.now c.args.place in
     let none : length c.of-wires.result.now ≡ 0 = first_of (omega arith, grind (arith, nat_tests), search (rules, bool_tests)) in
     pushed_one c.args.out.now.items _ _ drop_packet widths widths (sent_by ends c.of-wires.result.now port widths) c.in_ok-push.ensures.items tree_of_drop (none_sent ends c.of-wires.result.now port widths none) refl
-    ∙ ap (λ (ws : List Wire). written_behind c.args.out.now.items (sent_by ends ws port widths)) (own_wires c.args.self.now c.args.place c.of-wires.result.now c.requires c.of-wires.ensures)
+    ∙ ap (λ (ws : List Wire). written_behind c.args.out.now.items (sent_by ends ws port widths)) (own_wires c.args.self.now c.args.place.element c.of-wires.result.now c.requires c.of-wires.ensures)
 
 pub put_sent-put_tests-requires : goal.put_sent-put_tests-requires
 put_sent-put_tests-requires t c =
-    let own = own_wires c.args.self.now c.args.place c.of-wires.result.now c.requires c.of-wires.ensures in
+    let own = own_wires c.args.self.now c.args.place.element c.of-wires.result.now c.requires c.of-wires.ensures in
     let few : length c.of-wires.result.now ≤ 256 = subst (λ (ws : List Wire). length ws ≤ 256) (sym own) (few_wires c.args.self.now.chain.now.wires c.args.place.element) in
     (omega (arith, few), tt)
 
@@ -188,7 +188,7 @@ pub put_sent-returns : goal.put_sent-returns
 put_sent-returns t c =
     let some : 0 < length c.of-wires.result.now = first_of (omega arith, grind (arith, nat_tests), search (rules, bool_tests)) in
     sent_put (ends_of c.args.self.now c.args.place) c.of-wires.result.now _ (expr_tree c.args.port) c.in_ok-local.local c.args.widths.now.items _ _ c.args.out.now.items _ _ _ some
-    (own_wires c.args.self.now c.args.place c.of-wires.result.now c.requires c.of-wires.ensures) c.in_ok-local.ensures
+    (own_wires c.args.self.now c.args.place.element c.of-wires.result.now c.requires c.of-wires.ensures) c.in_ok-local.ensures
     (c.in_ok-push-2.ensures.items ∙ ap (λ (w : ℕ). c.args.widths.now.items ++ w ∷ []) c.args.self.now.eight)
     c.in_ok-push-3.ensures.items (tree_of_let _ _) c.in_ok-put_tests.ensures
 

@@ -33,7 +33,7 @@ decreases-put_end l = level l.self.now.classes.now l.place.levels
 abbrev pub decreases-put_element : goal.decreases-put_element
 decreases-put_element l = entered l.self.now.classes.now l.place.levels
 
--- those so far, and what is left
+-- the statements so far, and what is left
 abbrev pub invariant-put_body-loop-stmt : goal.invariant-put_body-loop-stmt
 invariant-put_body-loop-stmt l = record {
   known : AllDeclareBelow (length (own_tree l.self l.place).locals) (body_tree (drop l.stmt-index l.body));

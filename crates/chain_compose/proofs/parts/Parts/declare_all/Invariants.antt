@@ -3,7 +3,7 @@ use Rattle.element_chain.specs.Compose.{numbers, all_declared}
 use Rattle.chain_compose.specs.Parts.{spot_of, numbering}
 use Rattle.chain_compose.proofs.parts.Parts.declare_all.Given as goal
 
--- those so far, and what is left
+-- the locals so far, and what is left
 abbrev pub invariant-loop-local : goal.invariant-loop-local
 invariant-loop-local l = record {
   numbers : l.found.items ++ numbers (length l.widths.items) (drop l.local-index l.locals) ≡ numbers (length l.fn.widths.items) l.locals;

@@ -1,4 +1,4 @@
-use Rattle.std.proofs.Common.{◌∙◌, ◌*◌, ℕ, List, None, slice_index_or, refl, sym, ap, subst, arith}
+use Rattle.std.proofs.Common.{◌∙◌, ◌*◌, ℕ, List, slice_index_or, refl, sym, ap, subst, arith}
 use Rattle.std.proofs.lemmas.List.{length-map}
 use Rattle.element_lang.specs.View.{tree}
 use Rattle.element_chain.specs.declared.chain.Wire.{Wire}
@@ -6,7 +6,7 @@ use Rattle.element_print.specs.Lengths.{capped}
 use Rattle.chain_compose.specs.Parts.{chain_of}
 use Rattle.chain_compose.specs.Tallies.{after_count, told_end, AreEndings, AllFigures, no_figures}
 use Rattle.chain_compose.proofs.Elements.{entry_told}
-use Rattle.chain_compose.proofs.WireEnds.{own_wires}
+use Rattle.chain_compose.proofs.RoutesAt.{own_wires}
 use Rattle.chain_compose.proofs.DeepCaps.{all_within}
 use Rattle.chain_compose.proofs.parts.Parts.entry_count.Goals as goal
 
@@ -20,7 +20,7 @@ returns c =
     let f = slice_index_or fs 0 no_figures in
     let many = length-map parts.classes.now tree in
     let end = told_end g es in
-    let wires = own_wires parts (record { element = 0; port = None; levels = 0 }) c.of.result.now c.requires.some c.of.ensures in
+    let wires = own_wires parts 0 c.of.result.now c.requires.some c.of.ensures in
     entry_told g chain fs es f c.saturating_mul-read.result c.saturating_mul-tests.result c.saturating_add-own.result c.saturating_add.result
     (all_within parts c.requires.within)
     (subst (λ (n : ℕ). AreEndings g chain n es) (sym many) c.requires.endings)

@@ -1,4 +1,4 @@
-use Rattle.std.proofs.Common.{◌∙◌, List, None, drop, sym, ap}
+use Rattle.std.proofs.Common.{◌∙◌, List, drop, sym, ap}
 use Rattle.element_lang.specs.declared.tree.Middlebox.{Middlebox}
 use Rattle.element_lang.specs.declared.tree.Stmt.{Stmt}
 use Rattle.element_lang.specs.Tree.{Tree}
@@ -11,7 +11,7 @@ use Rattle.chain_compose.specs.Parts.{chain_of}
 use Rattle.chain_compose.specs.Tallies.{has_wire, bare_count, sent_in}
 use Rattle.chain_compose.proofs.Elements.{figures_told, scaled}
 use Rattle.chain_compose.proofs.Trees.{tree_at}
-use Rattle.chain_compose.proofs.WireEnds.{own_wires}
+use Rattle.chain_compose.proofs.RoutesAt.{own_wires}
 use Rattle.chain_compose.proofs.parts.Parts.figures_of.Goals as goal
 
 pub returns : goal.returns
@@ -24,7 +24,7 @@ returns c =
     let objects = c.names_from-objects.result.now in
     let wired = c.has_wire-wired.result in
     let base = base_of (chain_of parts).elements e in
-    let wires = own_wires parts (record { element = e; port = None; levels = 0 }) c.of.result.now c.requires.there c.of.ensures in
+    let wires = own_wires parts e c.of.result.now c.requires.there c.of.ensures in
     let read = ap (λ (k : Middlebox). k.body.items) (sym c.index-self-element.is) in
     let f : Figures = record { own = c.bare_count-own.result; reads = c.saturating_sub-reads.result; sent = c.sent_in-sent.result; closing = c.closing_count-closing.result } in
     figures_told g (chain_of parts) e objects wired (body_tree ss) f c.bare_count-once.result

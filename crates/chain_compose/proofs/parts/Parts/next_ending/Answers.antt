@@ -1,4 +1,4 @@
-use Rattle.std.proofs.Common.{◌∙◌, ◌*◌, ℕ, List, None, refl, ap}
+use Rattle.std.proofs.Common.{◌∙◌, ◌*◌, ℕ, List, refl, ap}
 use Rattle.element_chain.specs.declared.chain.Wire.{Wire}
 use Rattle.element_chain.specs.Compose.{wires_of}
 use Rattle.element_print.specs.Lengths.{capped}
@@ -6,7 +6,7 @@ use Rattle.chain_compose.specs.Counts.{clearing_count}
 use Rattle.chain_compose.specs.Parts.{chain_of}
 use Rattle.chain_compose.specs.Tallies.{after_count, told_end}
 use Rattle.chain_compose.proofs.Elements.{next_fixed}
-use Rattle.chain_compose.proofs.WireEnds.{own_wires}
+use Rattle.chain_compose.proofs.RoutesAt.{own_wires}
 use Rattle.chain_compose.proofs.parts.Parts.next_ending.Goals as goal
 
 pub returns : goal.returns
@@ -15,7 +15,7 @@ returns c =
     let f = c.args.figures in
     let e = c.args.element in
     let end = told_end c.args.gauge c.args.endings.now in
-    let wires = own_wires parts (record { element = e; port = None; levels = 0 }) c.of.result.now c.requires.there c.of.ensures in
+    let wires = own_wires parts e c.of.result.now c.requires.there c.of.ensures in
     let after = after_count c.args.gauge end (wires_of (chain_of parts).wires e) in
     record {
       fixed =

@@ -2,14 +2,14 @@ use Rattle.std.proofs.Common.{[], ◌∷◌, ◌++◌, refl, subst, sym}
 use Rattle.lossy_link.specs.Link.{arrive, confirm, link_step, send}
 use Rattle.run_model.specs.declared.link_event.LinkEvent.{LinkEvent}
 use Rattle.run_model.specs.declared.link_event.LinkEvent.TheVariants as on
-use Rattle.replay_contracts.specs.Replayer.{given_of}
+use Rattle.replay_contracts.specs.Replayer.{inputs_of}
 use Rattle.lossy_replay.specs.Linking.{IsLinking}
 use Rattle.lossy_replay.proofs.GoingOn.{arrive_items, confirm_items, link_on, send_items}
 use Rattle.lossy_replay.proofs.links.Links.step.Goals as goal
 
 pub returns-in_ok-transmit-in-Transmit-clause-ok : goal.returns-in_ok-transmit-in-Transmit-clause-ok
 returns-in_ok-transmit-in-Transmit-clause-ok g c = λ schedule linking.
-    let x = given_of c.args.job.now in
+    let x = inputs_of c.args.job.now in
     let port = g.S.SwitchPort.seen c.args.port.now in
     let j = c.in-Transmit.j in
     subst (λ (e : LinkEvent). IsLinking x (schedule ++ e ∷ []) c.transmit.new.self c.args.course.now port) (sym c.in-Transmit.is)
@@ -18,7 +18,7 @@ returns-in_ok-transmit-in-Transmit-clause-ok g c = λ schedule linking.
 
 pub returns-in_ok-deliver-in-Deliver-clause-ok : goal.returns-in_ok-deliver-in-Deliver-clause-ok
 returns-in_ok-deliver-in-Deliver-clause-ok g c = λ schedule linking.
-    let x = given_of c.args.job.now in
+    let x = inputs_of c.args.job.now in
     let port = g.S.SwitchPort.seen c.args.port.now in
     let j = c.in-Deliver.j in
     subst (λ (e : LinkEvent). IsLinking x (schedule ++ e ∷ []) c.deliver.new.self c.args.course.now port) (sym c.in-Deliver.is)
@@ -27,7 +27,7 @@ returns-in_ok-deliver-in-Deliver-clause-ok g c = λ schedule linking.
 
 pub returns-in-Confirm-clause-ok : goal.returns-in-Confirm-clause-ok
 returns-in-Confirm-clause-ok g c = λ schedule linking.
-    let x = given_of c.args.job.now in
+    let x = inputs_of c.args.job.now in
     let port = g.S.SwitchPort.seen c.args.port.now in
     let j = c.in-Confirm.j in
     subst (λ (e : LinkEvent). IsLinking x (schedule ++ e ∷ []) c.confirm.new.self c.args.course.now port) (sym c.in-Confirm.is)

@@ -1,7 +1,7 @@
 use Rattle.std.proofs.Common.{ℕ, ◌+◌, length, subst, sym, ◌∙◌}
 use Rattle.std.proofs.lemmas.Result.{err_from_is_err_and}
-use Rattle.replay_contracts.specs.Given.{whole}
-use Rattle.replay_contracts.specs.Replayer.{given_of}
+use Rattle.replay_contracts.specs.Inputs.{whole}
+use Rattle.replay_contracts.specs.Replayer.{inputs_of}
 use Rattle.lossy_replay.specs.Linking.{AreLinks, noted}
 use Rattle.lossy_replay.proofs.Small.{last_named}
 use Rattle.lossy_replay.proofs.WorldOn.{fails_behind, may_call_there, not_applied_on, not_let_on, world_on}
@@ -9,14 +9,14 @@ use Rattle.lossy_replay.proofs.links.Links.world.Goals as goal
 
 pub returns-in_default-clause-ok : goal.returns-in_default-clause-ok
 returns-in_default-clause-ok g c = λ schedule linking.
-    let x = given_of c.args.job.now in
+    let x = inputs_of c.args.job.now in
     let is = sym (c.let_by.ensures _ _ (whole x) linking.calls linking.st linking.links_are linking.shown) ∙ c.in_default.is in
     not_let_on x schedule c.args.event c.args.self.now c.args.course.now
     (g.S.SwitchPort.seen c.args.port.now) linking is
 
 pub returns-then-not-applies-clause-ok : goal.returns-then-not-applies-clause-ok
 returns-then-not-applies-clause-ok g c = λ schedule linking.
-    let x = given_of c.args.job.now in
+    let x = inputs_of c.args.job.now in
     let is = sym (c.let_by.ensures _ _ (whole x) linking.calls linking.st linking.links_are linking.shown) ∙ c.in-Some.is in
     let fails = sym (c.applies.ensures linking.calls linking.st linking.shown) ∙ c.if-not-applies.true in
     not_applied_on x schedule c.args.event c.in-Some.own c.args.self.now c.args.course.now
@@ -24,22 +24,22 @@ returns-then-not-applies-clause-ok g c = λ schedule linking.
 
 pub step-requires-clause-may_call : goal.step-requires-clause-may_call
 step-requires-clause-may_call g c =
-    may_call_there (given_of c.args.job.now) c.args.self.now c.args.course.now
+    may_call_there (inputs_of c.args.job.now) c.args.self.now c.args.course.now
     (g.S.SwitchPort.seen c.args.port.now) c.requires
 
 pub note-requires-clause-small : goal.note-requires-clause-small
 note-requires-clause-small g c =
-    last_named (given_of c.args.job.now) c.step.new.self (g.S.SwitchPort.seen c.step.new.port) c.in_ok-step.ensures.turned.going
+    last_named (inputs_of c.args.job.now) c.step.new.self (g.S.SwitchPort.seen c.step.new.port) c.in_ok-step.ensures.turned.going
 
 pub returns-in_err-note-clause-fails : goal.returns-in_err-note-clause-fails
 returns-in_err-note-clause-fails g c =
     let p = err_from_is_err_and c.from_residual-in_err-note.result c.from_residual-in_err-note.ensures.1 in
-    rw (p.1, p.2) (fails_behind (given_of c.args.job.now) c.in-Some.own c.in_ok-step.field-0 c.args.self.now
+    rw (p.1, p.2) (fails_behind (inputs_of c.args.job.now) c.in-Some.own c.in_ok-step.field-0 c.args.self.now
     c.args.course.now c.step.new.self (g.S.SwitchPort.seen c.args.port.now) (g.S.SwitchPort.seen c.step.new.port) c.requires c.in_ok-step.ensures.turned)
 
 pub returns-clause-ok : goal.returns-clause-ok
 returns-clause-ok g c = λ schedule linking.
-    let x = given_of c.args.job.now in
+    let x = inputs_of c.args.job.now in
     let is = sym (c.let_by.ensures _ _ (whole x) linking.calls linking.st linking.links_are linking.shown) ∙ c.in-Some.is in
     let may = sym (c.applies.ensures linking.calls linking.st linking.shown) ∙ c.if-not-applies.false in
     let are = subst (λ (b : ℕ). AreLinks (length schedule + 1) (noted c.step.new.self b linking.linked c.args.event) c.note.new.self)

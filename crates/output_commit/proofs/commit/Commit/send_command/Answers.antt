@@ -6,17 +6,12 @@ use Rattle.output_commit.proofs.Counting.{commands_total}
 use Rattle.output_commit.proofs.Keeping.{after_send_is, begun_len, counted_begin, none_begins, none_sent, sent_merges, some_unsent}
 use Rattle.output_commit.proofs.commit.Commit.send_command.Goals as goal
 
-pub returns-then-self-clause-did : goal.returns-then-self-clause-did
-returns-then-self-clause-did c =
+pub returns-then-self : goal.returns-then-self
+returns-then-self c =
     let i = c.self.inside in
-    subst (λ k. false ≡ nat_lt k.sent (length (commands k))) c.self.view_is
-    (none_sent (record { writeback = i.writeback; batches = batches_in i.batches; sent = i.sent; done = i.done; acked = i.acked; held = i.held.items }) (commands_total c.self.inside.batches c.self.invariant.kept ∙ sym c.if-self.true)).0
-
-pub returns-then-self-clause-after : goal.returns-then-self-clause-after
-returns-then-self-clause-after c =
-    let i = c.self.inside in
-    subst (λ k. k ≡ after_send k) c.self.view_is
-    (none_sent (record { writeback = i.writeback; batches = batches_in i.batches; sent = i.sent; done = i.done; acked = i.acked; held = i.held.items }) (commands_total c.self.inside.batches c.self.invariant.kept ∙ sym c.if-self.true)).1
+    let none = none_sent (record { writeback = i.writeback; batches = batches_in i.batches; sent = i.sent; done = i.done; acked = i.acked; held = i.held.items })
+    (commands_total i.batches c.self.invariant.kept ∙ sym c.if-self.true) in
+    record { did = subst (λ k. false ≡ nat_lt k.sent (length (commands k))) c.self.view_is none.0; after = subst (λ k. k ≡ after_send k) c.self.view_is none.1 }
 
 pub overflow_add-self : goal.overflow_add-self
 overflow_add-self c =

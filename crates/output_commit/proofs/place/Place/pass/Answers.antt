@@ -22,20 +22,9 @@ bounds-spans-self-2 c =
     let len = c.commands.ensures in
     pass_there c.args.spans.now c.args.self.now (record { first = 0; changes = 0; versions = 0 }) c.requires.at c.requires.within (omega arith)
 
-pub returns-clause-at : goal.returns-clause-at
-returns-clause-at c =
+pub returns : goal.returns
+returns c =
     let le = c.if-self-commands.false in
     let len = c.commands.ensures in
-    (pass_next c.args.spans.now c.args.self.now (record { first = 0; changes = 0; versions = 0 }) c.requires.at c.requires.within (omega arith)).inside
-
-pub returns-clause-passed : goal.returns-clause-passed
-returns-clause-passed c =
-    let le = c.if-self-commands.false in
-    let len = c.commands.ensures in
-    (pass_next c.args.spans.now c.args.self.now (record { first = 0; changes = 0; versions = 0 }) c.requires.at c.requires.within (omega arith)).one
-
-pub returns-clause-stands : goal.returns-clause-stands
-returns-clause-stands c =
-    let le = c.if-self-commands.false in
-    let len = c.commands.ensures in
-    (pass_next c.args.spans.now c.args.self.now (record { first = 0; changes = 0; versions = 0 }) c.requires.at c.requires.within (omega arith)).there
+    let on = pass_next c.args.spans.now c.args.self.now (record { first = 0; changes = 0; versions = 0 }) c.requires.at c.requires.within (omega arith) in
+    record { at = on.inside; passed = on.one; stands = on.there }

@@ -2,7 +2,8 @@ use Rattle.std.proofs.Common.{sym, subst}
 use Rattle.std.specs.Prelude.{IfSome}
 use Rattle.switch_ir.specs.Port.{IsCommandOf}
 use Rattle.replay_course.proofs.Turning.{apply_turned, next_named, no_command_turned}
-use Rattle.replay_course.proofs.Failing.{fails_command}
+use Rattle.std.proofs.lemmas.Result.{err_from_is_err_and}
+use Rattle.replay_course.proofs.Failing.{counts_as, fails_with}
 use Rattle.replay_course.proofs.Room.{is_ready}
 use Rattle.output_commit.specs.Commit.{next as next_command}
 use Rattle.replay_course.proofs.course.Course.apply.Goals as goal
@@ -25,13 +26,16 @@ returns-in_default-clause-turned g c =
     let none = c.in_default.ensures in
     no_command_turned _ c.args.self.now _ _ c.requires.going none.stepped none.asked none.shown none.sound (none.unapplied _ c.requires.going.sound) none.counted
 
-pub returns-in-Done-clause-turned : goal.returns-in-Done-clause-turned
-returns-in-Done-clause-turned g c =
+pub returns-clause-turned : goal.returns-clause-turned
+returns-clause-turned g c =
     let some = c.in-Some.ensures in
     let me = c.args.self.now in
     let here = (is_ready me.passes (next_command me.commit) c.in-Some.command (sym some.next)).0 in
-    apply_turned _ me _ _ _ c.in-Some.command c.requires.going (next_named _ me c.in-Some.command c.requires.going.sound (sym here)) c.in-Done.ensures
-    c.in-Done.ensures.spare (some.sound _ c.requires.going.sound) (some.unapplied _ c.requires.going.sound) some.counted some.stepped some.asked some.shown
+    apply_turned _ me _ _ _ c.in-Some.command c.requires.going (next_named _ me c.in-Some.command c.requires.going.sound (sym here)) c.in_ok-command.ensures
+    c.in_ok-command.ensures.spare (some.sound _ c.requires.going.sound) (some.unapplied _ c.requires.going.sound) some.counted some.stepped some.asked some.shown
 
-pub returns-in-Failed-clause-fails : goal.returns-in-Failed-clause-fails
-returns-in-Failed-clause-fails g c = fails_command c.in-Some.command _ _ c.in-Failed.ensures
+pub returns-in_err-command-clause-fails : goal.returns-in_err-command-clause-fails
+returns-in_err-command-clause-fails g c =
+    let p = err_from_is_err_and c.from_residual.result c.from_residual.ensures.1 in
+    let s = c.in_err-command.ensures in
+    rw (p.1, p.2) (fails_with _ _ _ _ _ (counts_as (Unit {0}) c.in_err-command.field-0.0) s.code s.told s.journal s.faults)

@@ -1,7 +1,7 @@
 use Rattle.std.proofs.Common.{sym, subst, take}
 use Rattle.std.proofs.lemmas.Option.{slice_get-get_or}
-use Rattle.replay_contracts.specs.Replayer.{given_of}
-use Rattle.replay_course.specs.UnderWay.{HasGone}
+use Rattle.replay_contracts.specs.Replayer.{inputs_of}
+use Rattle.replay_course.specs.UnderWay.{HasReplayedFrom}
 use Rattle.replay_course.proofs.Going.{gone_on, room_by}
 use Rattle.std.proofs.lemmas.Result.{err_from_is_err_and}
 use Rattle.replay_course.proofs.Failing.{fails_behind, goes_gone}
@@ -15,7 +15,7 @@ pub loop-event-preserved : goal.loop-event-preserved
 loop-event-preserved g c =
     let i = c.loop-event.event-index in
     let items = c.as_slice-event-items.result.now in
-    subst (λ es. HasGone (given_of c.args.job.now) es c.step.new.self (g.S.SwitchPort.seen c.args.port.now) (g.S.SwitchPort.seen c.step.new.port))
+    subst (λ es. HasReplayedFrom (inputs_of c.args.job.now) es c.step.new.self (g.S.SwitchPort.seen c.args.port.now) (g.S.SwitchPort.seen c.step.new.port))
     (sym (take_next items i _ (slice_get-get_or items i _ c.loop-event-test.true)))
     (gone_on _ (take i items) _ _ c.loop-event.self c.step.new.self _ _ _ c.loop-event.invariant c.in_ok-step.ensures.turned)
 

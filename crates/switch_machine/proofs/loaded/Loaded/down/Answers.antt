@@ -9,7 +9,7 @@ use Rattle.switch_machine.specs.declared.numbering.ValueRange.{ValueRange}
 use Rattle.switch_machine.specs.declared.sides.Side.{Side}
 use Rattle.switch_machine.specs.declared.sides.Side.TheVariants.{Behind}
 use Rattle.switch_machine.specs.Ready.{AreReady}
-use Rattle.switch_machine.specs.Sides.{up_of, IsOf}
+use Rattle.switch_machine.specs.Sides.{IsOf}
 use Rattle.switch_machine.specs.UnderWay.{passes_of, Enters}
 use Rattle.switch_machine.proofs.Crossings.{both_stay, passes_stay}
 use Rattle.switch_machine.proofs.HandedDown.{given_same}
@@ -59,7 +59,7 @@ returns-clause-enters c number port values packet framed =
     let head = c.unpack-head.result in
     let had = value_in c.unpack-head.new.self.registers in
     let made = both_stay l.behind c.unpack-head.new.self start c.unpack-head.ensures.made c.give.ensures.made in
-    let stays = passes_stay code l.behind start made (c.give.ensures.flights ∙ c.unpack-head.ensures.flights) in
+    let stays = passes_stay code l.behind start made (c.give.ensures.active ∙ c.unpack-head.ensures.active) in
     let side = made.side ∙ l.post.side_is in
     let same = c.unpack-head.ensures.read_back number port values packet framed in
     let arrived : Packet = record { port = head.port; bytes = take (length frame - head.packet_at) (drop head.packet_at frame) } in
@@ -68,23 +68,23 @@ returns-clause-enters c number port values packet framed =
     let given_is : down_given code had arrived ≡ down_given code values its =
     given_same code had values arrived same.same_values ∙ ap (down_given code values) packet_is in
     let Is : Side × Passes × ℕ × Packet × Reading → Type 0 =
-    λ (s, ps, n, q, g). Enters s code c.args.tables.now c.args.whole n q g (up_of c.in_ok-outcome.outcome) ps (passes_of code c.begin.new.self) in
-    subst Is (λ i. (side i, stays i, same.same_number i, packet_is i, given_is i)) (c.in_ok-outcome.ensures.enters (down_given code had arrived) c.give.ensures.given)
+    λ (s, ps, n, q, g). Enters s code c.args.tables.now c.args.whole n q g c.in_ok-end.end ps (passes_of code c.begin.new.self) in
+    subst Is (λ i. (side i, stays i, same.same_number i, packet_is i, given_is i)) (c.in_ok-end.ensures.enters (down_given code had arrived) c.give.ensures.given)
 
-pub returns-in_err-outcome-clause-err : goal.returns-in_err-outcome-clause-err
-returns-in_err-outcome-clause-err c =
+pub returns-in_err-end-clause-err : goal.returns-in_err-end-clause-err
+returns-in_err-end-clause-err c =
     let l = c.args.self.now in
     let start = c.give.new.self in
     let made = both_stay l.behind c.unpack-head.new.self start c.unpack-head.ensures.made c.give.ensures.made in
     on_err _ c.from_residual.result
-    (c.in_err-outcome.ensures.err ∙ passes_stay (code_of l.code) l.behind start made (c.give.ensures.flights ∙ c.unpack-head.ensures.flights))
+    (c.in_err-end.ensures.err ∙ passes_stay (code_of l.code) l.behind start made (c.give.ensures.active ∙ c.unpack-head.ensures.active))
 
 pub returns-clause-side : goal.returns-clause-side
 returns-clause-side c =
     let l = c.args.self.now in
     let made = both_stay l.behind c.unpack-head.new.self c.give.new.self c.unpack-head.ensures.made c.give.ensures.made in
-    let entered = c.in_ok-outcome.ensures.enters _ c.give.ensures.given in
-    subst (λ (s : Side). IsOf s (up_of c.in_ok-outcome.outcome)) (made.side ∙ l.post.side_is) entered.ends.of
+    let entered = c.in_ok-end.ensures.enters _ c.give.ensures.given in
+    subst (λ (s : Side). IsOf s c.in_ok-end.end) (made.side ∙ l.post.side_is) entered.ends.of
 
 pub invariant_of-self : goal.invariant_of-self
 invariant_of-self c =

@@ -3,7 +3,6 @@ use Rattle.switch_ir.specs.Code.{code_of}
 use Rattle.switch_ir.specs.UnderWay.{PassState}
 use Rattle.switch_machine.specs.declared.sides.Side.{Side}
 use Rattle.switch_machine.specs.declared.sides.Side.TheVariants.{Before, Behind}
-use Rattle.switch_machine.specs.Sides.{up_of}
 use Rattle.switch_machine.specs.UnderWay.{passes_on, Steps}
 use Rattle.switch_machine.proofs.LoadedCode.{pass_is}
 use Rattle.switch_machine.proofs.loaded.Loaded.next.Goals as goal
@@ -16,7 +15,7 @@ returns-in-Before-clause-steps c =
     let l = c.args.self.now in
     rw c.in-Before.is
     (subst (λ (s : Side). (before : PassState) → passes_on Before l c.args.number ≡ Some before
-    → IfOk c.next.result (λ outcome. Steps s (code_of l.code) c.args.tables.now c.args.number before (up_of outcome)))
+    → IfOk c.next.result (Steps s (code_of l.code) c.args.tables.now c.args.number before))
     l.pre.side_is c.next.ensures.steps)
 
 pub next-requires-in-Behind-clause-pass : goal.next-requires-in-Behind-clause-pass
@@ -27,5 +26,5 @@ returns-in-Behind-clause-steps c =
     let l = c.args.self.now in
     rw c.in-Behind.is
     (subst (λ (s : Side). (before : PassState) → passes_on Behind l c.args.number ≡ Some before
-    → IfOk c.next-in-Behind.result (λ outcome. Steps s (code_of l.code) c.args.tables.now c.args.number before (up_of outcome)))
+    → IfOk c.next-in-Behind.result (Steps s (code_of l.code) c.args.tables.now c.args.number before))
     l.post.side_is c.next-in-Behind.ensures.steps)

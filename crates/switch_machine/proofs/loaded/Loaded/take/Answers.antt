@@ -2,33 +2,16 @@ use Rattle.std.proofs.Common.{◌≡◌, ℕ, IfOk, None, if◌then◌else◌, s
 use Rattle.std.specs.Prelude.{OnErr}
 use Rattle.flat_ir.specs.Blocks.{nothing}
 use Rattle.switch_ir.specs.Code.{code_of}
-use Rattle.switch_ir.specs.declared.port.UpEnd.{UpEnd}
-use Rattle.switch_ir.specs.declared.port.UpEnd.TheVariants.{Failed}
 use Rattle.switch_machine.specs.declared.sides.Event.{Event}
 use Rattle.switch_machine.specs.declared.sides.Side.TheVariants.{Before, Behind}
-use Rattle.switch_machine.specs.Flights.{with_pass}
-use Rattle.switch_machine.specs.Sides.{is_going, side_of, up_of, IsOf}
+use Rattle.switch_machine.specs.ActivePasses.{with_pass}
+use Rattle.switch_machine.specs.Sides.{is_going, side_of, IsOf}
 use Rattle.switch_machine.specs.Staging.{CanTake, Takes}
 use Rattle.switch_machine.specs.UnderWay.{passes_on}
-use Rattle.switch_machine.proofs.Ending.{is_of}
-use Rattle.std.proofs.lemmas.Result.{IfOk-weaker, on_err_weaker}
+use Rattle.std.proofs.lemmas.Result.{on_err_weaker}
 use Rattle.switch_machine.proofs.LoadedCode.{closed}
-use Rattle.switch_machine.proofs.Telling.{takes_failed, undone}
+use Rattle.switch_machine.proofs.Telling.{undone}
 use Rattle.switch_machine.proofs.loaded.Loaded.take.Goals as goal
-
--- ## One that fails
-
-pub note-requires : goal.note-requires
-note-requires c = is_of (side_of c.args.event.now) Failed tt
-
-pub returns-then-fails-clause-takes : goal.returns-then-fails-clause-takes
-returns-then-fails-clause-takes c =
-    let l = c.args.self.now in
-    let e = c.args.event.now in
-    let passes = passes_on (side_of e) l in
-    IfOk-weaker c.note.result (λ end. end ≡ Failed) (λ end. Takes e (code_of l.code) c.args.tables.now end passes passes)
-    (λ end is. subst (λ (x : UpEnd). Takes e (code_of l.code) c.args.tables.now x passes passes) (sym is) (takes_failed e (code_of l.code) c.args.tables.now passes))
-    c.note.ensures.end
 
 -- ## A packet that arrives
 
@@ -38,33 +21,33 @@ up-requires-clause-size c =
     (subst (λ (e : Event). CanTake e (code_of l.code) (passes_on (side_of e) l)) c.in-Up.is c.requires.can).0
 
 pub close-requires : goal.close-requires
-close-requires c = subst (λ (e : Event). IsOf (side_of e) (up_of c.in_ok-outcome-in-Up.outcome)) (sym c.in-Up.is) tt
+close-requires c = subst (λ (e : Event). IsOf (side_of e) c.in_ok-end-in-Up.end) (sym c.in-Up.is) tt
 
-pub returns-in_ok-outcome-in-Up-clause-takes : goal.returns-in_ok-outcome-in-Up-clause-takes
-returns-in_ok-outcome-in-Up-clause-takes c =
+pub returns-in_ok-end-in-Up-clause-takes : goal.returns-in_ok-end-in-Up-clause-takes
+returns-in_ok-end-in-Up-clause-takes c =
     let l = c.args.self.now in
     let between = c.up.new.self in
     let e = c.args.event.now in
-    let end = up_of c.in_ok-outcome-in-Up.outcome in
+    let end = c.in_ok-end-in-Up.end in
     closed end (passes_on (side_of e) between) (passes_on (side_of e) c.close.new.self)
     (λ x ps. Takes e (code_of l.code) c.args.tables.now x (passes_on (side_of e) l) ps) c.close.result
-    (subst (λ (x : Event). Takes x (code_of l.code) c.args.tables.now end (passes_on (side_of x) l) (passes_on (side_of x) between)) (sym c.in-Up.is) c.in_ok-outcome-in-Up.ensures.enters)
+    (subst (λ (x : Event). Takes x (code_of l.code) c.args.tables.now end (passes_on (side_of x) l) (passes_on (side_of x) between)) (sym c.in-Up.is) c.in_ok-end-in-Up.ensures.enters)
     c.close.ensures.end c.close.ensures.kept
 
-pub returns-in_ok-outcome-in-Up-clause-kept : goal.returns-in_ok-outcome-in-Up-clause-kept
-returns-in_ok-outcome-in-Up-clause-kept c =
+pub returns-in_ok-end-in-Up-clause-kept : goal.returns-in_ok-end-in-Up-clause-kept
+returns-in_ok-end-in-Up-clause-kept c =
     let l = c.args.self.now in
     let between = c.up.new.self in
     let last = c.close.new.self in
-    let outcome = c.in_ok-outcome-in-Up.outcome in
+    let end = c.in_ok-end-in-Up.end in
     let number = c.in-Up.number in
     let can = subst (λ (e : Event). CanTake e (code_of l.code) (passes_on (side_of e) l)) c.in-Up.is c.requires.can in
     let Was : Event → Type 0 =
-    λ e. OnErr c.close.result (passes_on (side_of e) last ≡ (if is_going outcome then with_pass number None (passes_on (side_of e) between) else passes_on (side_of e) between)) in
+    λ e. OnErr c.close.result (passes_on (side_of e) last ≡ (if is_going end then with_pass number None (passes_on (side_of e) between) else passes_on (side_of e) between)) in
     subst (λ (e : Event). OnErr c.close.result (passes_on (side_of e) last ≡ passes_on (side_of e) l)) (sym c.in-Up.is)
     (on_err_weaker c.close.result
-    (undone Before (code_of l.code) c.args.tables.now c.in-Up.whole number (record { port = c.in-Up.port; bytes = c.in-Up.packet.now }) nothing outcome
-    (passes_on Before l) (passes_on Before between) (passes_on Before last) c.in_ok-outcome-in-Up.ensures.enters can.1)
+    (undone Before (code_of l.code) c.args.tables.now c.in-Up.whole number (record { port = c.in-Up.port; bytes = c.in-Up.packet.now }) nothing end
+    (passes_on Before l) (passes_on Before between) (passes_on Before last) c.in_ok-end-in-Up.ensures.enters can.1)
     (subst Was c.in-Up.is c.close.ensures.undone))
 
 -- ## A frame that comes down
@@ -75,14 +58,14 @@ down-requires-clause-frame c =
     (subst (λ (e : Event). CanTake e (code_of l.code) (passes_on (side_of e) l)) c.in-Down.is c.requires.can).0
 
 pub close-requires-in-Down : goal.close-requires-in-Down
-close-requires-in-Down c = subst (λ (e : Event). IsOf (side_of e) (up_of c.in_ok-made-in-Down.made.1)) (sym c.in-Down.is) c.in_ok-made-in-Down.ensures.side
+close-requires-in-Down c = subst (λ (e : Event). IsOf (side_of e) c.in_ok-made-in-Down.made.1) (sym c.in-Down.is) c.in_ok-made-in-Down.ensures.side
 
 pub returns-in_ok-made-in-Down-clause-takes : goal.returns-in_ok-made-in-Down-clause-takes
 returns-in_ok-made-in-Down-clause-takes c =
     let l = c.args.self.now in
     let between = c.down.new.self in
     let e = c.args.event.now in
-    let end = up_of c.in_ok-made-in-Down.made.1 in
+    let end = c.in_ok-made-in-Down.made.1 in
     closed end (passes_on (side_of e) between) (passes_on (side_of e) c.close-in-Down.new.self)
     (λ x ps. Takes e (code_of l.code) c.args.tables.now x (passes_on (side_of e) l) ps) c.close-in-Down.result
     (subst (λ (x : Event). Takes x (code_of l.code) c.args.tables.now end (passes_on (side_of x) l) (passes_on (side_of x) between)) (sym c.in-Down.is) c.in_ok-made-in-Down.ensures.enters)
@@ -93,14 +76,14 @@ returns-in_ok-made-in-Down-clause-kept c =
     let l = c.args.self.now in
     let between = c.down.new.self in
     let last = c.close-in-Down.new.self in
-    let outcome = c.in_ok-made-in-Down.made.1 in
+    let end = c.in_ok-made-in-Down.made.1 in
     let can = subst (λ (e : Event). CanTake e (code_of l.code) (passes_on (side_of e) l)) c.in-Down.is c.requires.can in
     let f = can.0 in
     let Was : Event × ℕ → Type 0 =
-    λ (e, n). OnErr c.close-in-Down.result (passes_on (side_of e) last ≡ (if is_going outcome then with_pass n None (passes_on (side_of e) between) else passes_on (side_of e) between)) in
+    λ (e, n). OnErr c.close-in-Down.result (passes_on (side_of e) last ≡ (if is_going end then with_pass n None (passes_on (side_of e) between) else passes_on (side_of e) between)) in
     subst (λ (e : Event). OnErr c.close-in-Down.result (passes_on (side_of e) last ≡ passes_on (side_of e) l)) (sym c.in-Down.is)
     (on_err_weaker c.close-in-Down.result
-    (undone Behind (code_of l.code) c.args.tables.now c.in-Down.whole f.number _ _ outcome (passes_on Behind l) (passes_on Behind between) (passes_on Behind last)
+    (undone Behind (code_of l.code) c.args.tables.now c.in-Down.whole f.number _ _ end (passes_on Behind l) (passes_on Behind between) (passes_on Behind last)
     (c.in_ok-made-in-Down.ensures.enters f.number f.port f.values f.packet f.is) (λ whole. can.1 whole f.number f.port f.values f.packet f.is))
     (subst Was (λ i. (c.in-Down.is i, c.in_ok-made-in-Down.ensures.number f.number f.port f.values f.packet f.is i)) c.close-in-Down.ensures.undone))
 

@@ -5,7 +5,6 @@ use Rattle.switch_ir.specs.Code.{code_of}
 use Rattle.switch_ir.specs.UnderWay.{Passes}
 use Rattle.switch_machine.specs.declared.sides.Side.{Side}
 use Rattle.switch_machine.specs.declared.sides.Side.TheVariants.{Before}
-use Rattle.switch_machine.specs.Sides.{up_of}
 use Rattle.switch_machine.specs.UnderWay.{passes_of, Enters}
 use Rattle.switch_machine.proofs.Crossings.{both_stay, nothing_given, passes_stay}
 use Rattle.std.proofs.lemmas.Result.{on_err_weaker}
@@ -27,15 +26,15 @@ returns-clause-enters c =
     let cleared = c.clear.new.self in
     let packet : Packet = record { port = c.args.port; bytes = c.args.packet.now } in
     let side = c.clear.ensures.made.side ∙ l.pre.side_is in
-    let same = passes_stay code l.before cleared c.clear.ensures.made c.clear.ensures.flights in
+    let same = passes_stay code l.before cleared c.clear.ensures.made c.clear.ensures.active in
     let Is : Side × Passes → Type 0 =
-    λ (s, ps). IfOk c.begin.result (λ outcome. Enters s code c.args.tables.now c.args.whole c.args.number packet nothing (up_of outcome) ps (passes_of code c.begin.new.self)) in
+    λ (s, ps). IfOk c.begin.result (λ end. Enters s code c.args.tables.now c.args.whole c.args.number packet nothing end ps (passes_of code c.begin.new.self)) in
     subst Is (λ i. (side i, same i)) (c.begin.ensures.enters nothing (nothing_given code cleared c.clear.ensures.contents))
 
 pub returns-clause-err : goal.returns-clause-err
 returns-clause-err c =
     let l = c.args.self.now in
-    on_err_weaker c.begin.result (λ same. same ∙ passes_stay (code_of l.code) l.before c.clear.new.self c.clear.ensures.made c.clear.ensures.flights) c.begin.ensures.err
+    on_err_weaker c.begin.result (λ same. same ∙ passes_stay (code_of l.code) l.before c.clear.new.self c.clear.ensures.made c.clear.ensures.active) c.begin.ensures.err
 
 pub invariant_of-self-clause-pre : goal.invariant_of-self-clause-pre
 invariant_of-self-clause-pre c =

@@ -11,7 +11,7 @@ use Rattle.switch_machine.specs.declared.numbering.ValueRange.{ValueRange}
 use Rattle.switch_machine.specs.declared.sides.Side.{Side}
 use Rattle.switch_machine.specs.Keeping.{kept}
 use Rattle.switch_machine.specs.Numbers.{AreHeld}
-use Rattle.switch_machine.specs.Sides.{staging, up_of, EndsOn}
+use Rattle.switch_machine.specs.Sides.{staging, EndsOn}
 use Rattle.switch_machine.specs.UnderWay.{passes_of, Enters, HasEnd}
 use Rattle.switch_machine.proofs.Crossings.{both_stay, passes_stay}
 use Rattle.switch_machine.proofs.Ending.{at_end, going_ends, is_of, none_left, some_left}
@@ -30,14 +30,14 @@ returns-then-whole-clause-enters c given begin =
     let reads = pass_values (staging l.side code).code given (seen_tables c.args.tables.now) packet in
     let Holds : List ValueRange × Registers × Side → Type 0 = λ (ranges, rs, s). AreHeld ranges rs reads (kept (staging s code)) in
     let held = subst Holds (λ i. (sym marks.made.ranges i, sym marks.registers i, sym made.side i)) (c.run.ensures.values code given c.requires.pass c.requires.safe begin) in
-    let HasIts : Side → Type 0 = λ s. IfOk c.end.result (λ outcome. HasEnd s code c.args.number packet false (EndsOn s code reads c.args.number packet) (up_of outcome)) in
+    let HasIts : Side → Type 0 = λ s. IfOk c.end.result (HasEnd s code c.args.number packet false (EndsOn s code reads c.args.number packet)) in
     let none : (not c.args.whole && nat_lt 0 (staging l.side code).code.highest) ≡ false = elim c.then-whole.branch [
       | then-whole-via-then-whole w ↦ none_left c.args.whole _ (λ e. absurd (true≢false (sym w.if-whole.true ∙ e)))
       | then-whole-via-else-whole+then-len-eq1 w ↦ none_left c.args.whole _ (λ e. omega (arith, w.if-len-eq1.true, w.len.ensures, c.requires.pass.ready.count))
     ] in
-    IfOk-weaker c.end.result _ (λ outcome. Enters l.side code c.args.tables.now c.args.whole c.args.number packet given (up_of outcome) (passes_of code l) (passes_of code marked))
-    (λ outcome h. at_end l.side code c.args.tables.now c.args.whole c.args.number packet given outcome (passes_of code l) (passes_of code marked) h
-    (passes_stay code l marked made (marks.flights ∙ c.run.ensures.flights)) none)
+    IfOk-weaker c.end.result _ (λ end. Enters l.side code c.args.tables.now c.args.whole c.args.number packet given end (passes_of code l) (passes_of code marked))
+    (λ end h. at_end l.side code c.args.tables.now c.args.whole c.args.number packet given end (passes_of code l) (passes_of code marked) h
+    (passes_stay code l marked made (marks.active ∙ c.run.ensures.active)) none)
     (subst HasIts made.side (c.end.ensures.ends reads held))
 
 pub returns-clause-enters : goal.returns-clause-enters

@@ -1,13 +1,13 @@
 use Rattle.std.proofs.Common.{◌∙◌, ap, length, refl, subst, sym}
 use Rattle.std.proofs.lemmas.List.{length-replicate}
-use Rattle.switch_machine.specs.Flights.{flights_in, AreFlights}
+use Rattle.switch_machine.specs.ActivePasses.{active_in, AreActivePasses}
 use Rattle.switch_machine.proofs.loaded_pass.LoadedPass.clear.Goals as goal
 
 pub returns-clause-made : goal.returns-clause-made
 returns-clause-made c = record { side = refl; stages = refl; ranges = refl; plan = c.clear.ensures.plan; marks = refl }
 
-pub invariant_of-self-clause-flown : goal.invariant_of-self-clause-flown
-invariant_of-self-clause-flown c =
+pub invariant_of-self-clause-are_active : goal.invariant_of-self-clause-are_active
+invariant_of-self-clause-are_active c =
     let l = c.args.self.now in
-    subst (λ n. AreFlights (length l.stages) n (flights_in l.flights))
-    (sym (ap length c.clear.ensures.numbers ∙ length-replicate (length l.registers.numbers) 0)) l.flown
+    subst (λ n. AreActivePasses (length l.stages) n (active_in l.active))
+    (sym (ap length c.clear.ensures.numbers ∙ length-replicate (length l.registers.numbers) 0)) l.are_active

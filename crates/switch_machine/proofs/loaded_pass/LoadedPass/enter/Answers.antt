@@ -7,12 +7,12 @@ use Rattle.transfer_header.specs.Registers.{Registers}
 use Rattle.switch_ir.specs.Staged.{IsEntered}
 use Rattle.switch_ir.specs.Tables.{seen_tables, view_of}
 use Rattle.switch_machine.specs.declared.ready.ReadyStep.{ReadyStep}
-use Rattle.switch_machine.specs.Flights.{flights_in, numbers_in, AreFlights, IsBegun}
+use Rattle.switch_machine.specs.ActivePasses.{active_in, numbers_in, AreActivePasses, IsBegun}
 use Rattle.switch_machine.specs.Planned.{stage_done}
 use Rattle.switch_machine.specs.Ready.{all_placed, reads_at, ready_gives, ready_of, targets_of, HoldResults}
 use Rattle.switch_machine.specs.Sides.{staging}
 use Rattle.switch_machine.specs.UnderWay.{held, passes_by, shown}
-use Rattle.switch_machine.proofs.Flying.{entered_as, passes_changed, tried_flights}
+use Rattle.switch_machine.proofs.ActivePasses.{entered_as, passes_changed, tried_active}
 use Rattle.std.proofs.lemmas.Result.{on_ok_weaker}
 use Rattle.switch_machine.proofs.PlacedSteps.{can_of_stage, count_after, plan_after}
 use Rattle.switch_machine.proofs.Laws.{a_pass_enters}
@@ -33,8 +33,8 @@ returns-clause-made c =
     let gives = ready_gives (map ready_of c.stage.result.now) (reads_at l.registers.numbers) (view_of c.as_seen.result.bit c.as_seen.result.tables.now.pairs) (packet_of c.args.arrival.now) in
     record { side = refl; stages = refl; ranges = refl; plan = plan_after l.registers c.run_stage.new.registers gives c.run_stage.ensures.written; marks = refl }
 
-pub returns-in_err-flight-clause-made : goal.returns-in_err-flight-clause-made
-returns-in_err-flight-clause-made c =
+pub returns-in_err-active_pass-clause-made : goal.returns-in_err-active_pass-clause-made
+returns-in_err-active_pass-clause-made c =
     let l = c.args.self.now in
     let gives = ready_gives (map ready_of c.stage.result.now) (reads_at l.registers.numbers) (view_of c.as_seen.result.bit c.as_seen.result.tables.now.pairs) (packet_of c.args.arrival.now) in
     record { side = refl; stages = refl; ranges = refl; plan = plan_after l.registers c.run_stage.new.registers gives c.run_stage.ensures.written; marks = refl }
@@ -45,12 +45,12 @@ returns-clause-enters c code is safe =
     let p = staging l.side code in
     let told = c.args.tables.now in
     let packet = packet_of c.args.arrival.now in
-    let f = c.in_ok-flight.flight in
+    let f = c.in_ok-active_pass.active_pass in
     let after = c.run_stage.new.registers in
     let seen = seen_tables told in
     let gives = ready_gives (map ready_of c.stage.result.now) (reads_at l.registers.numbers) (view_of c.as_seen.result.bit c.as_seen.result.tables.now.pairs) packet in
     let plan_is = plan_after l.registers after gives c.run_stage.ensures.written in
-    let begun = subst (λ (bit : Bool). IsBegun packet bit after.numbers f) c.bit.ensures c.in_ok-flight.ensures in
+    let begun = subst (λ (bit : Bool). IsBegun packet bit after.numbers f) c.bit.ensures c.in_ok-active_pass.ensures in
     let same : after ≡ stage_done l.numbering p.code.steps 0 seen packet l.registers =
     c.run_stage.ensures.written
     ∙ ap (λ (now : Store). all_placed l.registers (ready_gives (map ready_of c.stage.result.now) (reads_at l.registers.numbers) now packet)) c.as_seen.ensures
@@ -64,8 +64,8 @@ returns-clause-enters c code is safe =
       λ given begin. entered_as p l.numbering l.registers.plan given packet told after.numbers f begun
           (subst (λ (rs : Registers). IsEntered p given seen packet (numbers_in p l.numbering 0 rs)) (sym own)
           (a_pass_enters code l is l.registers refl c.are_few.ensures.placed told safe packet given begin)),
-      ap (λ (plan : Option RegisterPlan). passes_by p l.numbering plan (flights_in c.put_in.new.flights)) plan_is
-          ∙ passes_changed p l.numbering l.registers.plan (flights_in l.flights) (flights_in c.put_in.new.flights) c.args.number (Some f) put,
+      ap (λ (plan : Option RegisterPlan). passes_by p l.numbering plan (active_in c.put_in.new.active)) plan_is
+          ∙ passes_changed p l.numbering l.registers.plan (active_in l.active) (active_in c.put_in.new.active) c.args.number (Some f) put,
     ))
     c.put_in.ensures.put
 
@@ -76,19 +76,19 @@ invariant_of-self c =
     record {
       can = l.can;
       room = subst (HoldResults l.stages) (sym c.run_stage.ensures.capacity) l.room;
-      flown = subst (λ n. AreFlights (length l.stages) n (flights_in l.flights)) (sym (count_after l.registers c.run_stage.new.registers gives c.run_stage.ensures.written)) l.flown;
+      are_active = subst (λ n. AreActivePasses (length l.stages) n (active_in l.active)) (sym (count_after l.registers c.run_stage.new.registers gives c.run_stage.ensures.written)) l.are_active;
     }
 
 pub invariant_of-self-2 : goal.invariant_of-self-2
 invariant_of-self-2 c =
     let l = c.args.self.now in
     let after = c.run_stage.new.registers in
-    let begun = c.in_ok-flight.ensures in
+    let begun = c.in_ok-active_pass.ensures in
     let gives = ready_gives (map ready_of c.stage.result.now) (reads_at l.registers.numbers) (view_of c.as_seen.result.bit c.as_seen.result.tables.now.pairs) (packet_of c.args.arrival.now) in
     record {
       can = l.can;
       room = subst (HoldResults l.stages) (sym c.run_stage.ensures.capacity) l.room;
-      flown = tried_flights (length l.stages) (length after.numbers) (flights_in l.flights) (flights_in c.put_in.new.flights) c.args.number c.in_ok-flight.flight c.put_in.result
+      are_active = tried_active (length l.stages) (length after.numbers) (active_in l.active) (active_in c.put_in.new.active) c.args.number c.in_ok-active_pass.active_pass c.put_in.result
           c.put_in.ensures.put c.put_in.ensures.err
           (record {
             size = omega (arith, c.requires.size, ap (λ (q : Packet). length q.bytes) begun.packet_is);
@@ -96,5 +96,5 @@ invariant_of-self-2 c =
             numbers = ap length begun.numbers_are;
             below = omega (arith, begun.stage_is, c.requires.left);
           })
-          (subst (λ n. AreFlights (length l.stages) n (flights_in l.flights)) (sym (count_after l.registers after gives c.run_stage.ensures.written)) l.flown);
+          (subst (λ n. AreActivePasses (length l.stages) n (active_in l.active)) (sym (count_after l.registers after gives c.run_stage.ensures.written)) l.are_active);
     }

@@ -7,7 +7,7 @@ use Rattle.switch_ir.specs.Code.{code_of}
 use Rattle.switch_ir.specs.Meaning.{down_given}
 use Rattle.switch_ir.specs.Tables.{seen_tables}
 use Rattle.switch_machine.specs.declared.sides.Side.{Side}
-use Rattle.switch_machine.specs.Flights.{flights_in, AreFlights}
+use Rattle.switch_machine.specs.ActivePasses.{active_in, AreActivePasses}
 use Rattle.switch_machine.specs.Keeping.{begins}
 use Rattle.switch_machine.specs.Numbers.{stage_gives}
 use Rattle.switch_machine.specs.Planned.{BeginsWith}
@@ -53,9 +53,9 @@ returns-clause-given c =
     subst Begins (λ i. (sym c.requires.side i, sym same i))
     (what_is_given code l c.requires.pass registers refl c.are_few.ensures.placed c.requires.side packet)
 
-pub invariant_of-self-clause-flown : goal.invariant_of-self-clause-flown
-invariant_of-self-clause-flown c =
+pub invariant_of-self-clause-are_active : goal.invariant_of-self-clause-are_active
+invariant_of-self-clause-are_active c =
     let l = c.args.self.now in
-    subst (λ n. AreFlights (length l.stages) n (flights_in l.flights))
+    subst (λ n. AreActivePasses (length l.stages) n (active_in l.active))
     (sym (count_after l.registers c.run_steps.new.registers
-    (ready_gives (map ready_of c.steps.result.now) nothing (seen_tables c.none-none.result) (packet_of c.args.arrival.now)) c.run_steps.ensures.written)) l.flown
+    (ready_gives (map ready_of c.steps.result.now) nothing (seen_tables c.none-none.result) (packet_of c.args.arrival.now)) c.run_steps.ensures.written)) l.are_active

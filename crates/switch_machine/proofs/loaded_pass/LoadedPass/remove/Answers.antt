@@ -1,7 +1,7 @@
 use Rattle.std.proofs.Common.{None, length, refl}
-use Rattle.switch_machine.specs.Flights.{flights_in}
+use Rattle.switch_machine.specs.ActivePasses.{active_in}
 use Rattle.switch_machine.specs.Sides.{staging}
-use Rattle.switch_machine.proofs.Flying.{passes_changed, removed_flights, with_update}
+use Rattle.switch_machine.proofs.ActivePasses.{passes_changed, removed_active, with_update}
 use Rattle.switch_machine.proofs.loaded_pass.LoadedPass.remove.Goals as goal
 
 pub returns-clause-made : goal.returns-clause-made
@@ -10,11 +10,11 @@ returns-clause-made c = record { side = refl; stages = refl; ranges = refl; plan
 pub returns-clause-passes : goal.returns-clause-passes
 returns-clause-passes c code =
     let l = c.args.self.now in
-    passes_changed (staging l.side code) l.numbering l.registers.plan (flights_in l.flights) (flights_in c.remove.new.self) c.args.number None
-    (with_update l.flights c.remove.new.self c.args.number None c.remove.ensures.updates.0)
+    passes_changed (staging l.side code) l.numbering l.registers.plan (active_in l.active) (active_in c.remove.new.self) c.args.number None
+    (with_update l.active c.remove.new.self c.args.number None c.remove.ensures.updates.0)
 
-pub invariant_of-self-clause-flown : goal.invariant_of-self-clause-flown
-invariant_of-self-clause-flown c =
+pub invariant_of-self-clause-are_active : goal.invariant_of-self-clause-are_active
+invariant_of-self-clause-are_active c =
     let l = c.args.self.now in
-    removed_flights (length l.stages) (length l.registers.numbers) (flights_in l.flights) (flights_in c.remove.new.self) c.args.number
-    (with_update l.flights c.remove.new.self c.args.number None c.remove.ensures.updates.0) l.flown
+    removed_active (length l.stages) (length l.registers.numbers) (active_in l.active) (active_in c.remove.new.self) c.args.number
+    (with_update l.active c.remove.new.self c.args.number None c.remove.ensures.updates.0) l.are_active

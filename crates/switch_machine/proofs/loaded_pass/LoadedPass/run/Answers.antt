@@ -4,7 +4,7 @@ use Rattle.flat_ir.specs.Registers.{packet_of}
 use Rattle.transfer_header.specs.Registers.{Registers}
 use Rattle.switch_ir.specs.Meaning.{pass_values}
 use Rattle.switch_ir.specs.Tables.{seen_tables}
-use Rattle.switch_machine.specs.Flights.{flights_in, AreFlights}
+use Rattle.switch_machine.specs.ActivePasses.{active_in, AreActivePasses}
 use Rattle.switch_machine.specs.Keeping.{kept}
 use Rattle.switch_machine.specs.Planned.{registers_at}
 use Rattle.switch_machine.specs.Ready.{placed_at, HoldResults}
@@ -47,7 +47,7 @@ invariant_of-self c =
     record {
       can = l.can;
       room = subst (HoldResults l.stages) (sym c.run_pass.ensures.capacity) l.room;
-      flown = subst (λ n. AreFlights (length l.stages) n (flights_in l.flights))
+      are_active = subst (λ n. AreActivePasses (length l.stages) n (active_in l.active))
           (sym (ap (λ (rs : Registers). length rs.numbers) c.run_pass.ensures.written
-          ∙ count_placed_at l.stages _ (packet_of c.args.arrival.now) l.registers (length l.stages))) l.flown;
+          ∙ count_placed_at l.stages _ (packet_of c.args.arrival.now) l.registers (length l.stages))) l.are_active;
     }
