@@ -1,17 +1,17 @@
 -- Passes under way, by their numbers.
-use Rattle.std.proofs.Common.{◌≡◌, ◌∙◌, ◌<◌, ℕ, suc, ◌==◌, Bool, true, false, cond, List, [], length, Option, Some, None, Result, Ok, Err, refl, sym, ap, subst, arith, inl, inr}
+use Rattle.std.proofs.Common.{◌≡◌, ◌∙◌, ℕ, suc, ◌==◌, Bool, true, false, cond, List, [], length, Option, Some, None, Result, Ok, Err, refl, sym, ap, subst, arith, inl, inr}
 use Rattle.std.specs.Prelude.{nat_lt, OnErr, OnOk}
 use Rattle.std.specs.BTreeMap.{BTreeMap, get, is_at}
 use Rattle.std.specs.Map.{lookup}
 use Rattle.std.specs.Option.{option_map}
 use Rattle.std.specs.Ordering.{is_eq, nat_cmp}
 use Rattle.std.specs.declared.cmp.Ordering.TheVariants.{Equal, Greater, Less}
-use Rattle.std.proofs.lemmas.Bool.{cases_Bool, cond-false, cond-true, eqb-true, ltb-true, ne_eqb}
+use Rattle.std.proofs.lemmas.Bool.{cases_Bool, cond-false, cond-true, cond_both, eqb-true, ltb-true, ne_eqb}
 use Rattle.std.proofs.lemmas.Option.{same_Some, none-some}
 use Rattle.packet_fields.specs.declared.packet.Packet.{Packet}
 use Rattle.flat_ir.specs.Blocks.{Reading}
 use Rattle.flat_ir.specs.Plan.{RegisterPlan}
-use Rattle.transfer_header.specs.Registers.{place_by, ArePlaced, Registers}
+use Rattle.transfer_header.specs.Registers.{ArePlaced, Registers}
 use Rattle.switch_ir.specs.Staged.{last_numbers, IsEntered, IsStaged, Staging}
 use Rattle.switch_ir.specs.Tables.{seen_tables, view_of, Told}
 use Rattle.switch_ir.specs.UnderWay.{EndsWith, HasEntered, HasGoneOn, PassState, ToldPass}
@@ -20,7 +20,7 @@ use Rattle.switch_machine.specs.declared.numbering.ValueRange.{ValueRange}
 use Rattle.switch_machine.specs.ActivePasses.{active_in, numbers_in, packet_in, with_pass, AreActivePasses, IsBegun, IsActivePass, NumberedActivePasses}
 use Rattle.switch_machine.specs.Ready.{all_placed}
 use Rattle.switch_machine.specs.UnderWay.{held, passes_by, shown}
-use Rattle.switch_machine.proofs.PlacedSteps.{numbers_placed, plan_placed}
+use Rattle.switch_machine.proofs.Placing.{numbers_placed, plan_placed}
 
 -- ## The map
 
@@ -57,10 +57,6 @@ put_and_taken {X} fs gs hs n g none put taken = λ i m. one m i
 pub none_in : (map : BTreeMap ℕ ActivePass) → map.entries ≡ [] → (n : ℕ) → active_in map n ≡ None
 none_in map e n = λ i. lookup (is_at (nat_cmp n)) (e i)
 
-chosen : {X : Type 0} (P : X → Type 0) (b : Bool) (o p : Option X) (x : X) → (o ≡ Some x → P x) → (p ≡ Some x → P x) → cond b o p ≡ Some x → P x
-chosen P true o p x h k e = h e
-chosen P false o p x h k e = k e
-
 map_chosen : {X Y : Type 0} (f : X → Y) (b : Bool) (o p : Option X) → option_map f (cond b o p) ≡ cond b (option_map f o) (option_map f p)
 map_chosen f true o p = refl
 map_chosen f false o p = refl
@@ -70,7 +66,7 @@ map_chosen f false o p = refl
 pub changed_active : (stages count : ℕ) (fs gs : NumberedActivePasses) (n : ℕ) (o : Option ActivePass) → gs ≡ with_pass n o fs
     → ((f : ActivePass) → o ≡ Some f → IsActivePass stages count f) → AreActivePasses stages count fs → AreActivePasses stages count gs
 changed_active stages count fs gs n o is own all m f there =
-    chosen (IsActivePass stages count) (n == m) o (fs m) f (own f) (all m f) (ap (λ (g : NumberedActivePasses). g m) (sym is) ∙ there)
+    cond_both (n == m) o (fs m) (λ r. r ≡ Some f → IsActivePass stages count f) (λ _. own f) (λ _. all m f) (ap (λ (g : NumberedActivePasses). g m) (sym is) ∙ there)
 
 pub put_active : (stages count : ℕ) (fs gs : NumberedActivePasses) (n : ℕ) (g : ActivePass) → gs ≡ with_pass n (Some g) fs
     → IsActivePass stages count g → AreActivePasses stages count fs → AreActivePasses stages count gs
@@ -105,7 +101,6 @@ module _ (p : Staging) (ranges : List ValueRange) (plan : Option RegisterPlan) w
       → IsEntered p given (seen_tables told) packet (numbers_in p ranges 0 (held plan f))
       → HasEntered p (λ other. other ≡ given) packet (Some told) (shown p ranges plan f)
   entered_as given packet told numbers f begun entered =
-      let knows : Bool × ℕ → Type 0 = λ (bit, t). IsEntered p given (view_of bit told.pairs) packet (numbers_in p ranges t (held plan f)) in
       record {
         packet = begun.packet_is;
         stage = begun.stage_is;
@@ -113,8 +108,7 @@ module _ (p : Staging) (ranges : List ValueRange) (plan : Option RegisterPlan) w
           record { bit = f.bit; numbers = numbers_in p ranges f.stage (held plan f) },
           refl,
           begun.bit_is,
-          λ other is. subst (λ (g : Reading). IsEntered p g (view_of f.bit told.pairs) packet (numbers_in p ranges f.stage (held plan f))) (sym is)
-              (subst knows (λ i. (sym begun.bit_is i, sym begun.stage_is i)) entered),
+          λ other is. rw (is, begun.bit_is, begun.stage_is) entered,
         );
       }
 
@@ -129,8 +123,7 @@ module _ (p : Staging) (ranges : List ValueRange) (plan : Option RegisterPlan) w
       record { bit = g.bit; numbers = numbers_in p ranges g.stage (held plan g) },
       refl,
       bit,
-      subst (λ t. IsStaged p (suc f.stage) (numbers_in p ranges f.stage (held plan f)) (view_of f.bit told.pairs) (packet_in f) (numbers_in p ranges t (held plan g)))
-          (sym stage) staged,
+      rw stage staged,
     );
   }
 
@@ -155,9 +148,7 @@ held_placed plan f g pairs is = λ i. record {
 }
 
 pub placed_as : (one other : Registers) → other.plan ≡ one.plan → length other.numbers ≡ length one.numbers → ArePlaced one → ArePlaced other
-placed_as one other plan count placed =
-    let Are : Option RegisterPlan × ℕ → Type 0 = λ (p, n). (value place : ℕ) → place_by p n value ≡ Some place → place < n in
-    subst Are (λ i. (sym plan i, sym count i)) placed
+placed_as one other plan count placed = rw (plan, count) placed
 
 -- the pass of a number is one
 pub same_active_pass : (fs : NumberedActivePasses) (n : ℕ) (f g : ActivePass) → fs n ≡ Some f → fs n ≡ Some g → (P : ActivePass → Type 0) → P f → P g

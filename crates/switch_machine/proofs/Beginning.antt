@@ -1,21 +1,23 @@
--- What postprocessing begins with.
-use Rattle.std.proofs.Common.{◌≡◌, ℕ, ◌==◌, true, false, cond, ◌||◌, List, [], ◌∷◌, Some, None, refl, sym, ap, ◌∙◌, inl, inr}
+-- What postprocessing begins with, and what is handed down to it.
+use Rattle.std.proofs.Common.{◌≡◌, ℕ, suc, Bool, true, false, List, [], ◌∷◌, refl, arith, if◌then◌else◌, ◌==◌, cond, ◌||◌, Some, None, sym, ap, ◌∙◌, inl, inr}
+use Rattle.packet_fields.specs.declared.packet.Packet.{Packet}
+use Rattle.flat_ir.specs.declared.program.ValueId.{ValueId}
+use Rattle.split_model.specs.declared.layout.Crossing.{Crossing}
+use Rattle.split_model.specs.Crossing.{is_value}
+use Rattle.transfer_header.specs.Values.{Agree}
+use Rattle.switch_ir.specs.Meaning.{crosses, down_given, handed, inputs, after_stage}
+use Rattle.switch_ir.specs.Passes.{Code}
 use Rattle.std.specs.List.{AllByRecursion as Each}
 use Rattle.std.proofs.lemmas.Bool.{cases_Bool, cond-true, cond-false, eq-eqb, eqb-true, ne_eqb, false_from_ne_true, or_parts, or_right, true≢false}
 use Rattle.std.proofs.lemmas.List.Elements.{All-from_recursion}
 use Rattle.std.proofs.lemmas.List.Folds.{list_any-append}
 use Rattle.std.proofs.lemmas.Option.{same_Some, none-some}
-use Rattle.packet_fields.specs.declared.packet.Packet.{Packet}
-use Rattle.flat_ir.specs.declared.program.ValueId.{ValueId}
 use Rattle.flat_ir.specs.Blocks.{Reading, nothing}
-use Rattle.split_model.specs.declared.layout.Crossing.{Crossing}
-use Rattle.split_model.specs.Crossing.{is_value}
 use Rattle.transfer_header.specs.Registers.{Registers, content_of, value_in, ArePlaced}
 use Rattle.transfer_header.specs.Steps.{all_written, is_among, pairs_written, AreKeptApart, Contents}
 use Rattle.transfer_header.proofs.Laws.{a_list_is_written}
 use Rattle.transfer_header.proofs.Writes.{all_written_is}
 use Rattle.switch_ir.specs.Code.{Step}
-use Rattle.switch_ir.specs.Meaning.{after_stage, crosses, handed}
 use Rattle.switch_ir.specs.Staged.{Staging}
 use Rattle.switch_machine.specs.declared.numbering.ValueRange.{ValueRange}
 use Rattle.switch_machine.specs.Keeping.{begins, numbers_in}
@@ -28,6 +30,26 @@ use Rattle.switch_machine.proofs.Numbered.{all_right, number_is, once_of_stage, 
 use Rattle.switch_machine.proofs.PassValues.{apart, begin_apart, begin_register, given_fit, given_once, handed_fresh, handed_known, its_spans, IsRanged}
 use Rattle.flat_ir.proofs.Exact.{value_same}
 use Rattle.lemmas.proofs.Lists.{each_weaker}
+
+agreed : (b : Bool) (x x' y y' : ℕ) → x ≡ x' → y ≡ y' → (if b then x else y) ≡ (if b then x' else y')
+agreed true x x' y y' e f = e
+agreed false x x' y y' e f = f
+
+handed_same : (layout : List Crossing) (values others : Crossing → ℕ) (v : ValueId) → Agree layout values others
+    → handed layout values v ≡ handed layout others v
+handed_same [] values others v agree = refl
+handed_same (x ∷ xs) values others v agree =
+    agreed (is_value x.value v) (values x) (others x) (handed xs values v) (handed xs others v) (agree 0 x (omega arith))
+    (handed_same xs values others v (λ k d lt. agree (suc k) d (omega (arith, lt))))
+
+-- what postprocessing begins with is told by the numbers of the layout's values
+pub given_same : (code : Code) (values others : Crossing → ℕ) (packet : Packet) → Agree code.down values others
+    → down_given code values packet ≡ down_given code others packet
+given_same code values others packet agree = λ i v. same v i
+  where
+    same : (v : ValueId) → down_given code values packet v ≡ down_given code others packet v
+    same v = agreed (crosses code.down v) (handed code.down values v) (handed code.down others v) (inputs code packet v) (inputs code packet v)
+        (handed_same code.down values others v agree) refl
 
 module _ (p : Staging) (ranges : List ValueRange) (ranged : IsRanged p ranges) (registers : Registers) where
   -- each value of a layout has its number

@@ -23,7 +23,7 @@ use Rattle.switch_ir.specs.Meaning.{after_stage, after_stages, pass_values}
 use Rattle.switch_ir.specs.Staged.{Staging}
 use Rattle.switch_machine.specs.declared.numbering.ValueRange.{ValueRange}
 use Rattle.switch_machine.specs.Keeping.{begins, kept}
-use Rattle.switch_machine.specs.Numbers.{AreHeld, content_at, gives, is_number, is_read, number_in, range_at, reads_by, stage_gives, stage_number, stage_reads, stage_writes}
+use Rattle.switch_machine.specs.Numbers.{AreHeld, content_at, gives, is_number, is_read, number_in, reads_by, stage_gives, stage_number, stage_reads, stage_writes}
 use Rattle.switch_machine.specs.Planned.{first_writes, registers_at, stage_done, steps_of, BeginsWith, FitRanges}
 use Rattle.switch_machine.specs.Staged.{of_stage}
 use Rattle.switch_machine.proofs.Members.{has_among, has_any, has_each}
@@ -150,12 +150,9 @@ module _ (p : Staging) (ranges : List ValueRange) (ranged : IsRanged p ranges) w
           → stage_gives ranges ss now view packet ≡ stage_gives ranges ss reads view packet
       gives_same [] there = refl
       gives_same (s ∷ ss) there =
-          let range = range_at ranges s.instruction in
           let same = readings_that_agree-results now reads false view packet s.work (readings_that_agree-operands now reads s.work
           (all_of (operands s.work) (λ n e. there n (or_left (is_read ranges (operands s.work) n) (stage_reads ranges ss n) e)))) in
-          ap (λ (rs : List ℕ). gives range rs ++ stage_gives ranges ss now view packet) same
-          ∙ ap (λ (rest : List (ℕ × ℕ)). gives range (results reads false view packet s.work) ++ rest)
-          (gives_same ss (λ n e. there n (or_right (is_read ranges (operands s.work) n) (stage_reads ranges ss n) e)))
+          rw (same, gives_same ss (λ n e. there n (or_right (is_read ranges (operands s.work) n) (stage_reads ranges ss n) e)))
 
       begun_fresh : (step n : ℕ) → is_among n (first_writes starts step) ≡ true → is_among n (stage_writes ranges (of_stage step p.code.steps)) ≡ false
       begun_fresh zero n e = begins_fresh p ranges ranged n e

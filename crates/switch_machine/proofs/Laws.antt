@@ -1,5 +1,5 @@
 -- What passes compute in registers.
-use Rattle.std.proofs.Common.{◌≡◌, ℕ, suc, Bool, [], subst}
+use Rattle.std.proofs.Common.{◌≡◌, ℕ, suc, Bool, []}
 use Rattle.packet_fields.specs.declared.packet.Packet.{Packet}
 use Rattle.flat_ir.specs.Blocks.{Reading, nothing}
 use Rattle.transfer_header.proofs.Laws.{needed_values_fit}
@@ -11,7 +11,6 @@ use Rattle.switch_ir.specs.Spans.{post_spans, pre_spans}
 use Rattle.switch_ir.specs.Staged.{IsEntered, IsStaged, Staging, last_numbers}
 use Rattle.switch_ir.specs.Tables.{Told, seen_tables, view_of}
 use Rattle.switch_machine.specs.declared.loaded_pass.LoadedPass.{LoadedPass}
-use Rattle.switch_machine.specs.declared.sides.Side.{Side}
 use Rattle.switch_machine.specs.declared.sides.Side.TheVariants.{Before, Behind}
 use Rattle.switch_machine.specs.ActivePasses.{numbers_in}
 use Rattle.switch_machine.specs.Keeping.{begins, kept}
@@ -24,19 +23,18 @@ use Rattle.switch_machine.specs.Workplaces.{IsPassOf}
 use Rattle.switch_machine.proofs.Beginning.{begins_with}
 use Rattle.switch_machine.proofs.Fitting.{results_few}
 use Rattle.switch_machine.proofs.InRegisters.{first_is, pass_is}
-use Rattle.switch_machine.proofs.OfSides.{kept_apart, ranged_of}
-use Rattle.switch_machine.proofs.PassValues.{its_spans, steps_fit, IsRanged}
+use Rattle.switch_machine.proofs.LoadedCode.{kept_apart, ranged_of}
+use Rattle.switch_machine.proofs.PassValues.{steps_fit, IsRanged}
 use Rattle.switch_machine.proofs.StageByStage.{ends, entered, staged}
 
 module _ (code : Code) (l : LoadedPass) (is : IsPassOf code l) (registers : Registers) (planned : registers.plan ≡ l.registers.plan) where
   -- Registers by the plan of a pass serve for what goes up.
   pub what_goes_up_fits : l.side ≡ Before → FitsLayout code.up registers
   what_goes_up_fits before =
-      needed_values_fit code.up (pre_spans code) registers code.pre.highest
-      (subst (λ (s : Side). AreKeptApart (its_spans (staging s code)) registers) before (kept_apart code l is registers planned)) is.can.up is.can.up_needed
+      needed_values_fit code.up (pre_spans code) registers code.pre.highest (rw before at (kept_apart code l is registers planned)) is.can.up is.can.up_needed
 
   what_is_needed : l.side ≡ Behind → AreKeptApart (post_spans code) registers
-  what_is_needed behind = subst (λ (s : Side). AreKeptApart (its_spans (staging s code)) registers) behind (kept_apart code l is registers planned)
+  what_is_needed behind = rw behind at (kept_apart code l is registers planned)
 
   -- the registers serve for what comes down
   pub what_comes_down_fits : l.side ≡ Behind → FitsLayout code.down registers
@@ -49,7 +47,7 @@ module _ (code : Code) (l : LoadedPass) (is : IsPassOf code l) (registers : Regi
         (pairs_written registers (stage_gives l.numbering (of_stage 0 code.post.given) nothing [] packet))
     what_is_given behind packet =
         let p = staging Behind code in
-        let ranged : IsRanged p l.numbering = subst (λ (s : Side). IsRanged (staging s code) l.numbering) behind (ranged_of code l is) in
+        let ranged : IsRanged p l.numbering = rw behind at (ranged_of code l is) in
         begins_with p l.numbering ranged registers packet placed (what_is_needed behind)
 
     module _ (told : Told) (safe : KeepsTables code told) (packet : Packet) where

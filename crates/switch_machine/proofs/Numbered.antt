@@ -168,19 +168,13 @@ module _ (ranges : List ValueRange) (reads : Reading) (tables : Store) (packet :
   -- the values that are given numbers are those that are written
   first_values_are : (range : ValueRange) (given : List ℕ) (k : ℕ) → map (λ (p : ℕ × ℕ). p.0) (first_gives range given k) ≡ range_with_len range.first k
   first_values_are range given zero = refl
-  first_values_are range given (suc k) =
-      map-append (λ (p : ℕ × ℕ). p.0) (first_gives range given k) ((range.first + k, slice_index given k) ∷ [])
-      ∙ ap (λ (rest : List ℕ). rest ++ (range.first + k) ∷ []) (first_values_are range given k)
-      ∙ sym (range_pushed range.first k)
+  first_values_are range given (suc k) = rw (map-append, first_values_are range given k) (sym (range_pushed range.first k))
 
   pub writes_are : (ss : List Step) → map (λ (p : ℕ × ℕ). p.0) (stage_gives ranges ss reads tables packet) ≡ stage_writes ranges ss
   writes_are [] = refl
   writes_are (s ∷ ss) =
       let range = range_at ranges s.instruction in
-      let given = results reads false tables packet s.work in
-      map-append (λ (p : ℕ × ℕ). p.0) (gives range given) (stage_gives ranges ss reads tables packet)
-      ∙ ap (λ (front : List ℕ). front ++ map (λ (p : ℕ × ℕ). p.0) (stage_gives ranges ss reads tables packet)) (first_values_are range given range.count)
-      ∙ ap (λ (rest : List ℕ). values range ++ rest) (writes_are ss)
+      rw (map-append, first_values_are range (results reads false tables packet s.work) range.count, writes_are ss)
 
   -- a number that some instructions give a value is the one that the value is given
   abbrev pub IsRight : List Step → ℕ × ℕ → Type 0

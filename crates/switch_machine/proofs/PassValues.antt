@@ -151,10 +151,7 @@ one_later false s n = refl
 
 results_at : (s : Step) (t n : ℕ) → writes_at (results_of s n) t ≡ cond (s.stage == t) (range_with_len s.first n) []
 results_at s t zero = cond_both (s.stage == t) [] [] (λ (ns : List ℕ). [] ≡ ns) (λ here. refl) (λ other. refl)
-results_at s t (suc n) =
-    writes_two t (results_of s n) (value_at s n ∷ [])
-    ∙ ap (λ (ns : List ℕ). ns ++ map (λ (w : Written). w.number) (cond (s.stage == t) (value_at s n ∷ []) [])) (results_at s t n)
-    ∙ one_later (s.stage == t) s n
+results_at s t (suc n) = rw (writes_two t (results_of s n) (value_at s n ∷ []), results_at s t n) (one_later (s.stage == t) s n)
 
 -- what is handed is written at first, and nothing of it later
 handed_at : (handed : List Crossing) → writes_at (handed_in handed) 0 ≡ numbers_in handed
@@ -365,10 +362,7 @@ module _ (p : Staging) (ranges : List ValueRange) (ranged : IsRanged p ranges) w
   stage_is : (ss : List Step) → ((s : Step) → Has ss s → Has all_steps s) → (t : ℕ) → writes_at (written_by p.tables ss) t ≡ stage_writes ranges (of_stage t ss)
   stage_is [] among t = refl
   stage_is (s ∷ ss) among t =
-      writes_two t (results_of s n) (written_by p.tables ss)
-      ∙ ap (λ (ns : List ℕ). writes_at (results_of s n) t ++ ns) (stage_is ss (λ u h. among u (inr h)) t)
-      ∙ ap (λ (ns : List ℕ). ns ++ stage_writes ranges (of_stage t ss)) (results_at s t n)
-      ∙ one (s.stage == t)
+      rw (writes_two t (results_of s n) (written_by p.tables ss), stage_is ss (λ u h. among u (inr h)) t, results_at s t n) (one (s.stage == t))
     where
       n : ℕ
       n = results_in p.tables s.work

@@ -1,5 +1,5 @@
 -- The instructions of a pass by place, stage by stage.
-use Rattle.std.proofs.Common.{◌≡◌, ◌∙◌, ◌<◌, ◌≤◌, ◌+◌, ◌++◌, inl, inr, ℕ, zero, suc, false, List, [], ◌∷◌, length, map, get_or, refl, sym, ap, subst, arith}
+use Rattle.std.proofs.Common.{◌≡◌, ◌∙◌, ◌<◌, ◌≤◌, ◌+◌, inl, inr, ℕ, zero, suc, false, List, [], ◌∷◌, length, map, get_or, refl, sym, ap, subst, arith}
 use Rattle.std.proofs.Math.ListN.{get_or-map}
 use Rattle.std.proofs.lemmas.Bool.{cases_lt}
 use Rattle.std.proofs.lemmas.List.{get_or_past, length-map, map-append}
@@ -30,9 +30,7 @@ module _ (plan : RegisterPlan) where
       → first_placed places given n ≡ by_place plan (first_gives range given n)
   first_is range given places zero at = refl
   first_is range given places (suc n) at =
-      ap (λ (ps : List (ℕ × ℕ)). ps ++ (slice_index places n, slice_index given n) ∷ []) (first_is range given places n (λ k lt. at k (omega (arith, lt))))
-      ∙ ap (λ (p : ℕ). by_place plan (first_gives range given n) ++ (p, slice_index given n) ∷ []) (at n (omega arith))
-      ∙ sym (map-append (λ (p : ℕ × ℕ). (place_in plan p.0, p.1)) (first_gives range given n) ((range.first + n, slice_index given n) ∷ []))
+      rw (first_is range given places n (λ k lt. at k (omega (arith, lt))), at n (omega arith), map-append)
 
   gives_is : (range : ValueRange) (given : List ℕ) → placed_gives (places_in plan range) given ≡ by_place plan (gives range given)
   gives_is range given =
@@ -48,14 +46,12 @@ module _ (ranges : List ValueRange) (plan : RegisterPlan) where
       ≡ by_place plan (stage_gives ranges steps (λ v. reads (place_name ranges plan v)) tables packet)
   resolved_gives [] reads tables packet = refl
   resolved_gives (s ∷ ss) reads tables packet =
-      let range = range_at ranges s.instruction in
-      let named : Reading = λ v. reads (place_name ranges plan v) in
-      let given = results named false tables packet s.work in
-      let rest = ready_gives (map (resolved ranges plan) ss) reads tables packet in
-      ap (λ (ns : List ℕ). placed_gives (places_in plan range) ns ++ rest) (renamed_results (place_name ranges plan) reads false tables packet s.work)
-      ∙ ap (λ (ps : List (ℕ × ℕ)). ps ++ rest) (gives_is plan range given)
-      ∙ ap (λ (ps : List (ℕ × ℕ)). by_place plan (gives range given) ++ ps) (resolved_gives ss reads tables packet)
-      ∙ sym (map-append (λ (p : ℕ × ℕ). (place_in plan p.0, p.1)) (gives range given) (stage_gives ranges ss named tables packet))
+      rw (
+        renamed_results (place_name ranges plan) reads false tables packet s.work,
+        gives_is plan (range_at ranges s.instruction),
+        resolved_gives ss reads tables packet,
+        map-append,
+      )
 
   resolved_can : (steps : List Step) → Each CanStep steps → Each CanReady (map (resolved ranges plan) steps)
   resolved_can [] can = tt
@@ -83,5 +79,5 @@ module _ (ranges : List ValueRange) (plan : RegisterPlan) where
       → CanAll stages
   can_all steps highest stages ready can t = elim (cases_lt t (length stages)) [
     | inl below ↦ ready.can can t (omega (arith, ready.count))
-    | inr past ↦ subst (λ (own : List ReadyStep). Each CanReady (map ready_of own)) (sym (get_or_past stages t [] past)) tt
+    | inr past ↦ rw (get_or_past stages t [] past) tt
   ]

@@ -1,9 +1,8 @@
 -- What is kept of a pass.
-use Rattle.std.proofs.Common.{◌≡◌, ◌^◌, ◌++◌, ◌||◌, ◌==◌, ◌%◌, if◌then◌else◌, ℕ, zero, suc, Bool, true, List, [], ◌∷◌, map, refl, sym, ap, ◌∙◌, inl, inr}
+use Rattle.std.proofs.Common.{◌≡◌, ◌++◌, ◌||◌, ℕ, zero, suc, Bool, true, List, [], ◌∷◌, map, refl, sym, ap, ◌∙◌, inl, inr}
 use Rattle.std.specs.List.{list_any, AllByRecursion as Each}
 use Rattle.std.proofs.lemmas.Bool.{or_left, or_right}
 use Rattle.packet_fields.specs.declared.packet.Packet.{Packet}
-use Rattle.packet_fields.specs.declared.verdict.Verdict.TheVariants.{Drop, Send}
 use Rattle.packet_fields.specs.Fields.{with_field}
 use Rattle.flat_ir.specs.declared.program.ValueId.{ValueId}
 use Rattle.flat_ir.specs.declared.program.Block.{Block}
@@ -101,14 +100,10 @@ alike_right r r' (x ∷ xs) ys h = alike_right r r' xs ys h.1
 
 fields_same : (r r' : Reading) (ws : List FieldValue) → Alike r r' (map (λ (w : FieldValue). w.value) ws) → (bytes : List ℕ) → with_writes ws r bytes ≡ with_writes ws r' bytes
 fields_same r r' [] h bytes = refl
-fields_same r r' (w ∷ ws) h bytes =
-    ap (λ n. with_writes ws r (with_field bytes w.field n)) h.0 ∙ fields_same r r' ws h.1 (with_field bytes w.field (r' w.value))
+fields_same r r' (w ∷ ws) h bytes = rw (h.0, fields_same r r' ws h.1 (with_field bytes w.field (r' w.value)))
 
 pub sent_same : (r r' : Reading) (pass : PassCode) (packet : Packet) → Alike r r' (left_with pass) → leaves pass r packet ≡ leaves pass r' packet
-sent_same r r' pass packet h =
-    ap (λ n. if n == 0 then Drop else Send (r pass.port % 2 ^ 8) (with_writes pass.fields r packet.bytes)) h.0
-    ∙ ap (λ n. if r' pass.send == 0 then Drop else Send (n % 2 ^ 8) (with_writes pass.fields r packet.bytes)) h.1.0
-    ∙ ap (λ bytes. if r' pass.send == 0 then Drop else Send (r' pass.port % 2 ^ 8) bytes) (fields_same r r' pass.fields h.1.1 packet.bytes)
+sent_same r r' pass packet h = rw (h.0, h.1.0, fields_same r r' pass.fields h.1.1 packet.bytes)
 
 -- a program with these blocks
 abbrev with_blocks : List Block → Program

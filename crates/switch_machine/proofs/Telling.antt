@@ -1,18 +1,30 @@
 -- What the calls of a switch in memory over packets leave, as a port tells it.
-use Rattle.std.proofs.Common.{◌≡◌, ◌∙◌, ◌++◌, [], if◌then◌else◌, ℕ, suc, Bool, true, false, IfOk, List, Option, Some, None, Result, Ok, Err, refl, sym, ap, subst, arith}
-use Rattle.std.specs.Prelude.{nat_lt, IsErrAnd, IsSome}
-use Rattle.std.proofs.lemmas.Bool.{true≢false}
+use Rattle.std.proofs.Common.{◌≡◌, ◌≢◌, ◌∙◌, ◌==◌, ℕ, Option, Some, None, refl, sym, ap, subst, ◌++◌, [], append-nil, if◌then◌else◌, suc, Bool, true, false, IfOk}
+use Rattle.std.proofs.Common.{List, Result, Ok, Err, arith}
+use Rattle.std.specs.Prelude.{IsSome, nat_lt, IsErrAnd}
+use Rattle.std.proofs.lemmas.Bool.{cond-false, cond-true, eq-eqb, false≢true, ne_eqb, true≢false}
 use Rattle.std.proofs.lemmas.Option.{same_Some}
+use Rattle.switch_ir.specs.Code.{code_of, Code}
+use Rattle.switch_ir.specs.Tables.{Told}
+use Rattle.switch_ir.specs.UnderWay.{Passes, PassState, UnderWay, BegunDown, BegunUp, EndsDownAtOnce, EndsUpAtOnce, EndsWith, GoesDown, GoesUp, HasEntered, HasGoneOn}
+use Rattle.switch_ir.specs.UnderWay.{LeavesDown, LeavesUp, OthersStay}
+use Rattle.switch_machine.specs.declared.loaded.Loaded.{Loaded}
+use Rattle.switch_machine.specs.declared.sides.Side.{Side}
+use Rattle.switch_machine.specs.declared.sides.Side.TheVariants.{Before, Behind}
+use Rattle.switch_machine.specs.ActivePasses.{with_pass}
+use Rattle.switch_machine.specs.Kept.{AreSafe}
+use Rattle.switch_machine.specs.Loading.{code_in}
+use Rattle.switch_machine.specs.Sides.{of_side, down_of, entry_for, is_going, side_of, up_from, IsOf}
+use Rattle.switch_machine.specs.UnderWay.{under_way, passes_on, Begins, Enters, Settles, Stages, StaysLoaded}
 use Rattle.gal_io.specs.Count.{IsCountedIf}
 use Rattle.packet_fields.specs.declared.packet.Packet.{Packet}
 use Rattle.flat_ir.specs.Blocks.{nothing, Reading}
 use Rattle.transfer_header.specs.Frames.{IsFrame}
-use Rattle.switch_ir.specs.Code.{code_of, Code}
 use Rattle.switch_ir.specs.Journal.{JournalState}
 use Rattle.switch_ir.specs.declared.journal.Entry.{Entry}
 use Rattle.switch_ir.specs.declared.journal.Entry.TheVariants as entry
 use Rattle.switch_ir.specs.declared.port.PortError.{PortError}
-use Rattle.switch_ir.specs.declared.port.PortError.TheVariants.{Failed, NoMemory}
+use Rattle.switch_ir.specs.declared.port.PortError.TheVariants.{NoMemory}
 use Rattle.switch_ir.specs.declared.port.UpEnd.{UpEnd}
 use Rattle.switch_ir.specs.declared.port.UpEnd.TheVariants as up
 use Rattle.switch_ir.specs.declared.port.DownEnd.{DownEnd}
@@ -20,24 +32,34 @@ use Rattle.switch_ir.specs.Port.{has_failed, noted, BeginsDown, BeginsUp, EndsDo
 use Rattle.switch_ir.specs.Port.{IsDownFrame, IsUpFrame, KeepsTables, OfItsParts}
 use Rattle.switch_ir.specs.Meaning.{down_given}
 use Rattle.switch_ir.specs.Staged.{post_staging, pre_staging, EndsBy, EndsDownBy}
-use Rattle.switch_ir.specs.Tables.{Told}
-use Rattle.switch_ir.specs.UnderWay.{BegunDown, BegunUp, EndsDownAtOnce, EndsUpAtOnce, EndsWith, GoesDown, GoesUp, HasEntered, HasGoneOn, LeavesDown, LeavesUp, OthersStay, Passes, PassState}
 use Rattle.switch_machine.specs.declared.calls.CallKind.{CallKind}
-use Rattle.switch_machine.specs.declared.loaded.Loaded.{Loaded}
 use Rattle.switch_machine.specs.declared.sides.Event.{Event}
-use Rattle.switch_machine.specs.declared.sides.Side.{Side}
-use Rattle.switch_machine.specs.declared.sides.Side.TheVariants.{Before, Behind}
 use Rattle.switch_machine.specs.Calls.{IsCountedAs, PassEndsAsPlanned}
-use Rattle.switch_machine.specs.ActivePasses.{with_pass}
 use Rattle.switch_machine.specs.Machine.{seen_of, MachineState}
-use Rattle.switch_machine.specs.Sides.{down_of, entry_for, is_going, of_side, side_of, up_from, IsOf}
 use Rattle.switch_machine.specs.Staging.{passes_at, with_call, EntersDown, IsTakenBy, Leaves, Takes}
-use Rattle.switch_machine.specs.UnderWay.{passes_on, under_way, Begins, Enters, Settles, Stages, StaysLoaded}
 use Rattle.switch_machine.proofs.ActivePasses.{put_and_taken}
-use Rattle.switch_machine.proofs.GoingUp.{ends_up}
-use Rattle.switch_machine.proofs.LoadedCode.{at_side}
-use Rattle.switch_machine.proofs.Machines.{at_itself, at_other, if_some}
-use Rattle.lemmas.proofs.Tests.{false_of_not_and, value_of_some}
+use Rattle.switch_machine.proofs.Ending.{ends_up}
+use Rattle.switch_machine.proofs.LoadedCode.{at_side, if_some}
+use Rattle.lemmas.proofs.Tests.{false_of_not_and, some_is, value_of_some}
+
+pub stays_safe : (loaded : Option Loaded) (a b : Loaded) (told : Told) → loaded ≡ Some a → code_of b.code ≡ code_of a.code → AreSafe (code_in loaded) told
+    → AreSafe (code_in (Some b)) told
+stays_safe loaded a b told is same safe code code_is =
+    safe code (ap code_in is ∙ ap (λ (x : Code). Some x) (sym same) ∙ code_is)
+
+-- ## Passes
+
+pub at_itself : (number : ℕ) (pass : Option PassState) (passes : Passes) → with_pass number pass passes number ≡ pass
+at_itself number pass passes = cond-true (number == number) pass (passes number) (eq-eqb number number refl)
+
+pub at_other : (number n : ℕ) (pass : Option PassState) (passes : Passes) → number ≢ n → with_pass number pass passes n ≡ passes n
+at_other number n pass passes other = cond-false (number == n) pass (passes n) (ne_eqb number n other)
+
+-- a machine with a pass under way has code
+pub loaded_with : (side : Side) (loaded : Option Loaded) (number : ℕ) → IsSome (of_side side (under_way loaded).pre (under_way loaded).post number) → IsSome (code_in loaded)
+loaded_with Before None number some = absurd (false≢true some)
+loaded_with Behind None number some = absurd (false≢true some)
+loaded_with side (Some l) number some = refl
 
 -- ## How a call ends
 
@@ -64,9 +86,8 @@ pub record IsDown (end : Result UpEnd PortError) : Type 1 where
 
 pub is_down : (end : Result UpEnd PortError) → IfOk end (IsOf Behind) → IsDown end
 is_down (Ok (up.Up frame)) of = absurd of
-is_down (Ok end) of = record { failed = refl; entries = λ _. refl; goes = λ _ h. h; begun = λ _ _ h. h; leaves = λ _ _ _ h. h; ends = λ h. h; planned = λ _ h. h }
-is_down (Err Failed) of = record { failed = refl; entries = λ _. refl; goes = λ _ h. h; begun = λ _ _ h. h; leaves = λ _ _ _ h. h; ends = λ h. h; planned = λ _ h. h }
 is_down (Err NoMemory) of = record { failed = refl; entries = λ _. refl; goes = λ _ h. h; begun = λ _ _ h. h; leaves = λ _ _ _ h. h; ends = λ h. h; planned = λ _ h. h }
+is_down end of = record { failed = refl; entries = λ _. refl; goes = λ _ h. h; begun = λ _ _ h. h; leaves = λ _ _ _ h. h; ends = λ h. h; planned = λ _ h. h }
 
 -- ## What a call leaves of the passes of a side
 
@@ -126,46 +147,56 @@ undone side code told whole number packet given end old between new h none is = 
 
 -- ## What a call leaves of the machine
 
-pub leaves_by : (e : Event) (end : Result UpEnd PortError) (s new : MachineState) (l after : Loaded) (journal : JournalState) (faults : ℕ)
-    → new ≡ record s { code = Some (code_of after.code); passes = under_way (Some after); journal = journal; faults = faults } → StaysLoaded (side_of e) l after
-    → IsTakenBy (Takes e (code_of l.code) s.tables) end (passes_on (side_of e) l) (passes_on (side_of e) after) → journal.entries ≡ s.journal.entries ++ noted (entry_for e) end
-    → journal.spare ≡ s.journal.spare → IsCountedIf (has_failed end) s.faults new.faults
-    → Leaves (side_of e) (entry_for e) (Takes e) end (record s { code = Some (code_of l.code); passes = under_way (Some l) }) new
-leaves_by e end s new l after journal faults is stays takes entries spare rises =
+module _ (e : Event) (end : Result UpEnd PortError) (old s new : MachineState) (same : s ≡ old) where
+  leaves_of : (code : Option Code) (passes : UnderWay) (journal : JournalState) (faults : ℕ)
+      → new ≡ record s { code = code; passes = passes; journal = journal; faults = faults } → code ≡ s.code
+      → of_side (side_of e) passes.post passes.pre ≡ of_side (side_of e) s.passes.post s.passes.pre
+      → journal ≡ record s.journal { entries = s.journal.entries ++ noted (entry_for e) end } → IsCountedIf (has_failed end) s.faults new.faults → IsSome s.code
+      → ((x : Code) → s.code ≡ Some x → IsTakenBy (Takes e x s.tables) end (passes_at (side_of e) s) (passes_at (side_of e) new))
+      → Leaves (side_of e) (entry_for e) (Takes e) end old new
+  leaves_of code passes journal faults is stays others noted_is rises loaded takes =
+      subst (λ (m : MachineState). Leaves (side_of e) (entry_for e) (Takes e) end m new) same (record {
+        code = ap (λ (m : MachineState). m.code) is ∙ stays;
+        tables = ap (λ (m : MachineState). m.tables) is;
+        entries = ap (λ (m : MachineState). m.journal.entries) is ∙ ap (λ (j : JournalState). j.entries) noted_is;
+        spare = ap (λ (m : MachineState). m.journal.spare) is ∙ ap (λ (j : JournalState). j.spare) noted_is;
+        faults = rises;
+        planned = ap (λ (m : MachineState). m.planned) is;
+        calls = ap (λ (m : MachineState). m.calls) is;
+        other = ap (λ (m : MachineState). of_side (side_of e) m.passes.post m.passes.pre) is ∙ others;
+        loaded = value_of_some s.code loaded;
+        takes = takes;
+      })
+
+-- one that had an answer before it was noted
+pub leaves_by : (e : Event) (end : Result UpEnd PortError) (old s : MachineState) → s ≡ old → (l after : Loaded) (journal : JournalState)
+    → s.code ≡ Some (code_of l.code) → s.passes ≡ under_way (Some l) → StaysLoaded (side_of e) l after
+    → IsTakenBy (Takes e (code_of l.code) s.tables) end (passes_on (side_of e) l) (passes_on (side_of e) after)
+    → journal ≡ record s.journal { entries = s.journal.entries ++ noted (entry_for e) end } → has_failed end ≡ false
+    → Leaves (side_of e) (entry_for e) (Takes e) end old (record s { code = Some (code_of after.code); passes = under_way (Some after); journal = journal })
+leaves_by e end old s same l after journal code_is passes_is stays takes noted_is fine =
     let side = side_of e in
+    let code : Option Code = Some (code_of after.code) in
+    let new : MachineState = record s { code = code; passes = under_way (Some after); journal = journal } in
     let Taken : Code × Passes × Passes → Type 0 = λ (x, ps, qs). IsTakenBy (Takes e x s.tables) end ps qs in
-    record {
-      code = ap (λ (m : MachineState). m.code) is ∙ ap (λ (x : Code). Some x) stays.code;
-      tables = ap (λ (m : MachineState). m.tables) is;
-      entries = ap (λ (m : MachineState). m.journal.entries) is ∙ entries;
-      spare = ap (λ (m : MachineState). m.journal.spare) is ∙ spare;
-      faults = rises;
-      planned = ap (λ (m : MachineState). m.planned) is;
-      calls = ap (λ (m : MachineState). m.calls) is;
-      other = ap (λ (m : MachineState). of_side side m.passes.post m.passes.pre) is ∙ stays.other;
-      loaded = (code_of l.code, refl);
-      takes = λ x there.
-          subst Taken (λ i. (same_Some (code_of l.code) x there i, sym (at_side side l) i, (sym (at_side side after) ∙ sym (ap (passes_at side) is)) i)) takes;
-    }
+    leaves_of e end old s new same code (under_way (Some after)) journal s.faults refl (ap (λ (x : Code). Some x) stays.code ∙ sym code_is)
+    (stays.other ∙ sym (ap (λ (u : UnderWay). of_side side u.post u.pre) passes_is)) noted_is
+    (subst (λ failed. IsCountedIf failed s.faults s.faults) (sym fine) refl) (some_is s.code (code_of l.code) code_is)
+    (λ x there.
+    let before = sym (at_side side l) ∙ sym (ap (λ (u : UnderWay). of_side side u.pre u.post) passes_is) in
+    subst Taken (λ i. (same_Some (code_of l.code) x (sym code_is ∙ there) i, before i, sym (at_side side after) i)) takes)
+
+-- one without memory leaves no entry
+pub none_noted : (old new : JournalState) → new ≡ old → new ≡ record old { entries = old.entries ++ [] }
+none_noted old new is = is ∙ ap (λ (es : List Entry). record old { entries = es }) (sym (append-nil old.entries))
 
 -- one that has no answer
-pub leaves_error : (e : Event) (error : PortError) (s new : MachineState) (journal : JournalState) (faults : ℕ) → IsSome s.code
-    → new ≡ record s { journal = journal; faults = faults } → journal.entries ≡ s.journal.entries ++ noted (entry_for e) (Err error) → journal.spare ≡ s.journal.spare
-    → IsCountedIf (has_failed {A = UpEnd} (Err error)) s.faults new.faults → Leaves (side_of e) (entry_for e) (Takes e) (Err error) s new
-leaves_error e error s new journal faults loaded is entries spare rises =
-    let side = side_of e in
-    record {
-      code = ap (λ (m : MachineState). m.code) is;
-      tables = ap (λ (m : MachineState). m.tables) is;
-      entries = ap (λ (m : MachineState). m.journal.entries) is ∙ entries;
-      spare = ap (λ (m : MachineState). m.journal.spare) is ∙ spare;
-      faults = rises;
-      planned = ap (λ (m : MachineState). m.planned) is;
-      calls = ap (λ (m : MachineState). m.calls) is;
-      other = ap (λ (m : MachineState). of_side side m.passes.post m.passes.pre) is;
-      loaded = value_of_some s.code loaded;
-      takes = λ x there. ap (λ (m : MachineState). passes_at side m) is;
-    }
+pub leaves_error : (e : Event) (error : PortError) (old s new : MachineState) → s ≡ old → (journal : JournalState) (faults : ℕ) → IsSome old.code
+    → new ≡ record s { journal = journal; faults = faults } → journal ≡ record s.journal { entries = s.journal.entries ++ noted (entry_for e) (Err error) }
+    → IsCountedIf (has_failed {A = UpEnd} (Err error)) s.faults new.faults → Leaves (side_of e) (entry_for e) (Takes e) (Err error) old new
+leaves_error e error old s new same journal faults loaded is noted_is rises =
+    leaves_of e (Err error) old s new same s.code s.passes journal faults is refl refl noted_is rises (subst (λ (m : MachineState). IsSome m.code) (sym same) loaded)
+    (λ x there. ap (passes_at (side_of e)) is)
 
 -- ## What a port tells of it
 
@@ -271,6 +302,14 @@ told_down code told whole frame (Ok (up.Finished verdict)) old new h = λ number
 told_down code told whole frame end old new h = tt
 
 -- behind the server
+module _ (end : Result UpEnd PortError) (result : Result DownEnd PortError) (is : result ≡ down_of end) (of : IfOk end (IsOf Behind)) where
+  pub planned_down : (fails : Bool) → PassEndsAsPlanned fails end → PassEndsAsPlanned fails result
+  planned_down fails h = rw is ((is_down end of).planned fails h)
+
+  pub counted_down : (call : Result UpEnd PortError → Entry) (IsTaken : Code → Told → UpEnd → Passes → Passes → Type 0) (kind : CallKind) (old new : MachineState)
+      → Leaves Behind call IsTaken end (with_call kind old) new → IsCountedAs kind (has_failed result) old new
+  counted_down call IsTaken kind old new l = rw (is, ← (is_down end of).failed) (counted_of Behind call IsTaken end kind old new l)
+
 module _ (end : Result UpEnd PortError) (result : Result DownEnd PortError) (is : result ≡ down_of end) (of : IfOk end (IsOf Behind)) (old new : MachineState) where
   abbrev down : IsDown end
   down = is_down end of
@@ -280,14 +319,6 @@ module _ (end : Result UpEnd PortError) (result : Result DownEnd PortError) (is 
 
   abbrev post_new : Passes
   post_new = new.passes.post
-
-  pub planned_down : (fails : Bool) → PassEndsAsPlanned fails end → PassEndsAsPlanned fails result
-  planned_down fails h = subst (λ (r : Result DownEnd PortError). PassEndsAsPlanned fails r) (sym is) (down.planned fails h)
-
-  pub counted_down : (call : Result UpEnd PortError → Entry) (IsTaken : Code → Told → UpEnd → Passes → Passes → Type 0) (kind : CallKind)
-      → Leaves Behind call IsTaken end (with_call kind old) new → IsCountedAs kind (has_failed result) old new
-  counted_down call IsTaken kind l =
-      subst (λ failed. IsCountedAs kind failed old new) (down.failed ∙ sym (ap (λ (r : Result DownEnd PortError). has_failed r) is)) (counted_of Behind call IsTaken end kind old new l)
 
   module _ (frame : List ℕ) (framed : IsDownFrame (seen_of old) frame) where
     frame_of : (x : Code) → old.code ≡ Some x → IsFrame 2 x.down frame

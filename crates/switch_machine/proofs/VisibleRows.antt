@@ -19,7 +19,7 @@ use Rattle.state_store.specs.Store.{Contents, key_cmp, rows_from}
 use Rattle.writeback_table.specs.Pair.{Pair, seen, visible, visible_rows, with_row, with_staged}
 use Rattle.switch_ir.specs.Port.{entry_of, AreRowsOf}
 use Rattle.switch_machine.specs.Kept.{staged_fits, KeepsRows}
-use Rattle.switch_machine.proofs.KeptRows.{none_more}
+use Rattle.switch_machine.proofs.KeptTables.{none_more}
 use Rattle.writeback_table.proofs.Laws.{what_a_lookup_sees-main, what_a_lookup_sees-others, what_a_lookup_sees-staged}
 use Rattle.lemmas.proofs.Tests.{T_first, T_second, less_not_equal}
 

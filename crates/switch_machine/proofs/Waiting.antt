@@ -1,5 +1,5 @@
 -- Results that wait until their stage is computed, and results that go into their registers at once.
-use Rattle.std.proofs.Common.{◌≡◌, ◌∙◌, ◌<◌, ◌≤◌, ◌+◌, ◌++◌, ◌==◌, ℕ, zero, suc, false, List, [], ◌∷◌, length, map, take, drop, refl, sym, ap, subst, add-one, arith, get_or, append_assoc, append-nil}
+use Rattle.std.proofs.Common.{◌≡◌, ◌∙◌, ◌<◌, ◌≤◌, ◌+◌, ◌++◌, ◌==◌, ℕ, zero, suc, false, List, [], ◌∷◌, length, map, take, drop, refl, sym, ap, subst, add-one, arith, get_or}
 use Rattle.std.specs.Prelude.{slice_index}
 use Rattle.std.proofs.lemmas.Bool.{eq-eqb, true≢false, or_parts}
 use Rattle.std.proofs.lemmas.List.{get_or-set_other, length-append, length-map, map-append, take_all, take_more}
@@ -17,7 +17,7 @@ use Rattle.switch_machine.specs.declared.ready.ReadyStep.{ReadyStep}
 use Rattle.switch_machine.specs.Ready.{all_placed, first_placed, only_numbers, paired, placed_gives, places_of, reads_at, ready_gives, ready_of, targets_of, IsDirect, Ready}
 use Rattle.transfer_header.proofs.PlacedNumbers.{placed_behind}
 use Rattle.flat_ir.proofs.Laws.{readings_that_agree-operands, readings_that_agree-results}
-use Rattle.lemmas.proofs.Lists.{drop_past, each_weaker, folded_item}
+use Rattle.lemmas.proofs.Lists.{each_weaker, folded_item}
 
 -- ## Results that wait
 
@@ -61,58 +61,12 @@ waiting_are rs reads tables packet places numbers at is =
     ∙ ap (paired (map (λ (p : ℕ × ℕ). p.0) (ready_gives rs reads tables packet))) is
     ∙ paired_again (ready_gives rs reads tables packet)
 
--- one result more waits
-pub push_more : (places given : List ℕ) (k : ℕ) (start before after : List ℕ) (number : ℕ) → before ≡ start ++ only_numbers (first_placed places given k)
-    → after ≡ before ++ number ∷ [] → number ≡ slice_index given k → after ≡ start ++ only_numbers (first_placed places given (k + 1))
-push_more places given k start before after number is more so =
-    more ∙ ap (λ (ns : List ℕ). ns ++ number ∷ []) is
-    ∙ ap (λ (n : ℕ). (start ++ only_numbers (first_placed places given k)) ++ n ∷ []) so
-    ∙ append_assoc start (only_numbers (first_placed places given k)) (slice_index given k ∷ [])
-    ∙ ap (λ (ns : List ℕ). start ++ ns) (sym (map-append (λ (p : ℕ × ℕ). p.1) (first_placed places given k) ((slice_index places k, slice_index given k) ∷ [])))
-    ∙ ap (λ (m : ℕ). start ++ only_numbers (first_placed places given m)) (sym (add-one k))
-
--- those of one instruction more wait
-pub collect_more : (reads : Reading) (tables : Store) (packet : Packet) (steps : List ReadyStep) (i : ℕ) (s : ReadyStep) (before after total : List ℕ)
-    → i < length steps → s ≡ get_or steps i s
-    → after ≡ before ++ only_numbers (placed_gives (places_of s.places) (results reads false tables packet (work_of s.kind)))
-    → before ++ only_numbers (ready_gives (map ready_of (drop i steps)) reads tables packet) ≡ total
-    → after ++ only_numbers (ready_gives (map ready_of (drop (i + 1) steps)) reads tables packet) ≡ total
-collect_more reads tables packet steps i s before after total lt is more so =
-    let one = placed_gives (places_of s.places) (results reads false tables packet (work_of s.kind)) in
-    let rest = ready_gives (map ready_of (drop (i + 1) steps)) reads tables packet in
-    ap (λ (ns : List ℕ). ns ++ only_numbers rest) more
-    ∙ append_assoc before (only_numbers one) (only_numbers rest)
-    ∙ ap (λ (ns : List ℕ). before ++ ns) (sym (map-append (λ (p : ℕ × ℕ). p.1) one rest))
-    ∙ sym (folded_item (λ ss. before ++ only_numbers (ready_gives (map ready_of ss) reads tables packet)) steps i s lt is)
-    ∙ so
-
-pub collect_all : (reads : Reading) (tables : Store) (packet : Packet) (steps : List ReadyStep) (i : ℕ) (now total : List ℕ) → length steps ≤ i
-    → now ++ only_numbers (ready_gives (map ready_of (drop i steps)) reads tables packet) ≡ total → now ≡ total
-collect_all reads tables packet steps i now total le so =
-    sym (append-nil now)
-    ∙ ap (λ (ss : List ReadyStep). now ++ only_numbers (ready_gives (map ready_of ss) reads tables packet)) (sym (drop_past steps i le))
-    ∙ so
-
 -- there is room for those of the next
 pub room_more : (steps : List ReadyStep) (i : ℕ) (s : ReadyStep) → i < length steps → s ≡ get_or steps i s
     → length (targets_of (map ready_of (drop i steps))) ≡ length (places_of s.places) + length (targets_of (map ready_of (drop (i + 1) steps)))
 room_more steps i s lt is =
     folded_item (λ ss. length (targets_of (map ready_of ss))) steps i s lt is
     ∙ length-append (places_of s.places) (targets_of (map ready_of (drop (i + 1) steps)))
-
--- the places of one instruction more
-pub targets_more : (steps : List ReadyStep) (i : ℕ) (s : ReadyStep) (before after total : List ℕ) → i < length steps → s ≡ get_or steps i s
-    → after ≡ before ++ places_of s.places → before ++ targets_of (map ready_of (drop i steps)) ≡ total
-    → after ++ targets_of (map ready_of (drop (i + 1) steps)) ≡ total
-targets_more steps i s before after total lt is more so =
-    let rest = targets_of (map ready_of (drop (i + 1) steps)) in
-    ap (λ (ns : List ℕ). ns ++ rest) more ∙ append_assoc before (places_of s.places) rest
-    ∙ sym (folded_item (λ ss. before ++ targets_of (map ready_of ss)) steps i s lt is) ∙ so
-
-pub targets_all : (steps : List ReadyStep) (i : ℕ) (now total : List ℕ) → length steps ≤ i
-    → now ++ targets_of (map ready_of (drop i steps)) ≡ total → now ≡ total
-targets_all steps i now total le so =
-    sym (append-nil now) ∙ ap (λ (ss : List ReadyStep). now ++ targets_of (map ready_of ss)) (sym (drop_past steps i le)) ∙ so
 
 -- ## Results that go into their registers at once
 
@@ -132,10 +86,6 @@ module _ (tables : Store) (packet : Packet) where
     pub direct : IsDirect written rest
     pub others : (place : ℕ) → is_among place written ≡ false → slice_index now.numbers place ≡ slice_index start.numbers place
     pub gives : all_placed now (ready_gives rest (reads_at start.numbers) tables packet) ≡ total
-
-  pub direct_first : (rest : List Ready) (start : Registers) → IsDirect [] rest
-      → StandsDirectly rest start start (all_placed start (ready_gives rest (reads_at start.numbers) tables packet))
-  direct_first rest start direct = record { written = []; direct = direct; others = λ place none. refl; gives = refl }
 
   pub direct_more : (steps : List ReadyStep) (i : ℕ) (s : ReadyStep) (start before after total : Registers) → i < length steps → s ≡ get_or steps i s
       → StandsDirectly (map ready_of (drop i steps)) start before total
@@ -159,16 +109,5 @@ module _ (tables : Store) (packet : Packet) where
             ap (λ (rs : Registers). slice_index rs.numbers place) more
             ∙ other_stays before (placed_gives places own) place (ap (is_among place) (places_are places own) ∙ parts.1)
             ∙ at.others place parts.0;
-        gives =
-            ap (λ (rs : Registers). all_placed rs (ready_gives later (reads_at start.numbers) tables packet)) more
-            ∙ ap (λ (ns : List ℕ). all_placed (all_placed before (placed_gives places ns)) (ready_gives later (reads_at start.numbers) tables packet)) same
-            ∙ sym (placed_behind before (placed_gives places (results (reads_at start.numbers) false tables packet (work_of s.kind)))
-            (ready_gives later (reads_at start.numbers) tables packet))
-            ∙ ap (λ (rs : List Ready). all_placed before (ready_gives rs (reads_at start.numbers) tables packet)) (sym ahead_is)
-            ∙ at.gives;
+        gives = rw (more, same, ← placed_behind) (rw ahead_is at at.gives);
       }
-
-  pub direct_all : (steps : List ReadyStep) (i : ℕ) (start now total : Registers) → length steps ≤ i
-      → StandsDirectly (map ready_of (drop i steps)) start now total → now ≡ total
-  direct_all steps i start now total le at =
-      ap (λ (ss : List ReadyStep). all_placed now (ready_gives (map ready_of ss) (reads_at start.numbers) tables packet)) (sym (drop_past steps i le)) ∙ at.gives

@@ -2,7 +2,7 @@
 use Rattle.std.proofs.Common.{◌≡◌, ◌∙◌, inl, inr, ◌<◌, ◌≤◌, ◌+◌, ◌++◌, ℕ, suc, false, List, [], ◌∷◌, length, map, drop, take, Some, refl, sym, ap, subst, arith, get_or, append_assoc}
 use Rattle.std.specs.List.{AllByRecursion as Each}
 use Rattle.std.specs.Prelude.{slice_get, slice_index}
-use Rattle.std.proofs.lemmas.Bool.{cases_eq, true≢false}
+use Rattle.std.proofs.lemmas.Bool.{cases_eq}
 use Rattle.std.proofs.lemmas.List.{take_more}
 use Rattle.std.proofs.lemmas.Option.{same_Some}
 use Rattle.flat_ir.specs.declared.program.ValueId.{ValueId}
@@ -13,10 +13,6 @@ use Rattle.switch_machine.specs.declared.written.Written.{Written}
 use Rattle.switch_machine.specs.Ready.{places_of, ready_of, IsDirect}
 use Rattle.switch_machine.specs.Written.{Marks}
 use Rattle.lemmas.proofs.Lists.{drop_past, folded_item}
-
--- none at first
-pub none_marked : (w : Written) → Marks [] w
-none_marked w p there lt = absurd (true≢false (sym there))
 
 -- ## What an instruction reads
 
@@ -37,9 +33,6 @@ pub record IsSoFar (rest : List ReadyStep) (all : List ReadyStep) (w : Written) 
   pub written : List ℕ
   pub marks : Marks written w
   pub direct : IsDirect written (map ready_of rest) → IsDirect [] (map ready_of all)
-
-pub so_far_first : (all : List ReadyStep) (w : Written) → IsSoFar all all w
-so_far_first all w = record { written = []; marks = none_marked w; direct = λ h. h }
 
 pub so_far_more : (steps : List ReadyStep) (i : ℕ) (s : ReadyStep) (before after : Written) → i < length steps → s ≡ get_or steps i s
     → ((places : List ℕ) → Marks places before → Each (λ (v : ValueId). is_among v.instruction places ≡ false) (operands (work_of s.kind)))

@@ -11,11 +11,7 @@ put_next : (places numbers : List ℕ) (i : ℕ) (before after total : Registers
     → after ≡ placed before (slice_index places i) (slice_index numbers i)
     → all_placed before (paired (drop i places) (drop i numbers)) ≡ total
     → all_placed after (paired (drop (i + 1) places) (drop (i + 1) numbers)) ≡ total
-put_next places numbers i before after total lt under more so =
-    ap (λ (rs : Registers). all_placed rs (paired (drop (i + 1) places) (drop (i + 1) numbers))) more
-    ∙ sym (ap (λ (ps : List ℕ). all_placed before (paired ps (slice_index numbers i ∷ drop (i + 1) numbers))) (ahead_at places i lt))
-    ∙ sym (ap (λ (ns : List ℕ). all_placed before (paired (drop i places) ns)) (ahead_at numbers i under))
-    ∙ so
+put_next places numbers i before after total lt under more so = rw more (rw (ahead_at places i lt, ahead_at numbers i under) at so)
 
 pub loop-index-preserved : goal.loop-index-preserved
 loop-index-preserved c =
@@ -25,8 +21,4 @@ loop-index-preserved c =
     (omega (arith, c.loop-index-test.true)) (omega (arith, c.loop-index-test.true, c.requires)) c.set_at.ensures c.loop-index.invariant
 
 pub returns : goal.returns
-returns c =
-    let places = c.args.places.now in
-    let numbers = c.args.numbers.now in
-    ap (λ (ps : List ℕ). all_placed c.loop-index.registers (paired ps (drop c.loop-index.index numbers))) (sym (drop_past places c.loop-index.index (omega (arith, c.loop-index-test.false))))
-    ∙ c.loop-index.invariant
+returns c = rw (drop_past c.args.places.now c.loop-index.index (omega (arith, c.loop-index-test.false))) at c.loop-index.invariant

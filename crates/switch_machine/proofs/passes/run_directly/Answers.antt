@@ -1,8 +1,9 @@
-use Rattle.std.proofs.Common.{map}
+use Rattle.std.proofs.Common.{[], map, refl}
 use Rattle.flat_ir.specs.Registers.{packet_of}
 use Rattle.switch_machine.specs.Ready.{all_placed, reads_at, ready_gives, ready_of}
-use Rattle.switch_machine.proofs.PlacedSteps.{ready_can}
-use Rattle.switch_machine.proofs.Waiting.{direct_all, direct_first, direct_more}
+use Rattle.switch_machine.proofs.Placing.{ready_can}
+use Rattle.switch_machine.proofs.Waiting.{direct_more}
+use Rattle.lemmas.proofs.Lists.{drop_past}
 use Rattle.switch_machine.proofs.passes.run_directly.Goals as goal
 
 pub run_directly-requires-clause-can : goal.run_directly-requires-clause-can
@@ -10,8 +11,7 @@ run_directly-requires-clause-can g c =
     ready_can c.args.steps.now c.loop-step.step-index c.step-item.result c.requires.can c.loop-step-test.true c.step-item.is
 
 pub loop-step-init : goal.loop-step-init
-loop-step-init g c =
-    direct_first (g.L.Lookup.seen c.args.tables.now) (packet_of c.args.arrival.now) (map ready_of c.args.steps.now) c.args.registers.now c.requires.direct
+loop-step-init g c = record { written = []; direct = c.requires.direct; others = λ place none. refl; gives = refl }
 
 pub loop-step-preserved : goal.loop-step-preserved
 loop-step-preserved g c =
@@ -25,10 +25,4 @@ loop-step-preserved g c =
     c.loop-step.invariant c.run_directly.ensures
 
 pub returns : goal.returns
-returns g c =
-    let tables = g.L.Lookup.seen c.args.tables.now in
-    let packet = packet_of c.args.arrival.now in
-    let start = c.args.registers.now in
-    direct_all tables packet c.args.steps.now c.loop-step.step-index start c.loop-step.registers
-    (all_placed start (ready_gives (map ready_of c.args.steps.now) (reads_at start.numbers) tables packet)) c.loop-step-test.false
-    c.loop-step.invariant
+returns g c = rw (drop_past c.args.steps.now c.loop-step.step-index c.loop-step-test.false) at c.loop-step.invariant.gives

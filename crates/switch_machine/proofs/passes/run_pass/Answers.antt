@@ -1,8 +1,6 @@
-use Rattle.std.proofs.Common.{◌∙◌, ◌≤◌, List, arith, length, map, refl, subst, sym, vec_capacity}
+use Rattle.std.proofs.Common.{◌∙◌, arith, refl}
 use Rattle.flat_ir.specs.Registers.{packet_of}
-use Rattle.switch_machine.specs.declared.ready.ReadyStep.{ReadyStep}
-use Rattle.switch_machine.specs.Ready.{ready_of, targets_of}
-use Rattle.switch_machine.proofs.PlacedSteps.{can_of_stage, none_placed, stage_more}
+use Rattle.switch_machine.proofs.Placing.{none_placed, stage_more}
 use Rattle.switch_machine.proofs.passes.run_pass.Goals as goal
 
 pub loop-stage-init : goal.loop-stage-init
@@ -12,14 +10,10 @@ loop-stage-init g c = record {
 }
 
 pub run_stage-requires-clause-can : goal.run_stage-requires-clause-can
-run_stage-requires-clause-can g c =
-    can_of_stage c.args.stages.now c.loop-stage.stage c.stage.result.now c.stage.ensures (c.requires.can c.loop-stage.stage)
+run_stage-requires-clause-can g c = rw c.stage.ensures (c.requires.can c.loop-stage.stage)
 
 pub run_stage-requires-clause-room : goal.run_stage-requires-clause-room
-run_stage-requires-clause-room g c =
-    let held = subst (λ (ss : List ReadyStep). length (targets_of (map ready_of ss)) ≤ vec_capacity c.args.results.now) (sym c.stage.ensures)
-    (c.requires.room c.loop-stage.stage) in
-    omega (arith, held, c.loop-stage.invariant.capacity)
+run_stage-requires-clause-room g c = rw c.stage.ensures (omega (arith, c.requires.room c.loop-stage.stage, c.loop-stage.invariant.capacity))
 
 pub loop-stage-preserved : goal.loop-stage-preserved
 loop-stage-preserved g c = record {

@@ -1,31 +1,24 @@
-use Rattle.std.proofs.Common.{◌∙◌, ◌≤◌, [], ℕ, List, ap, length, map, subst, sym, vec_capacity}
-use Rattle.std.specs.List.{AllByRecursion as Each}
+use Rattle.std.proofs.Common.{◌∙◌, ℕ, List, ap, length, map, sym}
 use Rattle.flat_ir.specs.Registers.{packet_of}
 use Rattle.switch_machine.specs.declared.ready.ReadyStep.{ReadyStep}
-use Rattle.switch_machine.specs.Ready.{all_placed, only_numbers, reads_at, ready_gives, ready_of, targets_of, CanReady, IsDirect}
+use Rattle.switch_machine.specs.Ready.{all_placed, only_numbers, reads_at, ready_gives, ready_of, targets_of}
 use Rattle.switch_machine.proofs.Waiting.{numbers_count, waiting_are}
 use Rattle.switch_machine.proofs.passes.run_stage.Goals as goal
 
 pub run_directly-requires-clause-can : goal.run_directly-requires-clause-can
-run_directly-requires-clause-can g c = subst (λ (ss : List ReadyStep). Each CanReady (map ready_of ss)) (sym c.steps.ensures) c.requires.can
+run_directly-requires-clause-can g c = rw c.steps.ensures c.requires.can
 
 pub run_directly-requires-clause-direct : goal.run_directly-requires-clause-direct
-run_directly-requires-clause-direct g c =
-    subst (λ (ss : List ReadyStep). IsDirect [] (map ready_of ss)) (sym c.steps.ensures) (c.is_direct.ensures c.if-is_direct.true)
+run_directly-requires-clause-direct g c = rw c.steps.ensures (c.is_direct.ensures c.if-is_direct.true)
 
 pub returns-then-is_direct-clause-written : goal.returns-then-is_direct-clause-written
-returns-then-is_direct-clause-written g c =
-    let registers = c.args.registers.now in
-    c.run_directly.ensures
-    ∙ ap (λ (ss : List ReadyStep). all_placed registers
-    (ready_gives (map ready_of ss) (reads_at registers.numbers) (g.L.Lookup.seen c.args.tables.now) (packet_of c.args.arrival.now))) c.steps.ensures
+returns-then-is_direct-clause-written g c = rw c.steps.ensures at c.run_directly.ensures
 
 pub collect-requires-clause-can : goal.collect-requires-clause-can
-collect-requires-clause-can g c = subst (λ (ss : List ReadyStep). Each CanReady (map ready_of ss)) (sym c.steps-2.ensures) c.requires.can
+collect-requires-clause-can g c = rw c.steps-2.ensures c.requires.can
 
 pub collect-requires-clause-room : goal.collect-requires-clause-room
-collect-requires-clause-room g c =
-    subst (λ (ss : List ReadyStep). length (targets_of (map ready_of ss)) ≤ vec_capacity c.args.results.now) (sym c.steps-2.ensures) c.requires.room
+collect-requires-clause-room g c = rw c.steps-2.ensures c.requires.room
 
 pub put_all-requires : goal.put_all-requires
 put_all-requires g c =

@@ -1,14 +1,12 @@
-use Rattle.std.proofs.Common.{refl, subst, sym}
+use Rattle.std.proofs.Common.{refl, sym}
 use Rattle.switch_ir.specs.Code.{code_of}
-use Rattle.switch_ir.specs.Sound.{CanBeRun}
-use Rattle.switch_machine.specs.Ranges.{AreOrdered}
 use Rattle.switch_machine.proofs.loaded.Loaded.new.Goals as goal
 
 pub invariant_of-result-clause-can : goal.invariant_of-result-clause-can
-invariant_of-result-clause-can c = subst CanBeRun (sym c.in_ok-copy.ensures.same) c.requires.can
+invariant_of-result-clause-can c = rw c.in_ok-copy.ensures.same c.requires.can
 
 pub invariant_of-result-clause-ordered : goal.invariant_of-result-clause-ordered
-invariant_of-result-clause-ordered c = subst AreOrdered (sym c.in_ok-copy.ensures.same) c.requires.ordered
+invariant_of-result-clause-ordered c = rw c.in_ok-copy.ensures.same c.requires.ordered
 
 pub invariant_of-result-clause-pre : goal.invariant_of-result-clause-pre
 invariant_of-result-clause-pre c = c.in_ok-before.ensures.made (code_of c.in_ok-copy.copy) (sym c.as_slice-tables.ensures) refl refl

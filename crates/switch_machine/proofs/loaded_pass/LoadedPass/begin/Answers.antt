@@ -13,7 +13,7 @@ use Rattle.switch_machine.specs.Keeping.{kept}
 use Rattle.switch_machine.specs.Numbers.{AreHeld}
 use Rattle.switch_machine.specs.Sides.{staging, EndsOn}
 use Rattle.switch_machine.specs.UnderWay.{passes_of, Enters, HasEnd}
-use Rattle.switch_machine.proofs.Crossings.{both_stay, passes_stay}
+use Rattle.switch_machine.proofs.LoadedCode.{both_stay, passes_stay}
 use Rattle.switch_machine.proofs.Ending.{at_end, going_ends, is_of, none_left, some_left}
 use Rattle.std.proofs.lemmas.Result.{IfOk-weaker}
 use Rattle.switch_machine.proofs.loaded_pass.LoadedPass.begin.Goals as goal
@@ -26,7 +26,7 @@ returns-then-whole-clause-enters c given begin =
     let marks = c.leaves_work-leaves.ensures in
     let code = code_of c.args.code.now in
     let packet = packet_of c.args.arrival.now in
-    let made = both_stay l c.run.new.self marked c.run.ensures.made marks.made in
+    let made = both_stay c.run.ensures.made marks.made in
     let reads = pass_values (staging l.side code).code given (seen_tables c.args.tables.now) packet in
     let Holds : List ValueRange × Registers × Side → Type 0 = λ (ranges, rs, s). AreHeld ranges rs reads (kept (staging s code)) in
     let held = subst Holds (λ i. (sym marks.made.ranges i, sym marks.registers i, sym made.side i)) (c.run.ensures.values code given c.requires.pass c.requires.safe begin) in
@@ -37,7 +37,7 @@ returns-then-whole-clause-enters c given begin =
     ] in
     IfOk-weaker c.end.result _ (λ end. Enters l.side code c.args.tables.now c.args.whole c.args.number packet given end (passes_of code l) (passes_of code marked))
     (λ end h. at_end l.side code c.args.tables.now c.args.whole c.args.number packet given end (passes_of code l) (passes_of code marked) h
-    (passes_stay code l marked made (marks.active ∙ c.run.ensures.active)) none)
+    (passes_stay code made (marks.active ∙ c.run.ensures.active)) none)
     (subst HasIts made.side (c.end.ensures.ends reads held))
 
 pub returns-clause-enters : goal.returns-clause-enters

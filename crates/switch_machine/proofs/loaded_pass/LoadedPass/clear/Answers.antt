@@ -1,6 +1,5 @@
-use Rattle.std.proofs.Common.{◌∙◌, ap, length, refl, subst, sym}
+use Rattle.std.proofs.Common.{◌∙◌, ap, length, refl}
 use Rattle.std.proofs.lemmas.List.{length-replicate}
-use Rattle.switch_machine.specs.ActivePasses.{active_in, AreActivePasses}
 use Rattle.switch_machine.proofs.loaded_pass.LoadedPass.clear.Goals as goal
 
 pub returns-clause-made : goal.returns-clause-made
@@ -9,5 +8,4 @@ returns-clause-made c = record { side = refl; stages = refl; ranges = refl; plan
 pub invariant_of-self-clause-are_active : goal.invariant_of-self-clause-are_active
 invariant_of-self-clause-are_active c =
     let l = c.args.self.now in
-    subst (λ n. AreActivePasses (length l.stages) n (active_in l.active))
-    (sym (ap length c.clear.ensures.numbers ∙ length-replicate (length l.registers.numbers) 0)) l.are_active
+    rw (ap length c.clear.ensures.numbers ∙ length-replicate (length l.registers.numbers) 0) l.are_active

@@ -1,16 +1,13 @@
-use Rattle.std.proofs.Common.{◌∙◌, refl, subst, sym}
+use Rattle.std.proofs.Common.{◌∙◌, refl, sym}
 use Rattle.flat_ir.specs.Registers.{packet_of}
-use Rattle.transfer_header.specs.Frames.{IsFrameOf}
 use Rattle.transfer_header.specs.Registers.{content_of, value_in}
 use Rattle.transfer_header.specs.Values.{low_bits}
 use Rattle.switch_ir.specs.Code.{code_of}
-use Rattle.switch_ir.specs.declared.port.UpEnd.TheVariants.{Finished, Up}
-use Rattle.switch_machine.specs.declared.sides.Side.{Side}
+use Rattle.switch_ir.specs.declared.port.UpEnd.TheVariants.{Finished}
 use Rattle.switch_machine.specs.Numbers.{reads_by}
-use Rattle.switch_machine.specs.Sides.{IsOf}
 use Rattle.switch_machine.proofs.Ending.{before_of, ends_on, ends_up_on, is_of, sent_on, writable_on}
 use Rattle.switch_machine.proofs.Laws.{what_goes_up_fits}
-use Rattle.switch_machine.proofs.OfSides.{ranged_of}
+use Rattle.switch_machine.proofs.LoadedCode.{ranged_of}
 use Rattle.transfer_header.proofs.Laws.{frames_of_low_bits-frame}
 use Rattle.switch_machine.proofs.loaded_pass.LoadedPass.end.Goals as goal
 
@@ -33,8 +30,8 @@ returns-then-leaves c = record {
       let is = frames_of_low_bits-frame 1 code.up c.args.number arrival.port values bytes c.ranges.number.fits c.fits.ensures c.requires.size in
       record {
         goes = refl;
-        of = subst (λ (s : Side). IsOf s (Up c.in_ok-frame.frame)) (sym (before_of l.side code (reads_by l.numbering (content_of l.registers)) left)) tt;
-        frame = (low_bits values, subst (IsFrameOf 1 code.up c.args.number arrival.port (low_bits values) bytes) (sym c.in_ok-frame.ensures.bytes) is);
+        of = rw (before_of l.side code (reads_by l.numbering (content_of l.registers)) left) tt;
+        frame = (low_bits values, rw c.in_ok-frame.ensures.bytes is);
         told = ends_up_on code l.numbering l.registers l.side c.requires.pass.can c.requires.pass.ordered (ranged_of code l c.requires.pass) left c.args.number (packet_of arrival) c.in_ok-frame.frame c.in_ok-frame.ensures.reading reads same;
       };
 }

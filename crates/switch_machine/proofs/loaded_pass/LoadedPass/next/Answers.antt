@@ -13,12 +13,11 @@ use Rattle.switch_machine.specs.Keeping.{kept}
 use Rattle.switch_machine.specs.Numbers.{AreHeld}
 use Rattle.switch_machine.specs.Sides.{staging, EndsOn}
 use Rattle.switch_machine.specs.UnderWay.{numbers_at_last, HasEnd, Steps}
-use Rattle.switch_machine.proofs.Crossings.{both_stay}
+use Rattle.switch_machine.proofs.LoadedCode.{both_stay, pass_stays}
 use Rattle.switch_machine.proofs.Ending.{going_ends, is_of}
 use Rattle.switch_machine.proofs.ActivePasses.{ended_as, shown_as}
 use Rattle.lemmas.proofs.Tests.{value_of_some}
 use Rattle.std.proofs.lemmas.Result.{IfOk-weaker}
-use Rattle.switch_machine.proofs.LoadedCode.{pass_stays}
 use Rattle.switch_machine.proofs.loaded_pass.LoadedPass.next.Goals as goal
 
 -- ## It has stages left
@@ -43,7 +42,7 @@ pub compute_last-requires-clause-last : goal.compute_last-requires-clause-last
 compute_last-requires-clause-last c = c.has_stages_left.ensures.last c.if-has_stages_left.false
 
 pub leaves_work-leaves-requires : goal.leaves_work-leaves-requires
-leaves_work-leaves-requires c = pass_stays (code_of c.args.code.now) c.args.self.now c.compute_last.new.self c.compute_last.ensures.made c.requires.pass
+leaves_work-leaves-requires c = pass_stays (code_of c.args.code.now) c.compute_last.ensures.made c.requires.pass
 
 pub returns-clause-steps : goal.returns-clause-steps
 returns-clause-steps c before told =
@@ -57,7 +56,7 @@ returns-clause-steps c before told =
     let is = shown_as p l.numbering l.registers.plan (active_in l.active) c.args.number f before there told in
     let none = le-ltb (suc before.stage) p.code.highest
     (omega (arith, ap (λ (b : PassState). b.stage) is, c.has_stages_left.ensures.last c.if-has_stages_left.false f there, c.requires.pass.ready.count)) in
-    let made = both_stay l c.compute_last.new.self c.leaves_work-leaves.new.self c.compute_last.ensures.made marks.made in
+    let made = both_stay c.compute_last.ensures.made marks.made in
     let reads = numbers_at_last code tables l f in
     let Holds : List ValueRange × Registers × Side → Type 0 = λ (ranges, rs, s). AreHeld ranges rs reads (kept (staging s code)) in
     let held = subst Holds (λ i. (sym marks.made.ranges i, sym marks.registers i, sym made.side i)) (c.compute_last.ensures.values code f c.requires.pass c.requires.safe there) in

@@ -1,18 +1,12 @@
-use Rattle.std.proofs.Common.{◌∙◌, ap, length, refl, subst, suc, sym}
-use Rattle.state_store.specs.Store.{Store}
+use Rattle.std.proofs.Common.{◌≡◌, ◌∙◌, ap, length, refl, subst, suc, sym}
 use Rattle.flat_ir.specs.Registers.{packet_of}
 use Rattle.transfer_header.specs.Registers.{Registers}
-use Rattle.switch_ir.specs.Meaning.{pass_values}
 use Rattle.switch_ir.specs.Tables.{seen_tables}
-use Rattle.switch_machine.specs.ActivePasses.{active_in, AreActivePasses}
-use Rattle.switch_machine.specs.Keeping.{kept}
 use Rattle.switch_machine.specs.Planned.{registers_at}
-use Rattle.switch_machine.specs.Ready.{placed_at, HoldResults}
+use Rattle.switch_machine.specs.Ready.{HoldResults}
 use Rattle.switch_machine.specs.Sides.{staging}
-use Rattle.switch_machine.proofs.PlacedSteps.{count_placed_at, plan_placed_at}
-use Rattle.switch_machine.proofs.StageRegisters.{held_by}
+use Rattle.switch_machine.proofs.Placing.{count_placed_at, plan_placed_at, pass_by_place}
 use Rattle.switch_machine.proofs.Laws.{a_pass_is_computed}
-use Rattle.switch_machine.proofs.Placing.{pass_by_place}
 use Rattle.switch_machine.proofs.loaded_pass.LoadedPass.run.Goals as goal
 
 pub returns-clause-made : goal.returns-clause-made
@@ -33,13 +27,10 @@ returns-clause-values c code given is safe begin =
     let p = staging l.side code in
     let told = c.args.tables.now in
     let packet = packet_of c.args.arrival.now in
-    let registers = l.registers in
-    held_by l.numbering (registers_at l.numbering p.code (seen_tables told) packet registers (suc p.code.highest)) c.run_pass.new.registers
-    (pass_values p.code given (seen_tables told) packet) (kept p)
-    (c.run_pass.ensures.written
-    ∙ ap (λ (seen : Store). placed_at l.stages seen packet registers (length l.stages)) c.as_seen.ensures
-    ∙ pass_by_place l.numbering is.plan p.code l.stages is.ready (seen_tables told) packet registers is.planned_by c.are_few.ensures.few)
-    (a_pass_is_computed code l is registers refl c.are_few.ensures.placed told safe packet given begin)
+    let done : c.run_pass.new.registers ≡ registers_at l.numbering p.code (seen_tables told) packet l.registers (suc p.code.highest) =
+    rw (c.run_pass.ensures.written, c.as_seen.ensures)
+    (pass_by_place l.numbering is.plan p.code l.stages is.ready (seen_tables told) packet l.registers is.planned_by c.are_few.ensures.few) in
+    rw done (a_pass_is_computed code l is l.registers refl c.are_few.ensures.placed told safe packet given begin)
 
 pub invariant_of-self : goal.invariant_of-self
 invariant_of-self c =
@@ -47,7 +38,6 @@ invariant_of-self c =
     record {
       can = l.can;
       room = subst (HoldResults l.stages) (sym c.run_pass.ensures.capacity) l.room;
-      are_active = subst (λ n. AreActivePasses (length l.stages) n (active_in l.active))
-          (sym (ap (λ (rs : Registers). length rs.numbers) c.run_pass.ensures.written
-          ∙ count_placed_at l.stages _ (packet_of c.args.arrival.now) l.registers (length l.stages))) l.are_active;
+      are_active = rw (ap (λ (rs : Registers). length rs.numbers) c.run_pass.ensures.written
+          ∙ count_placed_at l.stages _ (packet_of c.args.arrival.now) l.registers (length l.stages)) l.are_active;
     }

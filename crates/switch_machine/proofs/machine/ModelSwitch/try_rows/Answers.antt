@@ -1,5 +1,3 @@
-use Rattle.std.proofs.Common.{sym, subst}
-use Rattle.switch_ir.specs.Port.{AreRowsOf}
 use Rattle.switch_ir.specs.Tables.{pair_at}
 use Rattle.switch_machine.proofs.LoadedCode.{can_of}
 use Rattle.switch_machine.proofs.VisibleRows.{rows_of}
@@ -9,5 +7,5 @@ pub returns-clause-rows : goal.returns-clause-rows
 returns-clause-rows c code d is replicated =
     let tables = c.args.self.now.tables in
     let sound = (can_of c.args.self.now.loaded code is).tables c.args.object d replicated.declared in
-    subst (AreRowsOf d) (sym c.in_ok-rows.ensures)
+    rw c.in_ok-rows.ensures
     (rows_of d (pair_at tables.pairs c.args.object) ((c.args.self.now.safe code is).rows c.args.object d replicated.declared) tables.bit sound.size)

@@ -1,12 +1,11 @@
 use Rattle.std.proofs.Common.{◌≡◌, None}
 use Rattle.transfer_header.specs.Frames.{IsFrame}
 use Rattle.switch_ir.specs.Port.{OfItsParts}
-use Rattle.switch_machine.proofs.Machines.{if_some}
-use Rattle.switch_machine.specs.Machine.{fails_next}
+use Rattle.switch_machine.proofs.LoadedCode.{if_some}
+use Rattle.switch_machine.proofs.Telling.{counted_down, planned_down, begins_down}
 use Rattle.switch_machine.specs.Staging.{with_call}
 use Rattle.switch_machine.specs.Views.{machine_of}
 use Rattle.switch_machine.specs.declared.calls.CallKind.TheVariants as kind
-use Rattle.switch_machine.proofs.Telling.{counted_down, planned_down, begins_down}
 use Rattle.switch_machine.proofs.machine.ModelSwitchSwitchPort.begin_down.Goals as goal
 
 pub call-requires-clause-can : goal.call-requires-clause-can
@@ -22,11 +21,7 @@ returns-clause-begins c =
     c.requires.none
 
 pub returns-clause-plan : goal.returns-clause-plan
-returns-clause-plan c =
-    let old = machine_of c.args.self.now in
-    planned_down c.call.result c.down_end.result c.down_end.ensures c.call.ensures.side old old (fails_next old kind.BeginDown) c.call.ensures.plan
+returns-clause-plan c = planned_down c.call.result c.down_end.result c.down_end.ensures c.call.ensures.side _ c.call.ensures.plan
 
 pub returns-clause-counted : goal.returns-clause-counted
-returns-clause-counted c =
-    counted_down c.call.result c.down_end.result c.down_end.ensures c.call.ensures.side (machine_of c.args.self.now) (machine_of c.call.new.self) _ _ kind.BeginDown
-    c.call.ensures.leaves
+returns-clause-counted c = counted_down c.call.result c.down_end.result c.down_end.ensures c.call.ensures.side _ _ _ _ _ c.call.ensures.leaves

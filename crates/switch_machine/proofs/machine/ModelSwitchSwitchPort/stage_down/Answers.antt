@@ -1,10 +1,8 @@
 use Rattle.switch_machine.specs.declared.sides.Side.TheVariants.{Behind}
-use Rattle.switch_machine.proofs.Machines.{loaded_with}
-use Rattle.switch_machine.specs.Machine.{fails_next}
+use Rattle.switch_machine.proofs.Telling.{loaded_with, counted_down, planned_down, stages_down}
 use Rattle.switch_machine.specs.Staging.{with_call}
 use Rattle.switch_machine.specs.Views.{machine_of}
 use Rattle.switch_machine.specs.declared.calls.CallKind.TheVariants as kind
-use Rattle.switch_machine.proofs.Telling.{counted_down, planned_down, stages_down}
 use Rattle.switch_machine.proofs.machine.ModelSwitchSwitchPort.stage_down.Goals as goal
 
 pub call-requires-clause-loaded : goal.call-requires-clause-loaded
@@ -19,11 +17,7 @@ returns-clause-stages c =
     stages_down c.call.result c.down_end.result c.down_end.ensures c.call.ensures.side old (machine_of c.call.new.self) c.args.number c.call.ensures.leaves
 
 pub returns-clause-plan : goal.returns-clause-plan
-returns-clause-plan c =
-    let old = machine_of c.args.self.now in
-    planned_down c.call.result c.down_end.result c.down_end.ensures c.call.ensures.side old old (fails_next old kind.StageDown) c.call.ensures.plan
+returns-clause-plan c = planned_down c.call.result c.down_end.result c.down_end.ensures c.call.ensures.side _ c.call.ensures.plan
 
 pub returns-clause-counted : goal.returns-clause-counted
-returns-clause-counted c =
-    counted_down c.call.result c.down_end.result c.down_end.ensures c.call.ensures.side (machine_of c.args.self.now) (machine_of c.call.new.self) _ _ kind.StageDown
-    c.call.ensures.leaves
+returns-clause-counted c = counted_down c.call.result c.down_end.result c.down_end.ensures c.call.ensures.side _ _ _ _ _ c.call.ensures.leaves

@@ -1,8 +1,10 @@
-use Rattle.switch_machine.proofs.WrittenPlaces.{so_far_all, so_far_first, so_far_more}
+use Rattle.std.proofs.Common.{[], sym}
+use Rattle.std.proofs.lemmas.Bool.{true≢false}
+use Rattle.switch_machine.proofs.WrittenPlaces.{so_far_all, so_far_more}
 use Rattle.switch_machine.proofs.written.Written.is_direct.Goals as goal
 
 pub loop-step-init : goal.loop-step-init
-loop-step-init c = so_far_first c.args.steps.now _
+loop-step-init c = record { written = []; marks = λ place there lt. absurd (true≢false (sym there)); direct = λ h. h }
 
 pub loop-step-preserved : goal.loop-step-preserved
 loop-step-preserved c =

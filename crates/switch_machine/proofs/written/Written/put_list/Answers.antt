@@ -1,6 +1,5 @@
-use Rattle.std.proofs.Common.{◌++◌, List, ℕ, arith, refl, subst}
+use Rattle.std.proofs.Common.{arith, refl}
 use Rattle.std.proofs.lemmas.List.{take_all}
-use Rattle.switch_machine.specs.Written.{Marks}
 use Rattle.switch_machine.proofs.WrittenPlaces.{list_more}
 use Rattle.switch_machine.proofs.written.Written.put_list.Goals as goal
 
@@ -11,5 +10,4 @@ loop-place-preserved c =
 
 pub returns : goal.returns
 returns c = λ given marks.
-    subst (λ (ps : List ℕ). Marks (given ++ ps) c.loop-place.self) (take_all c.loop-place.place-index c.args.places.now (omega (arith, c.loop-place-test.false)))
-    (c.loop-place.invariant given marks)
+    rw (take_all c.loop-place.place-index c.args.places.now (omega (arith, c.loop-place-test.false))) at (c.loop-place.invariant given marks)
