@@ -1,11 +1,13 @@
 -- What is cleared between two elements: behind it every field reads as it does in the packet that was sent.
-use Rattle.std.proofs.Common.{◌≡◌, ◌≢◌, ◌⊎◌, ℕ, ◌+◌, ◌*◌, ◌<◌, ◌≤◌, ◌%◌, ◌^◌, ◌==◌, ◌||◌, ◌&&◌, Bool, true, false, cond, List, [], ◌∷◌, length, nat_le, nat_lt, refl, sym, ap, ◌∙◌, subst, arith, slice_index, slice_set, true≢false, Option, Some, None, is_some, IsSome, mod-eq_of_lt, inl, inr, ⊎_elim, eq-eqb}
+use Rattle.std.proofs.Common.{◌≡◌, ◌≢◌, ◌⊎◌, ℕ, ◌+◌, ◌*◌, ◌<◌, ◌≤◌, ◌%◌, ◌^◌, ◌==◌, ◌&&◌, Bool, true, false, cond, List, [], ◌∷◌, length, nat_le, nat_lt, refl, sym, ap, ◌∙◌, subst, arith, slice_index, true≢false, Option, Some, None, is_some, IsSome, mod-eq_of_lt, inl, inr, ⊎_elim, eq-eqb}
 use Rattle.std.specs.List.{list_any, filter}
 use Rattle.std.specs.Option.{option_map}
-use Rattle.std.proofs.lemmas.Bool.{eqb-true, cases_Bool, cases_lt, or_left, or_right}
+use Rattle.std.proofs.lemmas.Bool.{and_from, eqb-true, cases_eq, cases_lt, false_from_ne_true, or_from, or_left, or_right}
+use Rattle.std.proofs.lemmas.Map.Views.{any-filter_same}
+use Rattle.std.proofs.lemmas.Grind.{get_or-set_at}
 use Rattle.std.proofs.lemmas.Nat.{pow_pos}
 use Rattle.std.proofs.lemmas.Bool.Decides.{nat_tests}
-use Rattle.std.proofs.lemmas.List.{length-set, get_or-set_same, get_or-set_other}
+use Rattle.std.proofs.lemmas.List.{length-set, get_or-set_other}
 use Rattle.gal_bits.specs.declared.op.Op.TheVariants.{And, Eq, Lt, Select}
 use Rattle.gal_bits.specs.Operators.{value_of as operator_value}
 use Rattle.packet_fields.specs.declared.field.Field.{Field}
@@ -124,6 +126,18 @@ lost_if : (b : Bool) (w own : ℕ) → (b ≡ false → own < 2 ^ w) → cond (c
 lost_if true w own fits = mod-eq_of_lt (pow_pos w)
 lost_if false w own fits = mod-eq_of_lt (fits refl)
 
+-- ## which fields are listed
+is_listed : (fs : List Field) (g : Field) → Has g fs → list_any (λ h. field_index h == field_index g) fs ≡ true
+is_listed [] g there = absurd there
+is_listed (f ∷ fs) g there =
+    ⊎_elim (λ here. or_left (field_index f == field_index g) _ (eq-eqb (field_index f) (field_index g) (ap field_index here)))
+    (λ later. or_right (field_index f == field_index g) _ (is_listed fs g later)) there
+
+pub listed : (is : Field → Bool) (fs : List Field) (g : Field)
+    → list_any (λ h. field_index h == field_index g) (filter is fs) ≡ (is g && list_any (λ h. field_index h == field_index g) fs)
+listed is fs g =
+    any-filter_same (λ (h : Field). field_index h == field_index g) is (is g) (λ h e. ap is (same_index h g (eqb-true (field_index h) (field_index g) e))) fs
+
 -- ## one element behind another
 -- bytes that an element was sent, whose fields were written with these values, and which come to this port
 module _ (widths : List ℕ) (whole : Packet) (is_set : Field → Bool) (only : (f : Field) → is_set f ≡ true → (row f).writable ≡ true) (values : List ℕ) (port : ℕ)
@@ -160,26 +174,12 @@ module _ (widths : List ℕ) (whole : Packet) (is_set : Field → Bool) (only : 
   there_reads f false is there other unset = unset refl ∙ fixed_reads f is other
 
   never_set : (f : Field) → (row f).writable ≡ false → is_set f ≡ false
-  never_set f never = ⊎_elim (λ e. absurd (true≢false (sym (only f e) ∙ never))) (λ e. e) (cases_Bool (is_set f))
-
-  kept_first : (b : Bool) (f : Field) (fs : List Field) → (is_set f ≡ b) → b ≡ true → list_any (λ h. field_index h == field_index f) (cond b (f ∷ fs) fs) ≡ true
-  kept_first true f fs is e = ap (λ x. x || list_any (λ h. field_index h == field_index f) fs) (eq-eqb (field_index f) (field_index f) refl)
-  kept_first false f fs is e = absurd (true≢false (sym e))
-
-  kept_later : (b : Bool) (f g : Field) (fs : List Field) → list_any (λ h. field_index h == field_index g) fs ≡ true → list_any (λ h. field_index h == field_index g) (cond b (f ∷ fs) fs) ≡ true
-  kept_later true f g fs e = or_right (field_index f == field_index g) (list_any (λ h. field_index h == field_index g) fs) e
-  kept_later false f g fs e = e
-
-  pub set_is_listed : (fs : List Field) (g : Field) → Has g fs → is_set g ≡ true → list_any (λ h. field_index h == field_index g) (filter is_set fs) ≡ true
-  set_is_listed [] g there e = absurd there
-  set_is_listed (f ∷ fs) g there e = elim there [
-    | inl here ↦ subst (λ (x : Field). list_any (λ h. field_index h == field_index x) (filter is_set (f ∷ fs)) ≡ true) here
-        (kept_first (is_set f) f (filter is_set fs) refl (ap is_set here ∙ e))
-    | inr later ↦ kept_later (is_set f) f g (filter is_set fs) (set_is_listed fs g later e)
-  ]
+  never_set f never = false_from_ne_true (is_set f) (λ e. true≢false (sym (only f e) ∙ never))
 
   unlisted : (g : Field) → list_any (λ h. field_index h == field_index g) (filter is_set all_fields) ≡ false → is_set g ≡ false
-  unlisted g e = ⊎_elim (λ set. absurd (true≢false (sym (set_is_listed all_fields g (each_there g) set) ∙ e))) (λ none. none) (cases_Bool (is_set g))
+  unlisted g e =
+      false_from_ne_true (is_set g)
+      (λ set. true≢false (sym (and_from _ _ set (is_listed all_fields g (each_there g))) ∙ sym (listed is_set all_fields g) ∙ e))
 
   pub before_clearing : ((f : Field) → is_set f ≡ false → slice_index values (field_index f) ≡ field_value whole.bytes whole.port f) → Cleared (filter is_set all_fields) values
   before_clearing unset g other why = elim why [
@@ -192,7 +192,7 @@ module _ (widths : List ℕ) (whole : Packet) (is_set : Field → Bool) (only : 
   AllWritable fs = (g : Field) → list_any (λ h. field_index h == field_index g) fs ≡ true → (row g).writable ≡ true
 
   fixed_waits_not : (fs : List Field) (g : Field) → AllWritable fs → (row g).writable ≡ false → list_any (λ h. field_index h == field_index g) fs ≡ false
-  fixed_waits_not fs g may never = ⊎_elim (λ e. absurd (true≢false (sym (may g e) ∙ never))) (λ e. e) (cases_Bool (list_any (λ h. field_index h == field_index g) fs))
+  fixed_waits_not fs g may never = false_from_ne_true (list_any (λ h. field_index h == field_index g) fs) (λ e. true≢false (sym (may g e) ∙ never))
 
   flag_value : (g : Field) (b : Bool) → (row g).header ≡ Meta → meta_value (length sent) (shape_of sent) port g ≡ cond b 1 0 → reads g ≡ cond b 1 0
   flag_value g b is value = value_absent sent port g (no_place (shape_of sent) g is) ∙ value
@@ -294,34 +294,23 @@ module _ (widths : List ℕ) (whole : Packet) (is_set : Field → Bool) (only : 
 
   -- the fields that it says nothing of stay
   one_more : (f : Field) (fs : List Field) (u : State) (v : ℕ) → field_index f < 37 → length u.fields ≡ 37 → v % 2 ^ (row f).width ≡ reads f → Cleared (f ∷ fs) u.fields → Cleared fs (assigned f v u).fields
-  one_more f fs u v low all is clear g other why = by_test (field_index f == field_index g) refl
-    where
-      still : (b : Bool) → (field_index f == field_index g) ≡ b → b ≡ false → list_any (λ h. field_index h == field_index g) fs ≡ false → list_any (λ h. field_index h == field_index g) (f ∷ fs) ≡ false
-      still b e no_test none = ap (λ x. x || list_any (λ h. field_index h == field_index g) fs) (e ∙ no_test) ∙ none
-
-      by_test : (b : Bool) → (field_index f == field_index g) ≡ b → slice_index (slice_set u.fields (field_index f) (v % 2 ^ (row f).width)) (field_index g) ≡ reads g
-      by_test true e =
-          let same : f ≡ g = same_index f g (eqb-true (field_index f) (field_index g) e) in
-          ap (slice_index (slice_set u.fields (field_index f) (v % 2 ^ (row f).width))) (ap field_index (sym same))
-          ∙ get_or-set_same u.fields (field_index f) (v % 2 ^ (row f).width) 0 (omega (arith, low, all)) ∙ is ∙ ap reads same
-      by_test false e =
-          let apart : field_index g ≢ field_index f = (λ same. grind (arith, nat_tests, e, same)) in
-          get_or-set_other u.fields (field_index f) (field_index g) (v % 2 ^ (row f).width) 0 apart
-          ∙ clear g other (elim why [ inl there ↦ inl there | inr none ↦ inr (still false e refl none) ])
+  one_more f fs u v low all is clear g other why =
+      ⊎_elim
+      (λ e. get_or-set_at u.fields (field_index f) (field_index g) (v % 2 ^ (row f).width) 0 (sym e) (omega (arith, low, all)) ∙ is ∙ ap reads (same_index f g e))
+      (λ apart. get_or-set_other u.fields (field_index f) (field_index g) (v % 2 ^ (row f).width) 0 (λ e. apart (sym e))
+      ∙ clear g other (elim why [ inl there ↦ inl there | inr none ↦ inr (or_from (field_index f == field_index g) _ (grind (arith, nat_tests, apart)) none) ]))
+      (cases_eq (field_index f) (field_index g))
 
   fit_more : (f : Field) (v : ℕ) (u : State) → length u.fields ≡ 37 → v % 2 ^ (row f).width < 2 ^ (row f).width
       → ((g : Field) → (row g).writable ≡ true → slice_index u.fields (field_index g) < 2 ^ (row g).width)
       → (g : Field) → (row g).writable ≡ true → slice_index (assigned f v u).fields (field_index g) < 2 ^ (row g).width
-  fit_more f v u all small fits g may = by_test (field_index f == field_index g) refl
-    where
-      by_test : (b : Bool) → (field_index f == field_index g) ≡ b → slice_index (slice_set u.fields (field_index f) (v % 2 ^ (row f).width)) (field_index g) < 2 ^ (row g).width
-      by_test true e =
-          let same : f ≡ g = same_index f g (eqb-true (field_index f) (field_index g) e) in
-          subst (λ (x : Field). slice_index (slice_set u.fields (field_index f) (v % 2 ^ (row f).width)) (field_index x) < 2 ^ (row x).width) same
-          (subst (λ k. k < 2 ^ (row f).width) (sym (get_or-set_same u.fields (field_index f) (v % 2 ^ (row f).width) 0 (omega (arith, index-lt f, all)))) small)
-      by_test false e =
-          let apart : field_index g ≢ field_index f = (λ same. grind (arith, nat_tests, e, same)) in
-          subst (λ k. k < 2 ^ (row g).width) (sym (get_or-set_other u.fields (field_index f) (field_index g) (v % 2 ^ (row f).width) 0 apart)) (fits g may)
+  fit_more f v u all small fits g may =
+      let cut : ℕ = v % 2 ^ (row f).width in
+      ⊎_elim
+      (λ e. subst (λ k. k < 2 ^ (row g).width) (sym (get_or-set_at u.fields (field_index f) (field_index g) cut 0 (sym e) (omega (arith, index-lt f, all))))
+      (subst (λ (x : Field). cut < 2 ^ (row x).width) (same_index f g e) small))
+      (λ apart. subst (λ k. k < 2 ^ (row g).width) (sym (get_or-set_other u.fields (field_index f) (field_index g) cut 0 (λ e. apart (sym e)))) (fits g may))
+      (cases_eq (field_index f) (field_index g))
 
   unset_more : (f g : Field) (v : ℕ) (u : State) → is_set f ≡ true → is_set g ≡ false → slice_index (assigned f v u).fields (field_index g) ≡ slice_index u.fields (field_index g)
   unset_more f g v u set never =

@@ -12,7 +12,7 @@ use Rattle.lossy_replay.specs.declared.line.Line.{Line}
 use Rattle.lossy_replay.specs.declared.links.Links.{Links}
 use Rattle.lossy_replay.specs.declared.way.Way.{Way}
 use Rattle.lossy_link.proofs.Faithful.{arrived_items}
-use Rattle.lossy_replay.proofs.GoingOn.{few_more}
+use Rattle.lossy_replay.proofs.GoingOn.{few_more, ways_on}
 
 -- how many were delivered, by the link
 got_count : (line : Line) → length (link_of line).got ≡ length line.receiver.pairs
@@ -42,30 +42,12 @@ few_arrived n j l old new few was is =
 
 pub up_arrived : (n j : ℕ) (l : Linked) (links : Links) (up : Way) → AreLinks n l links → IsWay (link_step l.up (arrive j)) l.ran up
     → AreLinks (n + 1) (record l { up = link_step l.up (arrive j) }) (record links { up = up })
-up_arrived n j l links up are is = record {
-  up = is;
-  down = are.down;
-  ctl = are.ctl;
-  ctl_is = are.ctl_is;
-  ack = are.ack;
-  ack_is = are.ack_is;
-  few_up = few_arrived n j l.up links.up.line up.line are.few_up are.up.link is.link;
-  few_down = few_more n links.down.line are.few_down;
-  few_ctl = few_more n links.ctl are.few_ctl;
-  few_ack = few_more n links.ack are.few_ack;
-}
+up_arrived n j l links up are is =
+    ways_on n (n + 1) l (record l { up = link_step l.up (arrive j) }) links up links.down are (omega arith) refl refl is are.down
+    (few_arrived n j l.up links.up.line up.line are.few_up are.up.link is.link) (few_more n (n + 1) links.down.line (omega arith) are.few_down)
 
 pub down_arrived : (n j : ℕ) (l : Linked) (links : Links) (down : Way) → AreLinks n l links → IsWay (link_step l.down (arrive j)) l.taken down
     → AreLinks (n + 1) (record l { down = link_step l.down (arrive j) }) (record links { down = down })
-down_arrived n j l links down are is = record {
-  up = are.up;
-  down = is;
-  ctl = are.ctl;
-  ctl_is = are.ctl_is;
-  ack = are.ack;
-  ack_is = are.ack_is;
-  few_up = few_more n links.up.line are.few_up;
-  few_down = few_arrived n j l.down links.down.line down.line are.few_down are.down.link is.link;
-  few_ctl = few_more n links.ctl are.few_ctl;
-  few_ack = few_more n links.ack are.few_ack;
-}
+down_arrived n j l links down are is =
+    ways_on n (n + 1) l (record l { down = link_step l.down (arrive j) }) links links.up down are (omega arith) refl refl are.up is
+    (few_more n (n + 1) links.up.line (omega arith) are.few_up) (few_arrived n j l.down links.down.line down.line are.few_down are.down.link is.link)

@@ -1,5 +1,5 @@
 -- What an event gives to the links, by the course that it leaves.
-use Rattle.std.proofs.Common.{◌≡◌, ◌⊎◌, ◌+◌, ◌-◌, ℕ, true, false, List, [], ◌∷◌, ◌++◌, length, map, refl, sym, ap, ◌∙◌, subst, inl, inr, Some, None, arith}
+use Rattle.std.proofs.Common.{◌≡◌, ◌⊎◌, ◌+◌, ◌-◌, ℕ, true, false, List, [], ◌∷◌, ◌++◌, length, map, refl, sym, ap, ◌∙◌, inl, inr, Some, None, arith}
 use Rattle.std.specs.Prelude.{◌==◌, Option, slice_get}
 use Rattle.std.proofs.lemmas.Bool.{cond-false, cond-true, ne_eqb}
 use Rattle.lossy_link.specs.CommandBytes.{bytes_of}
@@ -15,9 +15,10 @@ use Rattle.replay_state.specs.Commands.{one_or_none}
 use Rattle.replay_state.specs.State.{State, seen, store_at}
 use Rattle.replay_state.specs.Step.{applies, happens, idled, let_go, may_go, step, tick}
 use Rattle.replay_course.specs.declared.course.Course.{Course}
-use Rattle.lossy_replay.specs.Linked.{World, Linked, behind, gives, given_all, let_by}
+use Rattle.lossy_replay.specs.Linked.{World, Linked, behind, gives, given_all}
 use Rattle.lossy_replay.specs.Linking.{newest, noted}
 use Rattle.lossy_replay.proofs.Giving.{none_newer, one_newer}
+use Rattle.lossy_replay.proofs.Performing.{IsAs, admits, sends, lets_go}
 
 -- a course shows the frames of a world
 pub record HasFrames (w : World) (st : State) (c : Course) : Type 0 where
@@ -92,21 +93,11 @@ pub applied_step : (setup : Setup) (a : Answers) (st : State) (event : Event) �
 applied_step setup a st event does = cond-true (applies setup st event) (happens setup a (tick st) event) (idled (tick st)) does
 
 -- the event of the schedule, and the one of the world as which it is performed
-pub has_given : (setup : Setup) (a : Answers) (l : Linked) (st : State) (event own : Event) → setup.pre_stages ≡ 0
-    → let_by l st event ≡ Some own → applies setup st own ≡ true → HasGiven event st (step setup a st own)
-has_given setup a l st Admit own none is does =
-    let same : Admit ≡ own = cc in
-    subst (λ e. GoesUp st (step setup a st e)) same
-    (admit_given setup a st (a.pre (store_at st.stores (seen st)) (length st.progress)) none
-    (ap (applies setup st) same ∙ does) refl)
-has_given setup a l st Send own none is does =
-    let same : Send ≡ own = cc in
-    subst (λ e. (step setup a st e).sent ≡ st.sent + 1) same
-    (ap (λ (s : State). s.sent) (applied_step setup a st Send (ap (applies setup st) same ∙ does)))
-has_given setup a l st (Hold j) own none is does =
-    let same : Hold j ≡ own = cc in
-    let may : applies setup st (Hold j) ≡ true = ap (applies setup st) same ∙ does in
+pub has_given : (setup : Setup) (a : Answers) (l : Linked) (st : State) {event own : Event} → IsAs l event own → setup.pre_stages ≡ 0
+    → applies setup st own ≡ true → HasGiven event st (step setup a st own)
+has_given setup a l st admits none may = admit_given setup a st (a.pre (store_at st.stores (seen st)) (length st.progress)) none may refl
+has_given setup a l st sends none may = ap (λ (s : State). s.sent) (applied_step setup a st Send may)
+has_given setup a l st (lets_go j) none may =
     let given = held_given st j _ (slice_get st.held j) may in
-    subst (λ e. (n : ℕ) × ((step setup a st e).down ≡ st.down ++ n ∷ [])) same
     (given.0, ap (λ (s : State). s.down) (applied_step setup a st (Hold j) may) ∙ given.1)
-has_given setup a l st event own none is does = tt
+has_given setup a l st kind none may = tt

@@ -9,21 +9,15 @@ use Rattle.std.proofs.lemmas.List.Elements.{filter-append}
 use Rattle.std.proofs.lemmas.List.Sorted.{searched}
 use Rattle.std.proofs.lemmas.Option.{slice_get-get_or, slice_get_within}
 use Rattle.lossy_link.specs.Link.{is_among}
+use Rattle.lossy_link.specs.Unknown.{AreRising}
 use Rattle.lossy_replay.specs.Linked.{without}
 use Rattle.lossy_replay.proofs.Apart.{AreApart, among_there}
 use Rattle.lemmas.proofs.Lists.{range_pushed}
 use Rattle.lossy_link.proofs.Among.{not_among}
+use Rattle.lossy_link.proofs.Counted.{kept_rises}
+use Rattle.lossy_link.proofs.Rising.{rising_apart as not_below, rising_from, rising_short}
 
 -- ---- rising numbers
-
-abbrev pub AreRising : ℕ → ℕ → List ℕ → Type 0
-AreRising from to [] = Unit {0}
-AreRising from to (n ∷ ns) = (from ≤ n) × (n < to) × AreRising (suc n) to ns
-
-rising_from : (a b : ℕ) (xs : List ℕ) → AreRising a b xs → (j : ℕ) → j < length xs → a ≤ get_or xs j 0
-rising_from a b [] up j inside = absurd (omega arith)
-rising_from a b (x ∷ xs) up zero inside = up.0
-rising_from a b (x ∷ xs) up (suc j) inside = omega (arith, up.0, rising_from (suc x) b xs up.2 j (omega arith))
 
 rising_order : (a b : ℕ) (xs : List ℕ) → AreRising a b xs → (i j : ℕ) → i ≤ j → j < length xs → get_or xs i 0 ≤ get_or xs j 0
 rising_order a b [] up i j before inside = absurd (omega arith)
@@ -32,27 +26,9 @@ rising_order a b (x ∷ xs) up zero (suc j) before inside = omega (arith, rising
 rising_order a b (x ∷ xs) up (suc i) zero before inside = absurd (omega arith)
 rising_order a b (x ∷ xs) up (suc i) (suc j) before inside = rising_order (suc x) b xs up.2 i j (omega arith) (omega arith)
 
-rising_lower : (a a' b : ℕ) (xs : List ℕ) → a' ≤ a → AreRising a b xs → AreRising a' b xs
-rising_lower a a' b [] le up = tt
-rising_lower a a' b (x ∷ xs) le up = (omega (arith, up.0), up.1, up.2)
-
-moved : (a b b' : ℕ) (xs : List ℕ) → b ≡ b' → AreRising a b xs → AreRising a b' xs
-moved a b b' xs same up = subst (λ (k : ℕ). AreRising a k xs) same up
-
--- what a test keeps of a range rises
-kept_rises : (p : ℕ → Bool) (a n : ℕ) → AreRising a (a + n) (filter p (range_with_len a n))
-kept_rises p a zero = tt
-kept_rises p a (suc n) =
-    let rest = moved (a + 1) ((a + 1) + n) (a + suc n) (filter p (range_with_len (a + 1) n)) (omega arith) (kept_rises p (a + 1) n) in
-    elim (p a) as (λ b. AreRising a (a + suc n) (cond b (a ∷ filter p (range_with_len (a + 1) n)) (filter p (range_with_len (a + 1) n)))) [
-      | true ↦ (omega arith, omega arith, rising_lower (a + 1) (suc a) (a + suc n) (filter p (range_with_len (a + 1) n)) (omega arith) rest)
-      | false ↦ rising_lower (a + 1) a (a + suc n) (filter p (range_with_len (a + 1) n)) (omega arith) rest
-    ]
-
 rising_apart : (a b : ℕ) (xs : List ℕ) → AreRising a b xs → AreApart xs
 rising_apart a b [] up = tt
-rising_apart a b (x ∷ xs) up =
-    (not_among xs x (λ k inside same. absurd (omega (arith, same, rising_from (suc x) b xs up.2 k inside))), rising_apart (suc x) b xs up.2)
+rising_apart a b (x ∷ xs) up = (not_below (suc x) b xs x up.2 (omega arith), rising_apart (suc x) b xs up.2)
 
 all_kept : (a n : ℕ) → filter (λ k. true) (range_with_len a n) ≡ range_with_len a n
 all_kept a zero = refl
@@ -122,10 +98,6 @@ missing_standing gone count n place search =
       | inl before ↦ absurd (omega (arith, same, at.1 k before))
       | inr behind ↦ absurd (omega (arith, same, at.2 k behind inside))
     ])
-
-rising_short : (a b : ℕ) (xs : List ℕ) → AreRising a b xs → a ≤ b → a + length xs ≤ b
-rising_short a b [] up le = omega arith
-rising_short a b (x ∷ xs) up le = omega (arith, up.0, rising_short (suc x) b xs up.2 (omega (arith, up.1)))
 
 pub few_standing : (gone : List ℕ) (count : ℕ) → length (without gone (range_with_len 0 count)) ≤ count
 few_standing gone count =
