@@ -106,7 +106,7 @@ impl Parts<'_> {
         place_expr(self.alloc, place.port, self.byte, names, expr)
     }
 
-    #[tactic(auto, using(crate::proofs::Placing::read_as))]
+    #[tactic(auto, using(crate::proofs::RenamedExprs::read_as))]
     fn exprs(&self, place: Place, names: &[u32], exprs: &[Expr]) -> Result<Vec<Expr>, NoMemory>
         ensures { IfOk result (λ made.
             expr_trees made.items ≡ all_renamed place.port names.now (expr_trees exprs.now)) }

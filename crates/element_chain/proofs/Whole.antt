@@ -42,7 +42,7 @@ use Rattle.element_chain.proofs.Sets.{set_only, set_by, sent_bytes}
 use Rattle.element_chain.proofs.Stores.{joined_set, joined_at, base_right}
 use Rattle.element_chain.proofs.Wired.{first_at, EachWire, each_of, first_of_all}
 use Rattle.element_chain.proofs.Alike.{Instance, Alike, LocalsAlike, AlikeOutcomes, do_followed}
-use Rattle.element_chain.proofs.Clearing.{eq_value, no_place, listed, clearing_leaves, before_clearing}
+use Rattle.element_chain.proofs.ClearedFields.{eq_value, no_place, listed, clearing_leaves, before_clearing}
 use Rattle.element_chain.proofs.Bodies.{ended, IsReady, do_one, body_alike}
 use Rattle.lemmas.proofs.Tests.{and_first, and_second}
 

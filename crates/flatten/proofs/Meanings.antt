@@ -36,7 +36,7 @@ use Rattle.flatten.specs.declared.place.Ending.{Ending}
 use Rattle.flatten.specs.declared.place.Ending.TheVariants.{No, Yes, Maybe}
 use Rattle.flatten.specs.declared.place.Place.{Place}
 use Rattle.flatten.specs.Flatten.{Emitted, View, At, Valued, Listed, Scoped, Merged, result_of, nought, one, nought_port, emit, give, opened, operation, same_id, merge_id, merge_option, merge_ids, merge_ended, ended_id, ends, bound, bound_to, assigned, finished, leave, constants}
-use Rattle.flatten.proofs.Forming.{whole, IsPart, step_emitted, block_opened}
+use Rattle.flatten.proofs.FormedPieces.{whole, IsPart, step_emitted, block_opened}
 use Rattle.flatten.proofs.Growth.{then_grows, emit_length, merge_ids_grow}
 use Rattle.flatten.proofs.Views.{Meets, AllHave, Agree, agree_set, have_scope}
 use Rattle.flatten.proofs.Written.{same_ids}

@@ -20,7 +20,7 @@ use Rattle.lossy_replay.specs.declared.line.Line.{Line}
 use Rattle.lossy_replay.specs.Ways.{IsWay}
 use Rattle.lossy_replay.specs.declared.links.Links.{Links}
 use Rattle.lossy_replay.specs.declared.way.Way.{Way}
-use Rattle.lossy_replay.proofs.Giving.{one_event_more}
+use Rattle.lossy_replay.proofs.CourseItems.{one_event_more}
 use Rattle.lossy_replay.proofs.Placed.{keeps_given, placed_still}
 
 pub few_more : (n m : ℕ) (line : Line) → n ≤ m → HasFew n line → HasFew m line

@@ -31,11 +31,11 @@ use Rattle.replay_course.specs.declared.course.Course.{Course}
 use Rattle.lossy_replay.specs.Linked.{Linked, behind}
 use Rattle.lossy_replay.specs.Linking.{newest, noted}
 use Rattle.lossy_replay.specs.Replay.{HasItems, frames_down, frames_in, world_by}
-use Rattle.lossy_replay.proofs.Noting.{HasFrames, applied_step, has_given, last_is, newest_up}
-use Rattle.lossy_replay.proofs.Performing.{IsAs, admits, after_event, does_next, lets_go, sends, serves, takes}
+use Rattle.lossy_replay.proofs.NotedItems.{HasFrames, applied_step, has_given, last_is, newest_up}
+use Rattle.lossy_replay.proofs.EventPerformed.{IsAs, admits, after_event, does_next, lets_go, sends, serves, takes}
 use Rattle.lemmas.proofs.Lists.{get_within, take_next, take_within}
 use Rattle.lemmas.proofs.Tests.{and_first}
-use Rattle.output_commit.proofs.Merging.{push_commands}
+use Rattle.output_commit.proofs.MergedBatches.{push_commands}
 use Rattle.replay_contracts.proofs.Asked.{none_asked}
 use Rattle.split_answers.proofs.Tells.{end_up}
 

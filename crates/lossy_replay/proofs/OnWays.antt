@@ -16,7 +16,7 @@ use Rattle.lossy_replay.specs.declared.way.Way.{Way}
 use Rattle.lossy_replay.proofs.Apart.{among_there, goes_at}
 use Rattle.lemmas.proofs.Lists.{get_past, get_pushed}
 use Rattle.lemmas.proofs.Tests.{and_first, and_second}
-use Rattle.lossy_replay.proofs.Standing.{IsFoundAt, found_standing, missing_standing, one_stands, pairs_apart, range_apart}
+use Rattle.lossy_replay.proofs.PlacesOnWays.{IsFoundAt, found_standing, missing_standing, one_stands, pairs_apart, range_apart}
 use Rattle.lossy_link.proofs.Among.{among_filter, among_push, among_range, contained}
 use Rattle.lossy_link.proofs.Faithful.{arrived_items}
 

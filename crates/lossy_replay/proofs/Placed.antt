@@ -27,10 +27,10 @@ use Rattle.lossy_replay.specs.declared.links.Links.{Links}
 use Rattle.lossy_replay.specs.declared.way.Way.{Way}
 use Rattle.lossy_replay.proofs.Apart.{filter_apart, goes_at}
 use Rattle.lossy_replay.proofs.Items.{admitted_only, entered_only, let_go_only, none_behind}
-use Rattle.lossy_replay.proofs.Noting.{applied_step, has_given}
+use Rattle.lossy_replay.proofs.NotedItems.{applied_step, has_given}
 use Rattle.lossy_replay.proofs.OnWays.{not_gone, stands_too}
-use Rattle.lossy_replay.proofs.Performing.{IsAs, admits, after_event, lets_go, serves, takes}
-use Rattle.lossy_replay.proofs.Standing.{one_stands, placed, range_apart}
+use Rattle.lossy_replay.proofs.EventPerformed.{IsAs, admits, after_event, lets_go, serves, takes}
+use Rattle.lossy_replay.proofs.PlacesOnWays.{one_stands, placed, range_apart}
 use Rattle.std.proofs.lemmas.List.Quantifiers.{position-Some}
 use Rattle.std.proofs.lemmas.Option.{slice_get-get_or, slice_get_within}
 use Rattle.lossy_link.proofs.Among.{contained}

@@ -22,8 +22,8 @@ use Rattle.lossy_replay.specs.Replay.{frame_let_go, frames_down, linked_by, sent
 use Rattle.lossy_link.specs.Sender.{unknown}
 use Rattle.lossy_link.proofs.Faithful.{arrived_items, confirmed_items, sent_items}
 use Rattle.lossy_replay.proofs.Items.{none_behind}
-use Rattle.lossy_replay.proofs.Noting.{applied_step}
-use Rattle.lossy_replay.proofs.Performing.{IsAs, is_as, lets_go}
+use Rattle.lossy_replay.proofs.NotedItems.{applied_step}
+use Rattle.lossy_replay.proofs.EventPerformed.{IsAs, is_as, lets_go}
 use Rattle.lossy_replay.proofs.Placed.{keeps_given}
 
 abbrev pub HasSentDown : Inputs → List Call → Linked → Type 0

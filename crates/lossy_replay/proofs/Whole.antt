@@ -29,7 +29,7 @@ use Rattle.lossy_replay.proofs.Placed.{takes_what_came}
 use Rattle.lemmas.proofs.Lists.{length_take_most, take_next, take_past}
 use Rattle.replay_contracts.proofs.Asked.{none_asked}
 use Rattle.replay_contracts.proofs.Laws.{a_quiet_switch_has_the_servers_tables, a_run_keeps_its_promises, a_told_replay_reports_the_run}
-use Rattle.replay_course.proofs.Reporting.{ReportsOf, kept_replay, reports_there, some_of}
+use Rattle.replay_course.proofs.ReportedState.{ReportsOf, kept_replay, reports_there, some_of}
 use Rattle.replay_state.proofs.Laws.{a_run_is_answered_by_its_calls-once as end_once}
 
 -- ---- the start

@@ -29,18 +29,18 @@ use Rattle.lossy_replay.specs.Linked.{World, Linked, first_linked, let_by, linke
 use Rattle.lossy_replay.specs.Linking.{AreLinks, ArePlaced, IsLinking, IsLinkingShort, noted}
 use Rattle.lossy_replay.specs.Replay.{linked_by, world_by, world_of}
 use Rattle.lossy_replay.specs.declared.links.Links.{Links}
-use Rattle.lossy_replay.proofs.Giving.{one_event_more}
+use Rattle.lossy_replay.proofs.CourseItems.{one_event_more}
 use Rattle.lossy_replay.proofs.GoingOn.{links_stay, placed_behind, placed_more, placed_now, stays_at, stays_in_world, told_at, ways_on}
 use Rattle.lossy_replay.proofs.Items.{GoesOn, items_on}
-use Rattle.lossy_replay.proofs.Noting.{HasFrames, has_given, noted_is}
+use Rattle.lossy_replay.proofs.NotedItems.{HasFrames, has_given, noted_is}
 use Rattle.lossy_replay.proofs.Placed.{IsPerformed, frames_stay, placed_on}
-use Rattle.lossy_replay.proofs.Performing.{after_event, is_as, performs}
+use Rattle.lossy_replay.proofs.EventPerformed.{after_event, is_as, performs}
 use Rattle.lossy_replay.proofs.SentDown.{HasSentDown, all_sent_down}
-use Rattle.replay_contracts.proofs.Going.{journal_append}
+use Rattle.replay_contracts.proofs.CallsOfEvent.{journal_append}
 use Rattle.replay_contracts.proofs.Laws.{a_replay_goes_on}
-use Rattle.replay_course.proofs.Draining.{map_length}
+use Rattle.replay_course.proofs.DrainEvents.{map_length}
 use Rattle.replay_course.proofs.Lists.{get_member}
-use Rattle.replay_course.proofs.Showing.{down_at, up_at}
+use Rattle.replay_course.proofs.ShownOutputs.{down_at, up_at}
 use Rattle.replay_course.proofs.Laws.{the_next_calls_may_be_made}
 use Rattle.replay_state.proofs.Laws.{a_run_is_answered_by_its_calls-gone as went_up, packets_are_where_they_are_told}
 use Rattle.replay_contracts.proofs.KnowingOn.{answer_stays}

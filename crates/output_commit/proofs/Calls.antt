@@ -9,8 +9,8 @@ use Rattle.output_commit.specs.Batches.{commands_in, fits, merged}
 use Rattle.output_commit.specs.Commit.{AreHeld, Commit, IsInOrder, first, batch_of, commands, visible, acknowledged, with_output, after_release}
 use Rattle.output_commit.specs.Laws.{Call, HoldsFitting, after_call, after_calls, changes_in, changes_of, one_if_any, versions_in, versions_of, IsKeptInOrder, IsSeenFromThenOn, StaysSent}
 use Rattle.output_commit.specs.Laws.Call.{hold, send, apply, acknowledge, release}
-use Rattle.output_commit.proofs.Merging.{is_merged, merged_held, push_changes, push_commands, push_held, push_take, push_versions}
-use Rattle.output_commit.proofs.Seeing.{visible_front, visible_more}
+use Rattle.output_commit.proofs.MergedBatches.{is_merged, merged_held, push_changes, push_commands, push_held, push_take, push_versions}
+use Rattle.output_commit.proofs.VisibleVersions.{visible_front, visible_more}
 use Rattle.std.proofs.lemmas.List.{length-append}
 
 -- the counts stay in order, what is seen only rises, what was sent stays, and these changes come in

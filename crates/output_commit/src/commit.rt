@@ -284,7 +284,7 @@ impl Commit {
 
     /// Lets the output at place `j` go, counted from 0 in the order in which they came, where its version is
     /// acknowledged. Those behind it close up.
-    #[tactic(auto, using(crate::proofs::Keeping::answer_goes, crate::proofs::Keeping::after_goes))]
+    #[tactic(auto, using(crate::proofs::KeptCommit::answer_goes, crate::proofs::KeptCommit::after_goes))]
     pub fn release(&mut self, j: usize) -> Release
         ensures answer { result ≡ spec.answer self.old (slice_get self.old.held j) }
         ensures after { self.new ≡ spec.after_release self.old j (slice_get self.old.held j) }

@@ -1,12 +1,12 @@
-pub mod Going
-mod Picking
-mod Reporting
+pub mod CallsOfEvent
+mod DrainPicks
+mod SeenStore
 mod Determined
 mod Formed
 pub mod Calls
 pub mod Asked
 mod OnSwitch
-mod Passing
+mod PassesOfCall
 mod PassingOn
 mod Turns
 pub mod KnowingOn

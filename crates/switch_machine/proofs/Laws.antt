@@ -20,8 +20,8 @@ use Rattle.switch_machine.specs.Planned.{BeginsWith, FitRanges, registers_at, st
 use Rattle.switch_machine.specs.Sides.{staging}
 use Rattle.switch_machine.specs.Staged.{of_stage}
 use Rattle.switch_machine.specs.Workplaces.{IsPassOf}
-use Rattle.switch_machine.proofs.Beginning.{begins_with}
-use Rattle.switch_machine.proofs.Fitting.{results_few}
+use Rattle.switch_machine.proofs.PostReads.{begins_with}
+use Rattle.switch_machine.proofs.ResultCounts.{results_few}
 use Rattle.switch_machine.proofs.InRegisters.{first_is, pass_is}
 use Rattle.switch_machine.proofs.LoadedCode.{kept_apart, ranged_of}
 use Rattle.switch_machine.proofs.PassValues.{steps_fit, IsRanged}

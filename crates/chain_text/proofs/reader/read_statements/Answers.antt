@@ -5,7 +5,7 @@ use Rattle.element_chain.specs.Wiring.{Leads, HasNoCycle}
 use Rattle.chain_text.specs.Reads.{elements_of, most_elements, IsRefused}
 use Rattle.chain_text.specs.Statements.{statements_of}
 use Rattle.chain_text.proofs.Declared.{declared_count}
-use Rattle.chain_text.proofs.Reading.{many_elements, take_error, has_a_cycle, chain_text, composable}
+use Rattle.chain_text.proofs.ReaderAnswers.{many_elements, take_error, has_a_cycle, chain_text, composable}
 use Rattle.chain_text.proofs.reader.read_statements.Goals as goal
 use Rattle.chain_text.proofs.reader.read_statements.Goals.{Else-branch}
 

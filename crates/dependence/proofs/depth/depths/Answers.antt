@@ -1,6 +1,6 @@
 use Rattle.std.proofs.Common.{◌≡◌, ◌+◌, ap, length, subst, sym, arith}
 use Rattle.flat_ir.specs.Program.{program_of, step_of}
-use Rattle.dependence.proofs.Placing.{placed, here, as_many}
+use Rattle.dependence.proofs.PlacedCode.{placed, here, as_many}
 use Rattle.dependence.proofs.Deep.{IsDepthsSoFar, depths_more, depths_done}
 use Rattle.dependence.proofs.depth.depths.Goals as goal
 

@@ -2,8 +2,8 @@ use Rattle.std.proofs.Common.{◌≡◌, ◌+◌, ◌++◌, ◌∙◌, [], true,
 use Rattle.output_commit.specs.declared.span.Span.{Span}
 use Rattle.output_commit.specs.Batches.{fits}
 use Rattle.output_commit.specs.Spans.{IsTallied, batch_in}
-use Rattle.output_commit.proofs.Beginning.{Taking, first_in, taking_behind, taking_first, taking_next, taking_none, taking_updates}
-use Rattle.output_commit.proofs.Fitting.{more_not}
+use Rattle.output_commit.proofs.BegunBatches.{Taking, first_in, taking_behind, taking_first, taking_next, taking_none, taking_updates}
+use Rattle.output_commit.proofs.FitsByCount.{more_not}
 use Rattle.output_commit.proofs.batches.take_up.Goals as goal
 
 abbrev none : Span

@@ -1,4 +1,4 @@
-use Rattle.schedule_replay.proofs.Concluding.{ended_drained, few_to_drain}
+use Rattle.schedule_replay.proofs.WholeReplay.{ended_drained, few_to_drain}
 use Rattle.schedule_replay.proofs.perform.conclude.Goals as goal
 
 pub drain-requires-clause-few : goal.drain-requires-clause-few

@@ -1,6 +1,6 @@
 use Rattle.std.proofs.lemmas.Result.{err_from_is_err_and}
 use Rattle.replay_contracts.specs.Replayer.{inputs_of}
-use Rattle.replay_course.proofs.Failing.{not_begun}
+use Rattle.replay_course.proofs.LeftByErrors.{not_begun}
 use Rattle.replay_course.proofs.Laws.{few_events_are_left-commands}
 use Rattle.schedule_replay.proofs.replayer.begin.Goals as goal
 

@@ -5,7 +5,7 @@ use Rattle.replay_contracts.specs.Replayer.{inputs_of}
 use Rattle.lossy_replay.specs.Linking.{AreLinks, noted}
 use Rattle.lossy_replay.proofs.Small.{last_named}
 use Rattle.lossy_replay.proofs.WorldOn.{fails_behind, may_call_there, not_on, world_on}
-use Rattle.lossy_replay.proofs.Performing.{not_applied, not_let}
+use Rattle.lossy_replay.proofs.EventPerformed.{not_applied, not_let}
 use Rattle.lossy_replay.proofs.links.Links.world.Goals as goal
 
 pub returns-in_default-clause-ok : goal.returns-in_default-clause-ok

@@ -1,6 +1,6 @@
 use Rattle.std.proofs.Common.{◌<◌, ◌^◌, ◌-◌, ◌∙◌, refl, sym, subst, ap, arith, length, take, drop}
 use Rattle.output_commit.specs.Spans.{AreJoined, AreTallied, first_of, total}
-use Rattle.output_commit.proofs.Beginning.{begins, few_taken, takes_here, waiting_few, waiting_joined}
+use Rattle.output_commit.proofs.BegunBatches.{begins, few_taken, takes_here, waiting_few, waiting_joined}
 use Rattle.std.proofs.lemmas.List.{take_rest}
 use Rattle.output_commit.proofs.batches.Batches.begin.Goals as goal
 

@@ -1,5 +1,5 @@
 use Rattle.std.proofs.Common.{◌≡◌, ◌++◌, ◌∷◌, [], arith, length, refl}
-use Rattle.output_commit.proofs.Beginning.{nonempty, pushes}
+use Rattle.output_commit.proofs.BegunBatches.{nonempty, pushes}
 use Rattle.output_commit.proofs.batches.Batches.push.Goals as goal
 
 pub returns-clause-ok : goal.returns-clause-ok

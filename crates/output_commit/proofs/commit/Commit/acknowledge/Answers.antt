@@ -1,6 +1,6 @@
 use Rattle.std.proofs.Common.{◌<◌, ◌+◌, ◌^◌, arith, sym, subst}
 use Rattle.output_commit.specs.Spans.{total}
-use Rattle.output_commit.proofs.Keeping.{begun_few, counted_known, less_by, visible_few}
+use Rattle.output_commit.proofs.KeptCommit.{begun_few, counted_known, less_by, visible_few}
 use Rattle.output_commit.proofs.commit.Commit.acknowledge.Goals as goal
 
 pub pass-step-requires-clause-few : goal.pass-step-requires-clause-few

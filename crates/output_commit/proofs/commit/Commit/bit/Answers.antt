@@ -2,7 +2,7 @@ use Rattle.std.proofs.Common.{◌<◌, ◌^◌, ◌∙◌, ap, sym, subst}
 use Rattle.output_commit.specs.Commit.{bit}
 use Rattle.output_commit.specs.Spans.{IsIn, bit_at, total}
 use Rattle.output_commit.proofs.Bits.{bit_placed}
-use Rattle.output_commit.proofs.Keeping.{begun_few}
+use Rattle.output_commit.proofs.KeptCommit.{begun_few}
 use Rattle.output_commit.proofs.commit.Commit.bit.Goals as goal
 
 pub bit-requires-clause-at : goal.bit-requires-clause-at

@@ -1,9 +1,9 @@
 use Rattle.std.proofs.Common.{◌≡◌, ◌∷◌, [], ◌∙◌, ap, arith, length}
 use Rattle.std.proofs.lemmas.List.{append-nil, length-append}
 use Rattle.output_commit.specs.Kept.{IsPushed, batches_in}
-use Rattle.output_commit.proofs.Keeping.{counted_push, on_err, on_ok, pop_same}
+use Rattle.output_commit.proofs.KeptCommit.{counted_push, on_err, on_ok, pop_same}
 use Rattle.output_commit.specs.Commit.{batch_len, commands}
-use Rattle.output_commit.proofs.Counting.{batch_commands, commands_total}
+use Rattle.output_commit.proofs.CommandCounts.{batch_commands, commands_total}
 use Rattle.output_commit.proofs.commit.Commit.hold.Goals as goal
 
 pub push-requires-clause-few : goal.push-requires-clause-few

@@ -1,5 +1,5 @@
 use Rattle.std.proofs.Common.{◌≤◌, arith}
-use Rattle.output_commit.proofs.Placing.{at_batch, one_within, pass_here, pass_next, pass_there}
+use Rattle.output_commit.proofs.NextPlace.{at_batch, one_within, pass_here, pass_next, pass_there}
 use Rattle.output_commit.proofs.place.Place.pass.Goals as goal
 
 pub commands-requires : goal.commands-requires

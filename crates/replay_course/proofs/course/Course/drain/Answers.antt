@@ -1,7 +1,7 @@
 use Rattle.std.proofs.Common.{arith}
-use Rattle.replay_course.proofs.Draining.{drain_room, drains_more, few_drained, has_drained, left_falls, none_drained}
+use Rattle.replay_course.proofs.DrainEvents.{drain_room, drains_more, few_drained, has_drained, left_falls, none_drained}
 use Rattle.std.proofs.lemmas.Result.{err_from_is_err_and}
-use Rattle.replay_course.proofs.Failing.{fails_behind, goes_draining}
+use Rattle.replay_course.proofs.LeftByErrors.{fails_behind, goes_draining}
 use Rattle.replay_course.proofs.course.Course.drain.Goals as goal
 
 pub loop-event-init : goal.loop-event-init

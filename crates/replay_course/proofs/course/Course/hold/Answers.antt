@@ -4,8 +4,8 @@ use Rattle.output_commit.specs.Commit.{answer}
 use Rattle.output_commit.specs.declared.output.Release.TheVariants as release
 use Rattle.run_model.specs.declared.event.Event.TheVariants as event
 use Rattle.replay_contracts.specs.Replayer.{stepped_by}
-use Rattle.replay_course.proofs.Showing.{hold_applies, hold_goes, hold_idles, idle_shown, stays}
-use Rattle.replay_course.proofs.Sounding.{idle_sound}
+use Rattle.replay_course.proofs.ShownOutputs.{hold_applies, hold_goes, hold_idles, idle_shown, stays}
+use Rattle.replay_course.proofs.SoundCourse.{idle_sound}
 use Rattle.replay_course.proofs.Unapplied.{goes_sound, left_of, release_same}
 use Rattle.replay_course.proofs.course.Course.hold.Goals as goal
 

@@ -1,5 +1,5 @@
 use Rattle.replay_contracts.specs.Replayer.{inputs_of}
-use Rattle.replay_course.proofs.Reporting.{few_fates, few_packets, reported}
+use Rattle.replay_course.proofs.ReportedState.{few_fates, few_packets, reported}
 use Rattle.replay_course.proofs.course.Course.report.Goals as goal
 
 pub run-requires-clause-few_packets : goal.run-requires-clause-few_packets

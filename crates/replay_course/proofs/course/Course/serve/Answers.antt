@@ -3,7 +3,7 @@ use Rattle.std.proofs.lemmas.Bool.{le-leb}
 use Rattle.std.proofs.lemmas.Option.{slice_get_read}
 use Rattle.run_model.specs.declared.event.Event.TheVariants as event
 use Rattle.std.proofs.lemmas.Result.{err_from_is_err_and}
-use Rattle.replay_course.proofs.Failing.{fails_there, goes_kept}
+use Rattle.replay_course.proofs.LeftByErrors.{fails_there, goes_kept}
 use Rattle.replay_course.proofs.Arms.{not_less, nothing_turned}
 use Rattle.replay_course.proofs.Serves.{commands_left, few_updates, framed_up, serve_turned, versions_left}
 use Rattle.replay_course.proofs.course.Course.serve.Goals as goal

@@ -8,7 +8,7 @@ use Rattle.replay_contracts.specs.Replayer.{inputs_of}
 use Rattle.switch_ir.specs.declared.port.DownEnd.{DownEnd}
 use Rattle.switch_ir.specs.declared.port.UpEnd.{UpEnd}
 use Rattle.replay_course.proofs.Arms.{has_down_pass, has_up_pass, nothing_turned, stage_down_ends_it, stage_down_goes_on, stage_up_ends, stage_up_goes_on}
-use Rattle.replay_course.proofs.Failing.{counts_as, fails_with}
+use Rattle.replay_course.proofs.LeftByErrors.{counts_as, fails_with}
 use Rattle.replay_course.proofs.Lists.{past_all}
 use Rattle.replay_course.proofs.course.Course.stage.Goals as goal
 

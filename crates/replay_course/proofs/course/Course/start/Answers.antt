@@ -8,8 +8,8 @@ use Rattle.std.specs.Prelude.{Ok, if◌then◌else◌}
 use Rattle.switch_ir.specs.Code.{Code}
 use Rattle.switch_ir.specs.Port.{Loads}
 use Rattle.replay_contracts.specs.Replayer.{inputs_of}
-use Rattle.replay_course.proofs.Failing.{broken_off, not_begun, not_loaded}
-use Rattle.replay_course.proofs.Going.{is_prepared, started}
+use Rattle.replay_course.proofs.LeftByErrors.{broken_off, not_begun, not_loaded}
+use Rattle.replay_course.proofs.NextEvent.{is_prepared, started}
 use Rattle.replay_course.proofs.course.Course.start.Goals as goal
 
 pub returns-clause-loads : goal.returns-clause-loads

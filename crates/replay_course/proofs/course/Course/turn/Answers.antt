@@ -4,7 +4,7 @@ use Rattle.replay_contracts.specs.Inputs.{setup_for, whole}
 use Rattle.replay_contracts.specs.Replay.{answered}
 use Rattle.replay_contracts.specs.Replayer.{inputs_of}
 use Rattle.replay_course.proofs.Arms.{counted_turned}
-use Rattle.replay_course.proofs.Turning.{at_event, fits_same}
+use Rattle.replay_course.proofs.EventsTaken.{at_event, fits_same}
 use Rattle.lemmas.proofs.Numbers.{same_within}
 use Rattle.replay_course.proofs.course.Course.turn.Goals as goal
 

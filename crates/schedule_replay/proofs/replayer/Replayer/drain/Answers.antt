@@ -1,7 +1,7 @@
 use Rattle.std.proofs.Common.{◌++◌, sym, subst}
 use Rattle.replay_contracts.specs.Replayer.{HasEmptied, inputs_of}
 use Rattle.schedule_replay.specs.Replayer.{replayer_of}
-use Rattle.schedule_replay.proofs.Playing.{drain_performs, drain_short, drain_stands, drained_more, failed_stands, few_left, has_emptied, has_failed}
+use Rattle.schedule_replay.proofs.ReplayerStates.{drain_performs, drain_short, drain_stands, drained_more, failed_stands, few_left, has_emptied, has_failed}
 use Rattle.schedule_replay.proofs.replayer.Replayer.drain.Goals as goal
 
 pub drain-requires-clause-on_its_way : goal.drain-requires-clause-on_its_way

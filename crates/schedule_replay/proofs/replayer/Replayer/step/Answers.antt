@@ -2,7 +2,7 @@ use Rattle.std.proofs.Common.{◌<◌, arith, subst, sym}
 use Rattle.run_model.specs.Sizes.{most_events}
 use Rattle.replay_contracts.specs.Replayer.{inputs_of}
 use Rattle.schedule_replay.specs.Replayer.{Replaying}
-use Rattle.schedule_replay.proofs.Playing.{failed_stands, few_left, has_failed, has_stepped, step_performs, step_stands}
+use Rattle.schedule_replay.proofs.ReplayerStates.{failed_stands, few_left, has_failed, has_stepped, step_performs, step_stands}
 use Rattle.replay_course.proofs.Laws.{the_next_calls_may_be_made}
 use Rattle.schedule_replay.proofs.replayer.Replayer.step.Goals as goal
 

@@ -4,7 +4,7 @@ use Rattle.std.proofs.lemmas.List.{length-map}
 use Rattle.flat_ir.specs.Program.{program_of, step_of}
 use Rattle.split_model.specs.Layouts.{crossing, first_results, values_below}
 use Rattle.split_model.specs.Marked.{crosses}
-use Rattle.split_model.proofs.Numbering.{values_more, layout_more, few_cross}
+use Rattle.split_model.proofs.ValueLists.{values_more, layout_more, few_cross}
 use Rattle.split_model.proofs.layouts.Crossings.layout.Goals as goal
 
 pub loop-i-preserved : goal.loop-i-preserved

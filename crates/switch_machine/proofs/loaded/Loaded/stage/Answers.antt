@@ -9,7 +9,7 @@ use Rattle.switch_machine.specs.Sides.{staging, IsOf}
 use Rattle.switch_machine.specs.UnderWay.{passes_on, Puts, Stages, Steps}
 use Rattle.lemmas.proofs.Tests.{value_of_some}
 use Rattle.switch_machine.proofs.LoadedCode.{stays_both}
-use Rattle.switch_machine.proofs.Telling.{going_is, going_left, settles_last}
+use Rattle.switch_machine.proofs.LeftByCalls.{going_is, going_left, settles_last}
 use Rattle.switch_machine.proofs.loaded.Loaded.stage.Goals as goal
 
 pub go_on-requires-clause-safe : goal.go_on-requires-clause-safe

@@ -7,7 +7,7 @@ use Rattle.switch_machine.specs.Sides.{side_of}
 use Rattle.switch_machine.specs.Staging.{Takes}
 use Rattle.switch_machine.specs.UnderWay.{passes_on}
 use Rattle.switch_machine.proofs.LoadedCode.{closed}
-use Rattle.switch_machine.proofs.Telling.{undone}
+use Rattle.switch_machine.proofs.LeftByCalls.{undone}
 use Rattle.switch_machine.proofs.loaded.Loaded.take.Goals as goal
 
 -- ## A packet that arrives

@@ -10,7 +10,7 @@ use Rattle.switch_machine.specs.Ready.{HoldResults}
 use Rattle.switch_machine.specs.Sides.{staging}
 use Rattle.switch_machine.specs.UnderWay.{held, numbers_at_last}
 use Rattle.switch_machine.proofs.ActivePasses.{placed_as, same_active_pass}
-use Rattle.switch_machine.proofs.Placing.{count_placed, plan_placed, step_by_place}
+use Rattle.switch_machine.proofs.PlacedSteps.{count_placed, plan_placed, step_by_place}
 use Rattle.switch_machine.proofs.Laws.{a_pass_ends}
 use Rattle.switch_machine.proofs.loaded_pass.LoadedPass.compute_last.Goals as goal
 

@@ -12,7 +12,7 @@ use Rattle.switch_machine.specs.Sides.{staging}
 use Rattle.switch_machine.specs.UnderWay.{held, passes_by, shown}
 use Rattle.switch_machine.proofs.ActivePasses.{entered_as, passes_changed, tried_active}
 use Rattle.std.proofs.lemmas.Result.{on_ok_weaker}
-use Rattle.switch_machine.proofs.Placing.{count_placed, plan_placed, step_by_place}
+use Rattle.switch_machine.proofs.PlacedSteps.{count_placed, plan_placed, step_by_place}
 use Rattle.switch_machine.proofs.Laws.{a_pass_enters}
 use Rattle.switch_machine.proofs.loaded_pass.LoadedPass.enter.Goals as goal
 

@@ -6,7 +6,7 @@ use Rattle.switch_ir.specs.Code.{code_of}
 use Rattle.switch_machine.specs.Numbers.{stage_gives}
 use Rattle.switch_machine.specs.Ready.{all_placed}
 use Rattle.switch_machine.specs.Staged.{of_stage}
-use Rattle.switch_machine.proofs.Placing.{count_placed, plan_placed, given_is, stage_by_place}
+use Rattle.switch_machine.proofs.PlacedSteps.{count_placed, plan_placed, given_is, stage_by_place}
 use Rattle.switch_machine.proofs.Laws.{what_is_given}
 use Rattle.switch_machine.proofs.loaded_pass.LoadedPass.give.Goals as goal
 

@@ -12,7 +12,7 @@ use Rattle.switch_machine.specs.Ready.{reads_at, ready_at, ready_gives, HoldResu
 use Rattle.switch_machine.specs.Sides.{staging}
 use Rattle.switch_machine.specs.UnderWay.{held, shown}
 use Rattle.switch_machine.proofs.ActivePasses.{gone_as, held_placed, passes_changed, placed_as, put_active, shown_as, with_update}
-use Rattle.switch_machine.proofs.Placing.{count_placed, step_by_place}
+use Rattle.switch_machine.proofs.PlacedSteps.{count_placed, step_by_place}
 use Rattle.switch_machine.proofs.Laws.{a_pass_goes_on}
 use Rattle.switch_machine.proofs.loaded_pass.LoadedPass.go_on.Goals as goal
 

@@ -14,7 +14,7 @@ use Rattle.switch_machine.specs.Numbers.{AreHeld}
 use Rattle.switch_machine.specs.Sides.{staging, EndsOn}
 use Rattle.switch_machine.specs.UnderWay.{numbers_at_last, HasEnd, Steps}
 use Rattle.switch_machine.proofs.LoadedCode.{both_stay, pass_stays}
-use Rattle.switch_machine.proofs.Ending.{going_ends, is_of}
+use Rattle.switch_machine.proofs.PassEnds.{going_ends, is_of}
 use Rattle.switch_machine.proofs.ActivePasses.{ended_as, shown_as}
 use Rattle.lemmas.proofs.Tests.{value_of_some}
 use Rattle.std.proofs.lemmas.Result.{IfOk-weaker}

@@ -5,7 +5,7 @@ use Rattle.switch_ir.specs.Tables.{seen_tables}
 use Rattle.switch_machine.specs.Planned.{registers_at}
 use Rattle.switch_machine.specs.Ready.{HoldResults}
 use Rattle.switch_machine.specs.Sides.{staging}
-use Rattle.switch_machine.proofs.Placing.{count_placed_at, plan_placed_at, pass_by_place}
+use Rattle.switch_machine.proofs.PlacedSteps.{count_placed_at, plan_placed_at, pass_by_place}
 use Rattle.switch_machine.proofs.Laws.{a_pass_is_computed}
 use Rattle.switch_machine.proofs.loaded_pass.LoadedPass.run.Goals as goal
 

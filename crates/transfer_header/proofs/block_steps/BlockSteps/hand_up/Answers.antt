@@ -3,7 +3,7 @@ use Rattle.std.specs.List.{list_any}
 use Rattle.flat_ir.specs.declared.program.Block.{Block}
 use Rattle.flat_ir.specs.Blocks.{line}
 use Rattle.transfer_header.specs.BlockSteps.{greatest}
-use Rattle.transfer_header.proofs.Sweeping.{agree, all_swept, swept, swept_low, swept_more}
+use Rattle.transfer_header.proofs.SweptBlocks.{agree, all_swept, swept, swept_low, swept_more}
 use Rattle.flat_ir.proofs.Laws.{lines_of_blocks-line}
 use Rattle.transfer_header.proofs.block_steps.BlockSteps.hand_up.Goals as goal
 
