@@ -112,7 +112,7 @@ impl Commit {
         frame: Bytes,
         updates: &Updates,
     ) -> Result<(), NoMemory>
-        requires few { length (spec.commands self.old) + length (commands_in (spec.batch_of updates.now)) < 2 ^ 32 }
+        requires few_commands { length (spec.commands self.old) + length (commands_in (spec.batch_of updates.now)) < 2 ^ 32 }
         ensures ok { OnOk result (self.new
             ≡ spec.with_output self.old (record { number = number; need = need; frame = frame }) updates.now) }
         ensures err { OnErr result (self.new ≡ self.old) }

@@ -55,7 +55,7 @@ impl Span {
 /// The command at a place among those for these changes: all changes are staged, the bit is set, all are made, the bit
 /// is cleared, and all staged keys are cleared.
 pub fn command_at(changes: &[Update], place: usize) -> Command
-    requires few { 3 * length changes.now + 2 < 2 ^ 64 }
+    requires few_changes { 3 * length changes.now + 2 < 2 ^ 64 }
     requires within { place < 3 * length changes.now + 2 }
     ensures { Some result ≡ slice_get (commands_of changes.now) place }
 {

@@ -125,7 +125,7 @@ impl Course {
     /// The next packet is admitted. The answer is the pass with which it enters.
     pub fn admit_next(&mut self) -> Result<Pass, NoMemory>
         requires events { self.old.events < 2 ^ 32 - 1 }
-        requires few { length self.old.fates.items < 2 ^ 32 }
+        requires few_fates { length self.old.fates.items < 2 ^ 32 }
         ensures pass { IfOk result (λ pass. pass ≡ pass_for self.old true (length self.old.fates.items)) }
         ensures shown { OnOk result ((s : SplitProgram) (calls : List Call) (st : State)
             → IsShown s calls st self.old → IsShown s calls (came (tick st)) self.new) }

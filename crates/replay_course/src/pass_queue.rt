@@ -91,8 +91,8 @@ impl PassQueue {
     /// The pass at place `j`, which is this one, has one stage less left.
     #[tactic(auto, using(crate::proofs::PassCounts::set_bit, std::proofs::lemmas::Option::slice_get_within))]
     pub fn take_stage(&mut self, j: usize, pass: Pass)
-        requires there { slice_get self.old j ≡ Some pass }
-        requires some { 0 < pass.left }
+        requires has_pass { slice_get self.old j ≡ Some pass }
+        requires stages_left { 0 < pass.left }
         ensures { self.new ≡ slice_set self.old j (less_one pass) }
     {
         let mut less = pass;

@@ -40,7 +40,7 @@ impl Course {
         requires split { IsSplit (program_of job.now.flat) job.now.split job.now.writeback }
         requires stages { HasFewStages job.now.split }
         requires writeback { job.now.writeback ≤ 65536 }
-        requires few { length job.now.packets * most_commands (inputs_of job.now) < 2 ^ 32 }
+        requires few_commands { length job.now.packets * most_commands (inputs_of job.now) < 2 ^ 32 }
         ensures started { IfOk result (λ course.
             HasReplayedFrom (inputs_of job.now) [] course (S.seen port.old) (S.seen port.new)) }
         ensures loads { OnOk result

@@ -26,8 +26,8 @@ returns-in_err-chain-clause-err c =
     search (rules, refused)
 
 -- how many elements there are
-pub has_cycle-requires-clause-few : goal.has_cycle-requires-clause-few
-has_cycle-requires-clause-few c =
+pub has_cycle-requires-clause-few_elements : goal.has_cycle-requires-clause-few_elements
+has_cycle-requires-clause-few_elements c =
     omega (arith, c.declarations-count.ensures, declared_count c.args.text.now c.args.statements.now, ap length c.in_ok-chain.ensures.ok.elements)
 
 pub returns-then-branch-clause-err : goal.returns-then-branch-clause-err

@@ -8,7 +8,7 @@ pub next_depth-depth-requires : goal.next_depth-depth-requires
 next_depth-depth-requires c =
     let n = c.loop-i-test.true in
     let m = ap length c.as_slice-code.ensures in
-    let few = c.requires.few in
+    let few = c.requires.few_instructions in
     λ j. let l = c.loop-i.invariant.low j in omega arith
 
 pub loop-i-preserved : goal.loop-i-preserved

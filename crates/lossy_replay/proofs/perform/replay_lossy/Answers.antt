@@ -10,8 +10,8 @@ use Rattle.replay_course.proofs.Laws.{few_events_are_left-commands}
 use Rattle.replay_course.proofs.NextEvent.{counts_behind}
 use Rattle.lossy_replay.proofs.perform.replay_lossy.Goals as goal
 
-pub start-requires-clause-few : goal.start-requires-clause-few
-start-requires-clause-few g c = few_events_are_left-commands (inputs_of c.args.job.now) c.requires.split c.requires.few_packets
+pub start-requires-clause-few_commands : goal.start-requires-clause-few_commands
+start-requires-clause-few_commands g c = few_events_are_left-commands (inputs_of c.args.job.now) c.requires.split c.requires.few_packets
 
 pub loop-event-init : goal.loop-event-init
 loop-event-init g c =

@@ -20,8 +20,8 @@ pub returns-then-shrink-clause-keeps : goal.returns-then-shrink-clause-keeps
 returns-then-shrink-clause-keeps c =
     (sound (program_of c.args.f.now) c.args.limits.now true c.in_ok-split.split c.requires.bounded.formed c.requires.in_range c.in_ok-split.ensures).keeps
 
-pub returns-then-shrink-clause-low : goal.returns-then-shrink-clause-low
-returns-then-shrink-clause-low c =
+pub returns-then-shrink-clause-few_stages : goal.returns-then-shrink-clause-few_stages
+returns-then-shrink-clause-few_stages c =
     (sound (program_of c.args.f.now) c.args.limits.now true c.in_ok-split.split c.requires.bounded.formed c.requires.in_range c.in_ok-split.ensures).low
 
 pub returns-in-Kept : goal.returns-in-Kept

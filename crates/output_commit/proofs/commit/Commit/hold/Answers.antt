@@ -6,8 +6,8 @@ use Rattle.output_commit.specs.Commit.{batch_len, commands}
 use Rattle.output_commit.proofs.CommandCounts.{batch_commands, commands_total}
 use Rattle.output_commit.proofs.commit.Commit.hold.Goals as goal
 
-pub push-requires-clause-few : goal.push-requires-clause-few
-push-requires-clause-few c =
+pub push-requires-clause-few_commands : goal.push-requires-clause-few_commands
+push-requires-clause-few_commands c =
     let t = commands_total c.self.inside.batches c.self.invariant.kept in
     let k = c.self.invariant.kept.commands in
     let e = ap (λ z. length (commands z)) c.self.view_is in

@@ -7,7 +7,7 @@ commands-requires c =
     let spans = c.args.spans.now in
     let p = c.args.self.now in
     let w = one_within spans p.batch (record { first = 0; changes = 0; versions = 0 }) (at_batch spans p c.requires.at c.requires.within) in
-    let few = c.requires.few in
+    let few = c.requires.few_commands in
     omega arith
 
 pub returns-then-self-commands-clause-stands : goal.returns-then-self-commands-clause-stands

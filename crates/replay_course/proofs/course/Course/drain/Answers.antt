@@ -11,7 +11,7 @@ pub returns-clause-drained : goal.returns-clause-drained
 returns-clause-drained g c = has_drained _ c.loop-event.count c.args.self.now c.loop-event.self _ _ c.loop-event.invariant.0 c.in_default.ensures
 
 pub step-requires-clause-events : goal.step-requires-clause-events
-step-requires-clause-events g c = few_drained _ c.loop-event.count c.args.self.now c.loop-event.self _ _ c.loop-event.invariant.0 c.loop-event.invariant.1 c.requires.few
+step-requires-clause-events g c = few_drained _ c.loop-event.count c.args.self.now c.loop-event.self _ _ c.loop-event.invariant.0 c.loop-event.invariant.1 c.requires.few_events
 
 pub step-requires-clause-may_call : goal.step-requires-clause-may_call
 step-requires-clause-may_call g c =

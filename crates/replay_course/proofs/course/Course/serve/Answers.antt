@@ -27,8 +27,8 @@ serve_frame-requires-clause-frame g c =
     (omega (arith, c.in-Some.ensures.variant.0 refl, before.ok.0)) c.in-Some.ensures.value in
     framed_up _ c.args.self.now _ c.args.j c.in-Some.number c.in-Some.frame c.requires.going here
 
-pub reserve-requires-clause-few : goal.reserve-requires-clause-few
-reserve-requires-clause-few g c = few_updates _ c.args.self.now _ c.in-Some.frame c.in_ok-served.served c.serve_frame.new.server c.requires.going c.in_ok-served.ensures
+pub reserve-requires-clause-few_updates : goal.reserve-requires-clause-few_updates
+reserve-requires-clause-few_updates g c = few_updates _ c.args.self.now _ c.in-Some.frame c.in_ok-served.served c.serve_frame.new.server c.requires.going c.in_ok-served.ensures
 
 pub hold-requires : goal.hold-requires
 hold-requires g c =

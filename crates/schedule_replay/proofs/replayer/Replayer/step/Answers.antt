@@ -34,7 +34,7 @@ returns-in-Ok-clause-performed g c = rw (← c.self.view_is) λ events now.
 pub invariant_of-self : goal.invariant_of-self
 invariant_of-self g c =
     let me = c.self.inside in
-    let few : me.steps < most_events = subst (λ (r : Replaying _). r.steps < most_events) (sym c.self.view_is) c.requires.few in
+    let few : me.steps < most_events = subst (λ (r : Replaying _). r.steps < most_events) (sym c.self.view_is) c.requires.few_events in
     step_stands (inputs_of me.job) c.args.event.now c.in-Ok.stepped
     me.course c.step.new.self (g.S.SwitchPort.seen me.port) (g.S.SwitchPort.seen c.step.new.port) me.steps me.failed c.in_default.is few
     c.in-Ok.ensures.turned c.self.invariant

@@ -34,7 +34,7 @@ returns-clause-given c =
     c.run_steps.ensures.written
     ∙ ap (all_placed registers) (given_is c.args.given.now packet c.none-none.result c.none-none.ensures c.steps.result.now (c.steps.ensures ∙ c.stage.ensures))
     ∙ stage_by_place l.numbering c.args.code.now.post.plan given 0 c.args.given.now c.requires.given [] packet registers c.requires.planned
-    c.are_few.ensures.few 0 (omega arith) nothing in
+    c.are_few.ensures.bounded 0 (omega arith) nothing in
     rw (c.requires.side, same) (what_is_given code l c.requires.pass registers refl c.are_few.ensures.placed c.requires.side packet)
 
 pub invariant_of-self-clause-are_active : goal.invariant_of-self-clause-are_active

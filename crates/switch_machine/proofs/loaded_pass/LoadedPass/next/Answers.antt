@@ -26,7 +26,7 @@ pub returns-then-has_stages_left-clause-steps : goal.returns-then-has_stages_lef
 returns-then-has_stages_left-clause-steps c before told =
     let l = c.args.self.now in
     let code = code_of c.args.code.now in
-    let f = value_of_some (active_in l.active c.args.number) c.requires.there in
+    let f = value_of_some (active_in l.active c.args.number) c.requires.has_pass in
     let is = shown_as (staging l.side code) l.numbering l.registers.plan (active_in l.active) c.args.number f.0 before f.1 told in
     record {
       goes = lt-ltb (suc before.stage) (staging l.side code).code.highest
