@@ -22,7 +22,7 @@ pub struct Batches {
     pub tally: Tally,
 }
 
-/// Those that a batch takes up: the span of all, and how many spans these are.
+/// The batches that one takes up: the span of all of them, and how many spans these are.
 #[derive(Clone, Copy, Debug)]
 pub struct Taken {
     pub span: Span,

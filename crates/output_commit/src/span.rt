@@ -30,7 +30,7 @@ impl Span {
         self.changes < step && step < 2 * self.changes + 2
     }
 
-    /// Its changes, of all.
+    /// The changes of the batch, out of those of all batches.
     pub fn of<'a>(&self, updates: &'a [Update]) -> &'a [Update]
         requires { self.now.first + self.now.changes ≤ length updates.now }
         ensures { result.now ≡ (batch_in updates.now self.now).updates }
