@@ -49,6 +49,7 @@ impl Course {
         ensures fault { IfErr result (λ e. CountsFault e (S.seen port.old) (S.seen port.new)) }
         ensures fails { IfErr result (λ e. HasBroken (inputs_of job.now) e (S.seen port.old) (S.seen port.new)) }
     {
+        // The list tells the proof that each of its packets may arrive.
         let _ = job.packets.as_slice();
         let code = emit(alloc, &job.flat, &job.split, job.writeback)?;
         port.load(alloc, &code)?;
