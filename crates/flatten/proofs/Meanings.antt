@@ -322,21 +322,21 @@ module _ (F : Program) (c : Run F) where
         pub out : val port ≡ by
         pub small : by < 2 ^ 8
 
-      abbrev pub Does : List (Option ValueId) → ValueId → ValueId → Verdict → Type 0
-      Does fields send port Drop = val send ≡ 0
-      Does fields send port (Send by now) = Leaves fields send port by now
+      abbrev pub EndsWith : List (Option ValueId) → ValueId → ValueId → Verdict → Type 0
+      EndsWith fields send port Drop = val send ≡ 0
+      EndsWith fields send port (Send by now) = Leaves fields send port by now
 
       -- the source's run has ended
       pub record Gone (st : Store) (w : View) (left : Store) (verdict : Verdict) : Type 0 where
         pub ended : val (ended_id w.ended) ≡ 1
-        pub does : Does w.fields w.send w.port verdict
+        pub does : EndsWith w.fields w.send w.port verdict
         pub store : st ≡ left
 
       abbrev pub Stands : Store → View → Outcome → Type 0
       Stands st w (Running s) = Going st w s
       Stands st w (Ended left verdict) = Gone st w left verdict
 
-      does_alike : (w w' : View) (verdict : Verdict) → Alike w w' → Does w.fields w.send w.port verdict → Does w'.fields w'.send w'.port verdict
+      does_alike : (w w' : View) (verdict : Verdict) → Alike w w' → EndsWith w.fields w.send w.port verdict → EndsWith w'.fields w'.send w'.port verdict
       does_alike w w' Drop e z = e.send 0 (lit< tt) z
       does_alike w w' (Send port bytes) e z = record {
         values = z.values;

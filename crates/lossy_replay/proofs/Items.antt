@@ -175,7 +175,7 @@ up_given setup s calls st fine n packet GoingUp ends none may is = absurd cc
 -- ---- the frames that went up
 
 -- A replay that goes on with an event of the world, and the course behind it.
-pub record GoesOn (x : Inputs) (events : List Event) (calls one : List Call) (st : State) (own : Event) (before : ℕ) (c : Course) : Type 0 where
+pub record TakesEvent (x : Inputs) (events : List Event) (calls one : List Call) (st : State) (own : Event) (before : ℕ) (c : Course) : Type 0 where
   pub plain : (setup_for x).pre_stages ≡ 0
   pub by_calls : IsAnswered (setup_for x) (whole x) x.packets events calls st
   pub before_is : before ≡ length st.up
@@ -193,7 +193,7 @@ blank command = []
 
 module _ (x : Inputs) (l : Linked) (events : List Event) (calls one : List Call) (st : State) (before : ℕ) (c : Course) where
   abbrev Goes : Event → Type 0
-  Goes own = GoesOn x events calls one st own before c
+  Goes own = TakesEvent x events calls one st own before c
 
   -- the answers of all calls, and the state behind an event
   abbrev answers : Answers

@@ -31,7 +31,7 @@ use Rattle.lossy_replay.specs.Replay.{linked_by, world_by, world_of}
 use Rattle.lossy_replay.specs.declared.links.Links.{Links}
 use Rattle.lossy_replay.proofs.CourseItems.{one_event_more}
 use Rattle.lossy_replay.proofs.GoingOn.{links_stay, placed_behind, placed_more, placed_now, stays_at, stays_in_world, told_at, ways_on}
-use Rattle.lossy_replay.proofs.Items.{GoesOn, items_on}
+use Rattle.lossy_replay.proofs.Items.{TakesEvent, items_on}
 use Rattle.lossy_replay.proofs.NotedItems.{HasFrames, has_given, noted_is}
 use Rattle.lossy_replay.proofs.Placed.{IsPerformed, frames_stay, placed_on}
 use Rattle.lossy_replay.proofs.EventPerformed.{after_event, is_as, performs}
@@ -137,7 +137,7 @@ world_on x schedule event own links next c after old new stepped linking turned 
     ∙ (ap (λ (m : Linked). linked_step setup (world_by x (calls ++ more)) m (InWorld event))
     (ap (λ (cs : List Call). linked_by x cs schedule) (append_assoc linking.calls t.one more) ∙ linking.stands (t.one ++ more))
     ∙ leads (world_by x (calls ++ more)) (at_now more) (stays_at x events calls more st' new replay) (shows more)) in
-    let g : GoesOn x l.events linking.calls t.one st own (length c.up.items) after = record {
+    let g : TakesEvent x l.events linking.calls t.one st own (length c.up.items) after = record {
       plain = no_stages x linking.plain;
       by_calls = linking.replay.answered;
       before_is = before;

@@ -40,7 +40,7 @@ use Rattle.replay_contracts.proofs.PassesOfCall.{one_formed}
 use Rattle.replay_contracts.proofs.PassingOn.{Free, Kept, around, rests_step, turn_step}
 use Rattle.replay_contracts.proofs.DrainPicks.{picks_next, some_too, state_append}
 use Rattle.replay_contracts.proofs.SeenStore.{parts_same, seen_of, some_where}
-use Rattle.replay_contracts.proofs.Turns.{turn_all, turn_on}
+use Rattle.replay_contracts.proofs.PassMoves.{turn_all, turn_on}
 use Rattle.replay_contracts.specs.Called.{IsFormed, WasCalled, journal_of}
 use Rattle.replay_contracts.specs.Inputs.{Inputs, IsReady, code_for, setup_for, whole, whole_runs}
 use Rattle.replay_contracts.specs.Promise.{Promises, Reports, state_for}

@@ -8,6 +8,6 @@ pub mod Asked
 mod OnSwitch
 mod PassesOfCall
 mod PassingOn
-mod Turns
+mod PassMoves
 pub mod KnowingOn
 pub mod Laws

@@ -41,12 +41,12 @@ keeps_more old mid new one two = record {
 -- ## Calls that didn't fail
 
 -- the port kept its code and may have been called more, and no call of it failed
-pub record GoesOn (old new : PortState) : Type 0 where
+pub record PortAdvances (old new : PortState) : Type 0 where
   pub code : new.code ≡ old.code
   pub journal : (more : List Entry) × (calls_in new.journal ≡ calls_in old.journal ++ more)
   pub stays : StaysTold old new
 
-pub goes_kept : (old new : PortState) → KeepsCalls old new → GoesOn old new
+pub goes_kept : (old new : PortState) → KeepsCalls old new → PortAdvances old new
 goes_kept old new kept = record {
   code = kept.code;
   journal = ([], kept.journal ∙ sym (append-nil (calls_in old.journal)));
@@ -55,7 +55,7 @@ goes_kept old new kept = record {
 
 -- so it is from the calls of one moment to those of a later one
 pub goes_by : (code : Code) (calls more : List Call) (old new : PortState) → HasCalls code calls old → HasCalls code (calls ++ more) new
-    → StaysTold old new → GoesOn old new
+    → StaysTold old new → PortAdvances old new
 goes_by code calls more old new before after stays = record {
   code = after.loaded ∙ sym before.loaded;
   journal = (
@@ -66,14 +66,14 @@ goes_by code calls more old new before after stays = record {
 }
 
 pub goes_gone : (x : Inputs) (events : List Event) (c after : Course) (first port : PortState) → HasReplayed x [] c first
-    → HasReplayedFrom x events after first port → GoesOn first port
+    → HasReplayedFrom x events after first port → PortAdvances first port
 goes_gone x events c after first port start gone =
     goes_by (code_for x) [] gone.under_way.calls first port
     (subst (λ cs. HasCalls (code_for x) cs first) (none_asked start.calls start.replay.answered.asked) start.replay.called)
     gone.under_way.replay.called gone.stays
 
 pub goes_draining : (x : Inputs) (count : ℕ) (c mid : Course) (first port : PortState) → HasReplayedSome x c first
-    → IsDraining x count c first mid port → GoesOn first port
+    → IsDraining x count c first mid port → PortAdvances first port
 goes_draining x count c mid first port way draining =
     let before = way.under_way in
     let on = draining.turns way.events before.calls before.st before.replay before.shown in
@@ -82,7 +82,7 @@ goes_draining x count c mid first port way draining =
 -- ## Errors
 
 -- there was no memory behind them
-pub fails_there : (old new : PortState) → GoesOn old new → Fails errors.NoMemory old new
+pub fails_there : (old new : PortState) → PortAdvances old new → Fails errors.NoMemory old new
 fails_there old new goes = record {
   code = goes.code;
   told = goes.stays.told;
@@ -90,7 +90,7 @@ fails_there old new goes = record {
   fault = goes.stays.faults;
 }
 
-pub fails_behind : (e : ReplayError) (first old new : PortState) → GoesOn first old → Fails e old new → Fails e first new
+pub fails_behind : (e : ReplayError) (first old new : PortState) → PortAdvances first old → Fails e old new → Fails e first new
 fails_behind e first old new goes fails = record {
   code = fails.code ∙ goes.code;
   told = fails.told ∙ goes.stays.told;

@@ -114,7 +114,7 @@ first_sound x c program split pre post passes up version commit down fates event
 -- ## Events of commands, and idle ones
 
 -- what a call of the commands leaves
-pub record GoesOn (k k' : Commit) : Type 0 where
+pub record CommitAdvances (k k' : Commit) : Type 0 where
   pub order : IsInOrder k'
   pub held : k'.held ≡ k.held
   pub writeback : k'.writeback ≡ k.writeback
@@ -124,7 +124,7 @@ pub record GoesOn (k k' : Commit) : Type 0 where
 
 -- where the server stays, and the outputs that wait
 pub moved_sound : (x : Inputs) (c after : Course) → IsSound x c
-    → after ≡ record after { pre_stages = c.pre_stages; post_stages = c.post_stages; server = c.server } → GoesOn c.commit after.commit
+    → after ≡ record after { pre_stages = c.pre_stages; post_stages = c.post_stages; server = c.server } → CommitAdvances c.commit after.commit
     → Each HasLeft after.passes → Each (FramedUp x) after.up.items → Each (FramedDown x) after.down.items → IsWithin x after → IsSound x after
 moved_sound x c after h is on left up down within = subst (IsSound x) (sym is) (record {
   program = h.program;
@@ -143,7 +143,7 @@ moved_sound x c after h is on left up down within = subst (IsSound x) (sym is) (
   within = subst (IsWithin x) is within;
 })
 
-same_on : (k k' : Commit) → k'.batches ≡ k.batches → k'.writeback ≡ k.writeback → k'.held ≡ k.held → IsInOrder k' → GoesOn k k'
+same_on : (k k' : Commit) → k'.batches ≡ k.batches → k'.writeback ≡ k.writeback → k'.held ≡ k.held → IsInOrder k' → CommitAdvances k k'
 same_on k k' batches writeback held order = record {
   order = order;
   held = held;
@@ -154,10 +154,10 @@ same_on k k' batches writeback held order = record {
 }
 
 -- commands that stay
-still : (k : Commit) → IsInOrder k → GoesOn k k
+still : (k : Commit) → IsInOrder k → CommitAdvances k k
 still k h = same_on k k refl refl refl h
 
-pub sent_on : (k : Commit) → IsInOrder k → GoesOn k (after_send k)
+pub sent_on : (k : Commit) → IsInOrder k → CommitAdvances k (after_send k)
 sent_on k h = elim (cases_Bool (ltb k.sent (length (commands k)))) [
   | inl t ↦
       let less = ltb-true k.sent (length (commands k)) t in
@@ -178,7 +178,7 @@ sent_on k h = elim (cases_Bool (ltb k.sent (length (commands k)))) [
   | inr f ↦ rw f (still k h)
 ]
 
-pub acked_on : (k : Commit) → IsInOrder k → GoesOn k (after_acknowledge k)
+pub acked_on : (k : Commit) → IsInOrder k → CommitAdvances k (after_acknowledge k)
 acked_on k h = elim (cases_Bool (ltb k.acked k.done)) [
   | inl t ↦
       let less = ltb-true k.acked k.done t in
@@ -190,7 +190,7 @@ acked_on k h = elim (cases_Bool (ltb k.acked k.done)) [
   | inr f ↦ rw f (still k h)
 ]
 
-pub next_on : (k : Commit) → IsInOrder k → GoesOn k (after_next k)
+pub next_on : (k : Commit) → IsInOrder k → CommitAdvances k (after_next k)
 next_on k h = elim (cases_Bool (ltb k.done k.sent)) [
   | inl t ↦
       let less = ltb-true k.done k.sent t in
@@ -203,7 +203,7 @@ next_on k h = elim (cases_Bool (ltb k.done k.sent)) [
 ]
 
 -- a call of the commands alone
-pub commands_sound : (x : Inputs) (c after : Course) (k : Commit) → IsSound x c → GoesOn c.commit k → after.commit ≡ k
+pub commands_sound : (x : Inputs) (c after : Course) (k : Commit) → IsSound x c → CommitAdvances c.commit k → after.commit ≡ k
     → after ≡ record c { commit = after.commit; events = after.events; idle = after.idle } → after.idle ≤ after.events → IsSound x after
 commands_sound x c after k h on commit is idle =
     let later : Course = record c { commit = k; events = after.events; idle = after.idle } in

@@ -292,7 +292,7 @@ impl Course {
     }
 
     /// The output at place `j` of those that wait goes, if its version is known to be visible.
-    pub fn hold(&mut self, j: u32) -> Result<Stepped, NoMemory>
+    pub fn release(&mut self, j: u32) -> Result<Stepped, NoMemory>
         requires events { self.old.events < 2 ^ 32 - 1 }
         requires idle { self.old.idle ≤ self.old.events }
         ensures stepped { IfOk result (λ stepped. (s : SplitProgram) (setup : Setup) (calls : List Call) (st : State)

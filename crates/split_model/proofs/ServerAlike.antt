@@ -84,7 +84,7 @@ module _ (f : Program) (split : List Part) where
 
   -- A run, of the server or of the whole program: it begins with the store, does each instruction that the server computes, and at each
   -- other one leaves the store, the changes, and the numbers of the values before it; it knows what crosses up.
-  pub record Does (packet : Packet) (st : Store) (c : Reading) (m : ℕ → Machine) : Type 0 where
+  pub record IsRun (packet : Packet) (st : Store) (c : Reading) (m : ℕ → Machine) : Type 0 where
     pub store : (m 0).store ≡ st
     pub changes : (m 0).changes ≡ []
     pub done : (n : ℕ) → n < length f.code → is_done n ≡ true → m (suc n) ≡ do_step (is_live f.blocks (m n).reads (block_of n)) packet n (work_at n) (m n)
@@ -116,7 +116,7 @@ module _ (f : Program) (split : List Part) where
         (λ skips. ap (λ (k : Machine). k.reads v) (s_skips n skips) ∙ handed_stays v e n)
         (cases_Bool (is_done n))
 
-    pub server_does : Does packet st c (served f split c st packet)
+    pub server_does : IsRun packet st c (served f split c st packet)
     server_does = record {
       store = refl;
       changes = refl;
@@ -147,7 +147,7 @@ module _ (f : Program) (split : List Part) where
       none_made n within e = no_change (m n).reads (live_m n) (m n).store (work_at n) (quiet n within (or_parts (is_input (work_at n)) (is_server split n) e).1)
 
       -- the run of the whole program is one, with its own numbers
-      pub whole_does : Does packet st (flat_run f st packet).reads (after f st packet)
+      pub whole_does : IsRun packet st (flat_run f st packet).reads (after f st packet)
       whole_does = record {
         store = refl;
         changes = refl;
@@ -160,7 +160,7 @@ module _ (f : Program) (split : List Part) where
 
   -- ## Two such runs that know the same
 
-  module _ (well : IsWellFormed f) (legal : IsLegal f split) (packet : Packet) (st : Store) (c c' : Reading) (m m' : ℕ → Machine) (does : Does packet st c m) (does' : Does packet st c' m') (alike : (v : ValueId) → crosses_up f split v ≡ true → c v ≡ c' v) where
+  module _ (well : IsWellFormed f) (legal : IsLegal f split) (packet : Packet) (st : Store) (c c' : Reading) (m m' : ℕ → Machine) (does : IsRun packet st c m) (does' : IsRun packet st c' m') (alike : (v : ValueId) → crosses_up f split v ≡ true → c v ≡ c' v) where
     abbrev live_a : ℕ → Bool
     live_a n = is_live f.blocks (m n).reads (block_of n)
 

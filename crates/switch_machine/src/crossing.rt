@@ -17,7 +17,7 @@ ghost use Rattle.switch_machine.specs.Staging.{CanTake, EntersDown, Takes};
 ghost use Rattle.switch_machine.specs.UnderWay.{passes_on, Enters, HasGoneOnAt, IsGiven, Puts, Stages, StaysLoaded, Steps};
 ghost use Rattle.switch_machine.specs.ActivePasses.{with_pass};
 ghost use Rattle.switch_machine.specs.Ready.{AreReady};
-ghost use Rattle.switch_machine.specs.Workplaces.{IsPassOf, StaysMade};
+ghost use Rattle.switch_machine.specs.LoadedPasses.{IsPassOf, StaysMade};
 ghost use Rattle.switch_machine.specs.declared.sides.Event.TheVariants as event;
 ghost use Rattle.switch_machine.specs.declared.sides.Side.TheVariants.{Before, Behind};
 

@@ -17,7 +17,7 @@ ghost use Rattle.switch_machine.specs.Numbers.{reads_by, AreHeld};
 ghost use Rattle.switch_machine.specs.Sides.{of_side, staging, EndsOn};
 ghost use Rattle.switch_machine.specs.UnderWay.{leaves_on, numbers_at_last, passes_of, Entered, Enters, GoneOn};
 ghost use Rattle.switch_machine.specs.UnderWay.{HasEnd, HasStagesLeft, IsAtLast, IsGiven, Puts, Steps};
-ghost use Rattle.switch_machine.specs.Workplaces.{IsPassOf, StaysMade};
+ghost use Rattle.switch_machine.specs.LoadedPasses.{IsPassOf, StaysMade};
 
 use crate::active_pass::{ActivePass, active_pass_of, copy_numbers, put_in};
 use crate::live::leaves_work;

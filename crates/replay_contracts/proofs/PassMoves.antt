@@ -47,15 +47,15 @@ pub record Enters (g : Around) (p : Pass) (own : PassState) : Type 0 where
       × OfItsParts g.code (g.frame p.number) (λ number packet values. HasEntered (post_staging g.code) (IsHandedDown g.code values packet) packet g.tables own)
 
 -- Each pass at a free place stays as it was. What holds of a pass that comes or goes on is Q.
-pub data Turn (g : Around) (free : ℕ → Type 0) (Q : Pass → Type 0) (xs ys : List Pass) (u w : UnderWay) : Type 0 where
-  Stay : ((i : ℕ) (r : Pass) → slice_get xs i ≡ Some r → free i) → ys ≡ xs → ((k : Bool) (m : ℕ) → passes_of k w m ≡ passes_of k u m) → Turn g free Q xs ys u w
+pub data PassMove (g : Around) (free : ℕ → Type 0) (Q : Pass → Type 0) (xs ys : List Pass) (u w : UnderWay) : Type 0 where
+  Stay : ((i : ℕ) (r : Pass) → slice_get xs i ≡ Some r → free i) → ys ≡ xs → ((k : Bool) (m : ℕ) → passes_of k w m ≡ passes_of k u m) → PassMove g free Q xs ys u w
   Come : ((i : ℕ) (r : Pass) → slice_get xs i ≡ Some r → free i) → (p : Pass) (own : PassState) → ys ≡ xs ++ p ∷ [] → p.bit ≡ g.bit → p.version ≡ g.version → Q p
-      → Others p.pre p.number u w → passes_of p.pre u p.number ≡ None → passes_of p.pre w p.number ≡ Some own → Enters g p own → Turn g free Q xs ys u w
+      → Others p.pre p.number u w → passes_of p.pre u p.number ≡ None → passes_of p.pre w p.number ≡ Some own → Enters g p own → PassMove g free Q xs ys u w
   Move : (j : ℕ) → ((i : ℕ) → (i ≡ j → ⊥) → free i) → (p : Pass) (before after : PassState) → slice_get xs j ≡ Some p → 1 < p.left → ys ≡ set xs j (less p) → Q p
       → Others p.pre p.number u w → passes_of p.pre u p.number ≡ Some before → passes_of p.pre w p.number ≡ Some after → HasGoneOn (staging p.pre g.code) g.tables before after
-      → Turn g free Q xs ys u w
+      → PassMove g free Q xs ys u w
   End : (j : ℕ) → ((i : ℕ) → (i ≡ j → ⊥) → free i) → (p : Pass) → slice_get xs j ≡ Some p → ys ≡ remove xs j → Others p.pre p.number u w → passes_of p.pre w p.number ≡ None
-      → Turn g free Q xs ys u w
+      → PassMove g free Q xs ys u w
 
 -- ## The passes of the state stay on the switch
 
@@ -109,7 +109,7 @@ module _ (g : Around) (told_bit : (t : Told) → g.tables ≡ Some t → t.bit �
         some = omega arith;
       }
 
-  pub turn_on : (free : ℕ → Type 0) (Q : Pass → Type 0) (xs ys : List Pass) (u w : UnderWay) → Once xs → OnList g.setup g.packets xs u → Turn g free Q xs ys u w → OnList g.setup g.packets ys w
+  pub turn_on : (free : ℕ → Type 0) (Q : Pass → Type 0) (xs ys : List Pass) (u w : UnderWay) → Once xs → OnList g.setup g.packets xs u → PassMove g free Q xs ys u w → OnList g.setup g.packets ys w
   turn_on free Q xs ys u w once on (Stay all same stays) = subst (λ l. OnList g.setup g.packets l w) (sym same) (same_on g.setup g.packets xs u w stays on)
   turn_on free Q xs ys u w once on (Come all p own same bit version q others none there enters) =
       subst (λ l. OnList g.setup g.packets l w) (sym same) (entered_on g.setup g.packets xs p u w others none (new_on p own w bit enters there) on)
@@ -152,7 +152,7 @@ module _ (g : Around) (free : ℕ → Type 0) (Q : Pass → Type 0) (K : Pass �
   pub turn_all : (ys : List Pass) (w : UnderWay)
       → ((p : Pass) (own : PassState) → p.bit ≡ g.bit → p.version ≡ g.version → Q p → Enters g p own → K p own)
       → ((j : ℕ) (p : Pass) (before after : PassState) → slice_get xs j ≡ Some p → passes_of p.pre u p.number ≡ Some before → Q p → HasGoneOn (staging p.pre g.code) g.tables before after → K (less p) after)
-      → Turn g free Q xs ys u w → AllOn K ys w
+      → PassMove g free Q xs ys u w → AllOn K ys w
   turn_all ys w comes moves (Stay all same as_before) =
       subst (λ l. AllOn K l w) (sym same) (λ j p own here there. stays j p own here (sym (as_before p.pre p.number) ∙ there) (all j p here))
   turn_all ys w comes moves (Come all p own same bit version q others none there enters) =

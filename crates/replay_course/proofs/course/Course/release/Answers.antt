@@ -7,7 +7,7 @@ use Rattle.replay_contracts.specs.Replayer.{stepped_by}
 use Rattle.replay_course.proofs.ShownOutputs.{hold_applies, hold_goes, hold_idles, idle_shown, stays}
 use Rattle.replay_course.proofs.SoundCourse.{idle_sound}
 use Rattle.replay_course.proofs.Unapplied.{goes_sound, left_of, release_same}
-use Rattle.replay_course.proofs.course.Course.hold.Goals as goal
+use Rattle.replay_course.proofs.course.Course.release.Goals as goal
 
 pub returns-in_ok-push_back-in-Frame : goal.returns-in_ok-push_back-in-Frame
 returns-in_ok-push_back-in-Frame c =

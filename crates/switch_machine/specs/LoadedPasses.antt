@@ -1,4 +1,4 @@
--- Where passes are computed.
+-- Passes that are loaded: by which plan they are made, and what is known of one while it is computed.
 use Rattle.std.specs.Prelude.{◌≡◌, ◌<◌, ◌^◌, ℕ, suc, List, length, Option, Some}
 use Rattle.std.specs.Coded.{Coded-set, coded_ℕ, coded_option}
 use Rattle.flat_ir.specs.Plan.{RegisterPlan, plan_code}
