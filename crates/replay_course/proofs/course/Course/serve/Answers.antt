@@ -35,7 +35,7 @@ hold-requires g c =
     let before = c.args.self.now.up in
     let here = slice_get_read before.items (length before.items) c.args.j (c.in-Some.number, c.in-Some.frame) refl
     (omega (arith, c.in-Some.ensures.variant.0 refl, before.ok.0)) c.in-Some.ensures.value in
-    record { few = commands_left _ c.args.self.now _ c.args.j c.in-Some.number c.in-Some.frame c.in_ok-served.served c.serve_frame.new.server c.requires.going here c.in_ok-served.ensures }
+    record { few_commands = commands_left _ c.args.self.now _ c.args.j c.in-Some.number c.in-Some.frame c.in_ok-served.served c.serve_frame.new.server c.requires.going here c.in_ok-served.ensures }
 
 pub returns-clause-turned : goal.returns-clause-turned
 returns-clause-turned g c =
