@@ -1,5 +1,5 @@
 pub mod Trees
-pub mod Placing
+pub mod RenamedExprs
 pub mod RoutesAt
 pub mod Below
 pub mod SeenFields

@@ -28,7 +28,7 @@ impl Parts<'_> {
         widths: &mut Vec<Width>,
         out: &mut Body,
     ) -> Result<(), NoMemory>
-        requires there { place.element < length self.now.classes.now }
+        requires element_in_range { place.element < length self.now.classes.now }
         requires known { AllDeclareBelow (length (own_tree self.now place).locals) (body_tree body.now) }
         ensures { OnOk result (placed names.new.items widths.new.items out.new.items
             ≡ placed_behind out.old.items (body_placed (spot_of self.now place) (sends_of self.now place)
@@ -49,7 +49,7 @@ impl Parts<'_> {
         widths: &mut Vec<Width>,
         out: &mut Body,
     ) -> Result<(), NoMemory>
-        requires there { place.element < length self.now.classes.now }
+        requires element_in_range { place.element < length self.now.classes.now }
         requires known { DeclaresBelow (length (own_tree self.now place).locals) (stmt_tree stmt.now) }
         ensures { OnOk result (placed names.new.items widths.new.items out.new.items
             ≡ placed_behind out.old.items (stmt_placed (spot_of self.now place) (sends_of self.now place)
@@ -105,7 +105,7 @@ impl Parts<'_> {
         names: &mut Vec<u32>,
         widths: &mut Vec<Width>,
     ) -> Result<Stmt, NoMemory>
-        requires there { place.element < length self.now.classes.now }
+        requires element_in_range { place.element < length self.now.classes.now }
         requires yes_known { AllDeclareBelow (length (own_tree self.now place).locals) (body_tree yes.now) }
         requires no_known { AllDeclareBelow (length (own_tree self.now place).locals) (body_tree no.now) }
         ensures { IfOk result (λ made. one_placed (stmt_tree made) names.new.items widths.new.items
@@ -135,7 +135,7 @@ impl Parts<'_> {
         names: &mut Vec<u32>,
         widths: &mut Vec<Width>,
     ) -> Result<Stmt, NoMemory>
-        requires there { place.element < length self.now.classes.now }
+        requires element_in_range { place.element < length self.now.classes.now }
         requires index_known { index < length (own_tree self.now place).locals }
         requires known { AllDeclareBelow (length (own_tree self.now place).locals) (body_tree body.now) }
         ensures { IfOk result (λ made. one_placed (stmt_tree made) names.new.items widths.new.items

@@ -33,7 +33,7 @@ use std::alloc::Global;
 
 // Refuses elements that can't stand where they are.
 fn refuse_elements(alloc: Global, chain: &Chain, classes: &[Middlebox]) -> Result<(), ComposeError>
-    requires few { length classes.now ≤ 32 }
+    requires few_classes { length classes.now ≤ 32 }
     requires within { AreWithin (length classes.now) chain.now.wires }
     ensures ok { IfOk result (λ _. AreInPlace (connected classes.now chain.now.wires)) }
     ensures err { IfErr result (IsRefused (connected classes.now chain.now.wires)) }
@@ -51,8 +51,8 @@ fn refuse_elements(alloc: Global, chain: &Chain, classes: &[Middlebox]) -> Resul
 impl Parts<'_> {
     // The elements as one middlebox.
     fn whole(&self) -> Result<Middlebox, NoMemory>
-        requires some { 0 < length self.now.classes.now }
-        requires few { length self.now.classes.now ≤ 32 }
+        requires nonempty { 0 < length self.now.classes.now }
+        requires few_classes { length self.now.classes.now ≤ 32 }
         ensures made { IfOk result (λ m. tree m ≡ composed (chain_of self.now)) }
         ensures small { IfOk result (λ m. length m.locals < 2 ^ 64) }
     {
@@ -81,13 +81,13 @@ impl Parts<'_> {
 
 // The elements as one middlebox, where it is small enough. Its sizes are told before it is made.
 fn whole(alloc: Global, chain: &Chain, classes: &[Middlebox]) -> Result<Middlebox, ComposeError>
-    requires some { 0 < length classes.now }
-    requires few { length classes.now ≤ 32 }
+    requires nonempty { 0 < length classes.now }
+    requires few_classes { length classes.now ≤ 32 }
     requires within { AreWithin (length classes.now) chain.now.wires }
     requires good { list_all (λ m. is_good (tree m)) classes.now ≡ true }
     ensures made { IfOk result (λ m. tree m ≡ composed (connected classes.now chain.now.wires)) }
     ensures small { IfOk result (λ m. length m.locals < 2 ^ 64) }
-    ensures few { let c = connected classes.now chain.now.wires in
+    ensures bounded { let c = connected classes.now chain.now.wires in
         IfOk result (λ _. statements_in (composed c).body ≤ most_statements) }
     ensures sizes { IfOk result (λ _. KeepsSizes (composed (connected classes.now chain.now.wires))) }
     ensures err { IfErr result (IsLargeRefusal (composed (connected classes.now chain.now.wires))) }
@@ -127,8 +127,8 @@ fn compose_elements(
     chain: &Chain,
     classes: &[Middlebox],
 ) -> Result<Middlebox, ComposeError>
-    requires some { 0 < length classes.now }
-    requires few { length classes.now ≤ 32 }
+    requires nonempty { 0 < length classes.now }
+    requires few_classes { length classes.now ≤ 32 }
     requires within { AreWithin (length classes.now) chain.now.wires }
     requires acyclic { HasNoCycle chain.now.wires }
     requires good { All (λ m. IsTrue (is_good (tree m))) classes.now }
@@ -150,8 +150,8 @@ fn compose_elements(
 /// which the bodies of the elements behind it stand where it sends. Of several reasons for which there is none, the
 /// first one in the order of `ComposeError` is answered.
 pub fn compose(alloc: Global, chain: &Chain, classes: &Classes) -> Result<Middlebox, ComposeError>
-    requires some { 0 < length classes.now.items }
-    requires few { length classes.now.items ≤ 32 }
+    requires nonempty { 0 < length classes.now.items }
+    requires few_classes { length classes.now.items ≤ 32 }
     requires within { AreWithin (length classes.now.items) chain.now.wires }
     requires acyclic { HasNoCycle chain.now.wires }
     requires good { All (λ m. IsTrue (is_good (tree m))) classes.now.items }

@@ -114,7 +114,7 @@ fn closing_count(gauge: Gauge, body: &[Stmt]) -> u64
 impl Parts<'_> {
     // What is told of an element.
     fn figures_of(&self, gauge: Gauge, names: &[u64], element: u32) -> Figures
-        requires there { element < length self.now.classes.now }
+        requires element_in_range { element < length self.now.classes.now }
         requires names { names.now ≡ all_names (chain_of self.now) }
         ensures { AreFigures gauge (chain_of self.now) element result }
     {
@@ -148,7 +148,7 @@ impl Parts<'_> {
 
     // The same of each element.
     fn figures(&self, gauge: Gauge, names: &[u64]) -> Result<Vec<Figures>, NoMemory>
-        requires few { length self.now.classes.now ≤ 32 }
+        requires few_classes { length self.now.classes.now ≤ 32 }
         requires names { names.now ≡ all_names (chain_of self.now) }
         ensures { IfOk result (λ made. AllFigures gauge (chain_of self.now) (length self.now.classes.now) made.items) }
     {
@@ -199,7 +199,7 @@ impl Parts<'_> {
         endings: &[Ending],
         element: u32,
     ) -> Ending
-        requires there { element < length self.now.classes.now }
+        requires element_in_range { element < length self.now.classes.now }
         requires clearing { clearing ≡ capped (counts.clearing_count gauge (chain_of self.now)) }
         ensures { IsNext gauge (chain_of self.now) endings.now element figures result }
     {
@@ -222,7 +222,7 @@ impl Parts<'_> {
         figures: &[Figures],
         endings: &[Ending],
     ) -> Result<Vec<Ending>, NoMemory>
-        requires few { length self.now.classes.now ≤ 32 }
+        requires few_classes { length self.now.classes.now ≤ 32 }
         requires within { AreWithin (length self.now.classes.now) self.now.chain.now.wires }
         requires clearing { clearing ≡ capped (counts.clearing_count gauge (chain_of self.now)) }
         requires figures { AllFigures gauge (chain_of self.now) (length self.now.classes.now) figures.now }
@@ -244,7 +244,7 @@ impl Parts<'_> {
 
     // The entry, with all behind it.
     fn entry_count(&self, gauge: Gauge, figures: &[Figures], endings: &[Ending]) -> u64
-        requires some { 0 < length self.now.classes.now }
+        requires nonempty { 0 < length self.now.classes.now }
         requires within { AreWithin (length self.now.classes.now) self.now.chain.now.wires }
         requires figures { AllFigures gauge (chain_of self.now) (length self.now.classes.now) figures.now }
         requires endings { AreEndings gauge (chain_of self.now) (length self.now.classes.now) endings.now }
@@ -261,8 +261,8 @@ impl Parts<'_> {
 
     /// What is counted of the whole.
     pub fn count(&self, gauge: Gauge) -> Result<u64, NoMemory>
-        requires few { length self.now.classes.now ≤ 32 }
-        requires some { 0 < length self.now.classes.now }
+        requires few_classes { length self.now.classes.now ≤ 32 }
+        requires nonempty { 0 < length self.now.classes.now }
         requires within { AreWithin (length self.now.classes.now) self.now.chain.now.wires }
         ensures { IfOk result (λ n. n
             ≡ capped (body_count gauge (whole_lengths (chain_of self.now)) (composed (chain_of self.now)).body)) }
@@ -279,7 +279,7 @@ impl Parts<'_> {
 
     // What is counted at the end of a wire to each element, where the input doesn't matter.
     fn level(&self, gauge: Gauge, endings: &[Ending]) -> Result<Vec<u64>, NoMemory>
-        requires few { length self.now.classes.now ≤ 32 }
+        requires few_classes { length self.now.classes.now ≤ 32 }
         ensures { (n : ℕ) → AreEndings gauge (chain_of self.now) n endings.now
             → IfOk result (λ made. IsLevel gauge (chain_of self.now) n made.items) }
     {
@@ -293,7 +293,7 @@ impl Parts<'_> {
     /// What is counted at the end of a wire to each element through 0, 1, .. elements and no more, up to as many as
     /// there are.
     pub fn levels(&self, gauge: Gauge) -> Result<Levels, NoMemory>
-        requires few { length self.now.classes.now ≤ 32 }
+        requires few_classes { length self.now.classes.now ≤ 32 }
         requires within { AreWithin (length self.now.classes.now) self.now.chain.now.wires }
         requires unread { gauge ≢ Gauge.Bytes }
         ensures { IfOk result (λ levels. (n e input : ℕ) → n ≤ length self.now.classes.now

@@ -178,8 +178,8 @@ impl Parts<'_> {
 
     // The statements of an element.
     fn own(&self, element: usize) -> Own
-        requires few { length self.now.classes.now ≤ 32 }
-        requires there { element < length self.now.classes.now }
+        requires few_classes { length self.now.classes.now ≤ 32 }
+        requires element_in_range { element < length self.now.classes.now }
         ensures { IsOwn (chain_of self.now) element result }
     {
         let wired = has_wires(self.routes.of(element as u32));
@@ -192,7 +192,7 @@ impl Parts<'_> {
 
     // The same of each.
     fn owns(&self) -> Result<Vec<Own>, NoMemory>
-        requires few { length self.now.classes.now ≤ 32 }
+        requires few_classes { length self.now.classes.now ≤ 32 }
         ensures { IfOk result (λ made. AreOwn (chain_of self.now) made.items) }
     {
         let mut made = Vec::new(self.alloc);
@@ -204,8 +204,8 @@ impl Parts<'_> {
 
     // An element, where its own statements are told, and what stands at the ends of its wires.
     fn element_depth(&self, element: usize, own: Own, depths: &[u64]) -> u64
-        requires few { length self.now.classes.now ≤ 32 }
-        requires there { element < length self.now.classes.now }
+        requires few_classes { length self.now.classes.now ≤ 32 }
+        requires element_in_range { element < length self.now.classes.now }
         requires own_told { IsOwn (chain_of self.now) element own }
         ensures { result ≡ capped (element_depth (chain_of self.now) (told_depth depths.now) element) }
     {
@@ -226,7 +226,7 @@ impl Parts<'_> {
 
     // The same through one element more.
     fn more_depths(&self, clearing: u64, owns: &[Own], depths: &[u64]) -> Result<Vec<u64>, NoMemory>
-        requires few { length self.now.classes.now ≤ 32 }
+        requires few_classes { length self.now.classes.now ≤ 32 }
         requires within { AreWithin (length self.now.classes.now) self.now.chain.now.wires }
         requires clearing_told { clearing ≡ capped (deep.clearing_depth (chain_of self.now)) }
         requires owns_told { AreOwn (chain_of self.now) owns.now }
@@ -243,8 +243,8 @@ impl Parts<'_> {
 
     /// How deep the brackets of the whole stand.
     pub fn depth(&self) -> Result<u64, NoMemory>
-        requires few { length self.now.classes.now ≤ 32 }
-        requires some { 0 < length self.now.classes.now }
+        requires few_classes { length self.now.classes.now ≤ 32 }
+        requires nonempty { 0 < length self.now.classes.now }
         requires within { AreWithin (length self.now.classes.now) self.now.chain.now.wires }
         ensures { IfOk result (λ depth. depth ≡ capped (text_depth (composed (chain_of self.now)))) }
     {

@@ -93,7 +93,7 @@ impl Parts<'_> {
         requires told { AreTables (chain_of self.now) (length self.now.classes.now) tables.now }
         requires levels_fit { levels ≤ length self.now.classes.now }
         requires within { AreWithin (length self.now.classes.now) self.now.chain.now.wires }
-        requires there { IsWithin (length self.now.classes.now) wire.now.to }
+        requires target_in_range { IsWithin (length self.now.classes.now) wire.now.to }
         ensures { IfOk result (λ count. (exact : ℕ) → before ≡ capped exact → count
             ≡ capped (namings.end_from (chain_of self.now) tables.now.least levels wire.now.to wire.now.input exact)) }
     {
@@ -189,7 +189,7 @@ impl Parts<'_> {
         requires told { AreTables (chain_of self.now) (length self.now.classes.now) tables.now }
         requires levels_fit { levels ≤ length self.now.classes.now }
         requires within { AreWithin (length self.now.classes.now) self.now.chain.now.wires }
-        requires there { element < length self.now.classes.now }
+        requires element_in_range { element < length self.now.classes.now }
         ensures { IfOk result (λ count. count
             ≡ capped (namings.element_from (chain_of self.now) tables.now.least (end_count Locals (chain_of self.now) levels)
             (namings.end_from (chain_of self.now) tables.now.least levels) element before)) }
@@ -211,8 +211,8 @@ impl Parts<'_> {
 
     /// How often the whole names a local whose number is at least so much.
     pub fn uses_from(&self, least: u64, locals: &Levels, uses: &Levels) -> Result<u64, NoMemory>
-        requires few { length self.now.classes.now ≤ 32 }
-        requires some { 0 < length self.now.classes.now }
+        requires few_classes { length self.now.classes.now ≤ 32 }
+        requires nonempty { 0 < length self.now.classes.now }
         requires within { AreWithin (length self.now.classes.now) self.now.chain.now.wires }
         requires locals_told { AreTold Locals (chain_of self.now) (length self.now.classes.now) locals.now }
         requires uses_told { AreTold Uses (chain_of self.now) (length self.now.classes.now) uses.now }

@@ -66,7 +66,7 @@ impl Parts<'_> {
         names: &mut Vec<u32>,
         widths: &mut Vec<Width>,
     ) -> Result<u32, NoMemory>
-        requires there { place.element < length self.now.classes.now }
+        requires element_in_range { place.element < length self.now.classes.now }
         requires known { local < length (own_tree self.now place).locals }
         ensures number { IfOk result (λ number. number ≡ length widths.old.items) }
         ensures declared { OnOk result (numbering names.new.items widths.new.items
@@ -86,7 +86,7 @@ impl Parts<'_> {
         names: &mut Vec<u32>,
         widths: &mut Vec<Width>,
     ) -> Result<Vec<u32>, NoMemory>
-        requires there { place.element < length self.now.classes.now }
+        requires element_in_range { place.element < length self.now.classes.now }
         requires known { All (λ local. local < length (own_tree self.now place).locals) locals.now }
         ensures numbers { IfOk result (λ found. found.items ≡ numbers (length widths.old.items) locals.now) }
         ensures declared { OnOk result (numbering names.new.items widths.new.items
@@ -106,7 +106,7 @@ impl Parts<'_> {
         place_expr(self.alloc, place.port, self.byte, names, expr)
     }
 
-    #[tactic(auto, using(crate::proofs::Placing::read_as))]
+    #[tactic(auto, using(crate::proofs::RenamedExprs::read_as))]
     fn exprs(&self, place: Place, names: &[u32], exprs: &[Expr]) -> Result<Vec<Expr>, NoMemory>
         ensures { IfOk result (λ made.
             expr_trees made.items ≡ all_renamed place.port names.now (expr_trees exprs.now)) }
@@ -123,7 +123,7 @@ impl Parts<'_> {
         names: &mut Vec<u32>,
         widths: &mut Vec<Width>,
     ) -> Result<Stmt, NoMemory>
-        requires there { place.element < length self.now.classes.now }
+        requires element_in_range { place.element < length self.now.classes.now }
         requires known { local < length (own_tree self.now place).locals }
         ensures { IfOk result (λ made. one_placed (stmt_tree made) names.new.items widths.new.items
             ≡ stmt_placed (spot_of self.now place) (sends_of self.now place) (let_local local (expr_tree value.now))
@@ -178,7 +178,7 @@ impl Parts<'_> {
         names: &mut Vec<u32>,
         widths: &mut Vec<Width>,
     ) -> Result<Stmt, NoMemory>
-        requires there { place.element < length self.now.classes.now }
+        requires element_in_range { place.element < length self.now.classes.now }
         requires known { found < length (own_tree self.now place).locals }
         requires all_known { All (λ local. local < length (own_tree self.now place).locals) into.now }
         ensures { IfOk result (λ made. one_placed (stmt_tree made) names.new.items widths.new.items
@@ -206,7 +206,7 @@ impl Parts<'_> {
         names: &mut Vec<u32>,
         widths: &mut Vec<Width>,
     ) -> Result<Stmt, NoMemory>
-        requires there { place.element < length self.now.classes.now }
+        requires element_in_range { place.element < length self.now.classes.now }
         requires known { ok < length (own_tree self.now place).locals }
         ensures { IfOk result (λ made. one_placed (stmt_tree made) names.new.items widths.new.items
             ≡ stmt_placed (spot_of self.now place) (sends_of self.now place)
@@ -233,7 +233,7 @@ impl Parts<'_> {
         names: &mut Vec<u32>,
         widths: &mut Vec<Width>,
     ) -> Result<Stmt, NoMemory>
-        requires there { place.element < length self.now.classes.now }
+        requires element_in_range { place.element < length self.now.classes.now }
         requires known { was < length (own_tree self.now place).locals }
         ensures { IfOk result (λ made. one_placed (stmt_tree made) names.new.items widths.new.items
             ≡ stmt_placed (spot_of self.now place) (sends_of self.now place)

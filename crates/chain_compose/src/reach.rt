@@ -45,7 +45,7 @@ impl Reach {
 
     // Whether wires lead from an element to another, or did so by way of a third one.
     fn leads_by(&self, through: usize, from: usize, to: usize) -> bool
-        requires few { self.now.count ≤ 32 }
+        requires few_elements { self.now.count ≤ 32 }
         requires within { through < self.now.count }
         requires from { from < self.now.count }
         requires to { to < self.now.count }
@@ -56,7 +56,7 @@ impl Reach {
 
     // Also those that are led to by way of one element more.
     fn by_way(&self, alloc: Global, through: usize) -> Result<Reach, NoMemory>
-        requires few { self.now.count ≤ 32 }
+        requires few_elements { self.now.count ≤ 32 }
         requires within { through < self.now.count }
         ensures { (wires : List Wire) → ShowsBy wires self.now.count through self.now
             → IfOk result (λ made. ShowsBy wires self.now.count (suc through) made) }
@@ -85,7 +85,7 @@ impl Reach {
 
     /// Whether wires lead from an element to another.
     pub fn leads(&self, from: usize, to: usize) -> bool
-        requires few { self.now.count ≤ 32 }
+        requires few_elements { self.now.count ≤ 32 }
         requires from { from < self.now.count }
         requires to { to < self.now.count }
         ensures { result ≡ is_shown self.now from to }

@@ -24,7 +24,7 @@ pub(crate) fn first_reader(classes: &[Middlebox]) -> Option<u32>
 
 // Whether an element is reached, sends within a `repeat`, and wires lead from it to another.
 fn sends_to(classes: &[Middlebox], reach: &Reach, from: usize, to: usize) -> bool
-    requires few { length classes.now ≤ 32 }
+    requires few_classes { length classes.now ≤ 32 }
     requires count { reach.now.count ≡ length classes.now }
     requires from { from < length classes.now }
     requires to { to < length classes.now }
@@ -37,9 +37,9 @@ fn sends_to(classes: &[Middlebox], reach: &Reach, from: usize, to: usize) -> boo
 
 // Whether an element stands behind one that is reached and sends within a `repeat`.
 fn stands_within(classes: &[Middlebox], reach: &Reach, element: usize) -> bool
-    requires few { length classes.now ≤ 32 }
+    requires few_classes { length classes.now ≤ 32 }
     requires count { reach.now.count ≡ length classes.now }
-    requires there { element < length classes.now }
+    requires element_in_range { element < length classes.now }
     ensures { result ≡ some_below (length classes.now) (sends_to (map tree classes.now) (is_shown reach.now) element) }
 {
     for from in 0..classes.len() {
@@ -52,9 +52,9 @@ fn stands_within(classes: &[Middlebox], reach: &Reach, element: usize) -> bool
 
 // Whether an element has a `repeat`, and stands within another one.
 fn repeats_within(classes: &[Middlebox], reach: &Reach, element: usize) -> bool
-    requires few { length classes.now ≤ 32 }
+    requires few_classes { length classes.now ≤ 32 }
     requires count { reach.now.count ≡ length classes.now }
-    requires there { element < length classes.now }
+    requires element_in_range { element < length classes.now }
     ensures { result ≡ repeats_within (map tree classes.now) (is_shown reach.now) element }
 {
     any_repeats(&classes[element].body) && stands_within(classes, reach, element)
@@ -62,7 +62,7 @@ fn repeats_within(classes: &[Middlebox], reach: &Reach, element: usize) -> bool
 
 /// The first element with a `repeat` that stands within another one.
 pub(crate) fn first_repeater(classes: &[Middlebox], reach: &Reach) -> Option<u32>
-    requires few { length classes.now ≤ 32 }
+    requires few_classes { length classes.now ≤ 32 }
     requires count { reach.now.count ≡ length classes.now }
     ensures { let is_within = repeats_within (map tree classes.now) (is_shown reach.now) in
         MatchOption result ((e : ℕ) → e < length classes.now → is_within e ≡ false)

@@ -56,8 +56,8 @@ fn all_bytes(decls: u64, tokens: u64, names: u64, digits: u64) -> u64
 impl Parts<'_> {
     // The digits of the numbers in the names of locals, but for the first of each: one more from each power of ten on.
     fn more_digits(&self) -> Result<u64, NoMemory>
-        requires few { length self.now.classes.now ≤ 32 }
-        requires some { 0 < length self.now.classes.now }
+        requires few_classes { length self.now.classes.now ≤ 32 }
+        requires nonempty { 0 < length self.now.classes.now }
         requires within { AreWithin (length self.now.classes.now) self.now.chain.now.wires }
         ensures { IfOk result (λ n. n ≡ capped (more_digits 19 (used_in (composed (chain_of self.now)).body))) }
     {
@@ -74,8 +74,8 @@ impl Parts<'_> {
 
     // The bytes of the text that is printed of the whole. A local is called `v` and its number, in decimal.
     fn bytes(&self) -> Result<u64, NoMemory>
-        requires few { length self.now.classes.now ≤ 32 }
-        requires some { 0 < length self.now.classes.now }
+        requires few_classes { length self.now.classes.now ≤ 32 }
+        requires nonempty { 0 < length self.now.classes.now }
         requires within { AreWithin (length self.now.classes.now) self.now.chain.now.wires }
         ensures { IfOk result (λ n. n ≡ capped (text_length (composed (chain_of self.now)))) }
     {
@@ -89,8 +89,8 @@ impl Parts<'_> {
     // The statements of the whole.
     #[tactic(auto, using(crate::proofs::Gauges::all_statements))]
     fn statements(&self) -> Result<u64, NoMemory>
-        requires few { length self.now.classes.now ≤ 32 }
-        requires some { 0 < length self.now.classes.now }
+        requires few_classes { length self.now.classes.now ≤ 32 }
+        requires nonempty { 0 < length self.now.classes.now }
         requires within { AreWithin (length self.now.classes.now) self.now.chain.now.wires }
         ensures { IfOk result (λ n. n ≡ capped (statements_in (composed (chain_of self.now)).body)) }
     {
@@ -101,8 +101,8 @@ impl Parts<'_> {
     // Statements that store or remove a row.
     #[tactic(auto, using(crate::proofs::Gauges::all_writes))]
     fn writes(&self) -> Result<u64, NoMemory>
-        requires few { length self.now.classes.now ≤ 32 }
-        requires some { 0 < length self.now.classes.now }
+        requires few_classes { length self.now.classes.now ≤ 32 }
+        requires nonempty { 0 < length self.now.classes.now }
         requires within { AreWithin (length self.now.classes.now) self.now.chain.now.wires }
         ensures { IfOk result (λ n. n ≡ capped (writes (composed (chain_of self.now)))) }
     {
@@ -112,8 +112,8 @@ impl Parts<'_> {
 
     // How much of it the whole has.
     fn amount(&self, what: What) -> Result<u64, NoMemory>
-        requires few { length self.now.classes.now ≤ 32 }
-        requires some { 0 < length self.now.classes.now }
+        requires few_classes { length self.now.classes.now ≤ 32 }
+        requires nonempty { 0 < length self.now.classes.now }
         requires within { AreWithin (length self.now.classes.now) self.now.chain.now.wires }
         ensures { IfOk result (λ n. n ≡ capped (amount what (composed (chain_of self.now)))) }
     {
@@ -128,8 +128,8 @@ impl Parts<'_> {
 
     // Refuses the whole where it has too much of it.
     fn refuse(&self, what: What) -> Result<(), ComposeError>
-        requires few { length self.now.classes.now ≤ 32 }
-        requires some { 0 < length self.now.classes.now }
+        requires few_classes { length self.now.classes.now ≤ 32 }
+        requires nonempty { 0 < length self.now.classes.now }
         requires within { AreWithin (length self.now.classes.now) self.now.chain.now.wires }
         ensures ok { IfOk result (λ _. amount what (composed (chain_of self.now)) ≤ refusals.allowed what) }
         ensures err { IfErr result (λ e. (e ≡ ComposeError.NoMemory) ⊎ ((refusals.allowed what
@@ -150,8 +150,8 @@ impl Parts<'_> {
 
     // Refuses the whole where it doesn't keep the sizes of sources.
     fn refuse_sizes(&self) -> Result<(), ComposeError>
-        requires few { length self.now.classes.now ≤ 32 }
-        requires some { 0 < length self.now.classes.now }
+        requires few_classes { length self.now.classes.now ≤ 32 }
+        requires nonempty { 0 < length self.now.classes.now }
         requires within { AreWithin (length self.now.classes.now) self.now.chain.now.wires }
         ensures ok { IfOk result (λ _. KeepsSizes (composed (chain_of self.now))) }
         ensures err { IfErr result (refusals.IsSizeRefusal (composed (chain_of self.now))) }
@@ -165,10 +165,10 @@ impl Parts<'_> {
 
     /// Refuses the whole where it has too many statements, or doesn't keep the sizes of sources.
     pub fn refuse_large(&self) -> Result<(), ComposeError>
-        requires few { length self.now.classes.now ≤ 32 }
-        requires some { 0 < length self.now.classes.now }
+        requires few_classes { length self.now.classes.now ≤ 32 }
+        requires nonempty { 0 < length self.now.classes.now }
         requires within { AreWithin (length self.now.classes.now) self.now.chain.now.wires }
-        ensures few { IfOk result (λ _. statements_in (composed (chain_of self.now)).body ≤ most_statements) }
+        ensures bounded { IfOk result (λ _. statements_in (composed (chain_of self.now)).body ≤ most_statements) }
         ensures sizes { IfOk result (λ _. KeepsSizes (composed (chain_of self.now))) }
         ensures err { IfErr result (IsLargeRefusal (composed (chain_of self.now))) }
     {

@@ -8,7 +8,7 @@ use Rattle.chain_text.specs.declared.statement.Statement.TheVariants.{Declares, 
 use Rattle.chain_text.specs.Grammar.{Statement}
 use Rattle.chain_text.specs.Reads.{elements_of}
 use Rattle.chain_text.specs.Statements.{statements_of, is_declaration}
-use Rattle.chain_text.proofs.Naming.{elements-append}
+use Rattle.chain_text.proofs.KnownNames.{elements-append}
 
 -- no more than by all stand before a place
 pub few_before : (ss : List Statement) (n : ℕ) → length (elements_of (take n ss)) ≤ length (elements_of ss)

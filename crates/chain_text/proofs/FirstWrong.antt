@@ -6,7 +6,7 @@ use Rattle.chain_text.specs.Token.{Token}
 use Rattle.chain_text.specs.declared.shape.TheConstants.{DECLARATION, WIRE}
 use Rattle.chain_text.specs.Grammar.{Statement, declares, wires, statement_tokens, spelled, Begins, IsFirstWrong}
 use Rattle.chain_text.specs.Shapes.{fit_of}
-use Rattle.chain_text.proofs.Fitting.{fit_few, fit_within, fits_whole, filled, disagree, declaration_of, wire_of, declaration_is, wire_is, declaration_shape, wire_shape}
+use Rattle.chain_text.proofs.FitOfShapes.{fit_few, fit_within, fits_whole, filled, disagree, declaration_of, wire_of, declaration_is, wire_is, declaration_shape, wire_shape}
 
 -- ## the tokens behind statements
 

@@ -2,7 +2,7 @@
 use Rattle.std.proofs.Common.{List, ℕ}
 use Rattle.std.specs.Prelude.{◌≡◌, ◌≢◌}
 use Rattle.element_chain.specs.declared.chain.Chain.{Chain}
-use Rattle.chain_text.proofs.Composing.{can_be_composed}
+use Rattle.chain_text.proofs.ComposableChains.{can_be_composed}
 use Rattle.chain_text.proofs.OneAnswer.{accepted, one_chain, one_reason}
 use Rattle.chain_text.specs.Reads.{IsChainText, IsComposable, IsRefused}
 use Rattle.chain_text.specs.declared.error.ChainTextError.{ChainTextError}

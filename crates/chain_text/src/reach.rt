@@ -21,7 +21,7 @@ pub(crate) struct Reach {
 
 // Notes that a wire leads from its element to another.
 fn join(rows: &mut Vec<bool>, count: usize, wire: Wire)
-    requires few { count ≤ most_elements }
+    requires few_elements { count ≤ most_elements }
     requires from { wire.from < count }
     requires to { IsWithin count wire.to }
     requires size { vec_len rows.old ≡ count * count }
@@ -38,8 +38,8 @@ impl Reach {
 
     // The elements that one wire leads to.
     fn direct(alloc: Global, wires: &[Wire], count: usize) -> Result<Reach, NoMemory>
-        requires some { 0 < count }
-        requires few { count ≤ most_elements }
+        requires nonempty { 0 < count }
+        requires few_elements { count ≤ most_elements }
         requires within { AreWithin count wires.now }
         ensures { IfOk result (λ reach. LeadsBy wires.now count 0 reach) }
     {
@@ -80,8 +80,8 @@ impl Reach {
 
     // The elements that any number of wires lead to.
     fn new(alloc: Global, wires: &[Wire], count: usize) -> Result<Reach, NoMemory>
-        requires some { 0 < count }
-        requires few { count ≤ most_elements }
+        requires nonempty { 0 < count }
+        requires few_elements { count ≤ most_elements }
         requires within { AreWithin count wires.now }
         ensures { IfOk result (λ reach. LeadsBy wires.now count count reach) }
     {
@@ -108,8 +108,8 @@ impl Reach {
 
 /// Whether wires lead from an element back to it.
 pub(crate) fn has_cycle(alloc: Global, wires: &[Wire], count: usize) -> Result<bool, NoMemory>
-    requires some { 0 < count }
-    requires few { count ≤ most_elements }
+    requires nonempty { 0 < count }
+    requires few_elements { count ≤ most_elements }
     requires within { AreWithin count wires.now }
     ensures { IfOk result (λ found. MatchBool found ((e : ℕ) × Leads wires.now e e) (HasNoCycle wires.now)) }
 {

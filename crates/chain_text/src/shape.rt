@@ -51,7 +51,7 @@ impl Kind {
 /// How many of the first tokens are what they have to be.
 pub(crate) fn fit(kinds: &[Kind], tokens: &[Placed]) -> usize
     ensures value { (text : List ℕ) → result ≡ fit_of kinds.now (tokens_of text tokens.now) }
-    ensures few { result ≤ length kinds.now }
+    ensures bounded { result ≤ length kinds.now }
 {
     let Some((kind, kinds)) = kinds.split_first() else {
         return 0;

@@ -27,7 +27,7 @@ impl Statement {
     /// How many tokens it has.
     pub(crate) fn tokens(&self) -> usize
         ensures count { (text : List ℕ) → result ≡ length (statement_tokens (statement_of text self.now)) }
-        ensures some { 0 < result }
+        ensures nonempty { 0 < result }
     {
         match self {
             Statement::Declares { .. } => DECLARATION.len(),

@@ -5,7 +5,7 @@ use Rattle.flat_ir.specs.Sets.{IsCarriedClosed, IsGreatest, IsPostClosed, IsPreC
 use Rattle.flat_ir.specs.Stages.{IsDepths, IsStaged}
 use Rattle.flat_ir.specs.WellFormed.{IsWellFormed}
 use Rattle.dependence.proofs.Least.{depths_least, depths_staged}
-use Rattle.dependence.proofs.Placing.{placed}
+use Rattle.dependence.proofs.PlacedCode.{placed}
 use Rattle.dependence.proofs.Present.{carried_present, depths_present, post_present, pre_present}
 
 -- Depths are stages that a pass may have, and no such stages are lower anywhere.

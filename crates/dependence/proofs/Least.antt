@@ -11,7 +11,7 @@ use Rattle.flat_ir.specs.Kinds.{is_input}
 use Rattle.flat_ir.specs.Sets.{Reads, IsMarked}
 use Rattle.flat_ir.specs.Stages.{deepest, depth_of, IsDepths, IsStaged}
 use Rattle.dependence.specs.Placed.{IsPlaced}
-use Rattle.dependence.proofs.Marking.{mark_cases}
+use Rattle.dependence.proofs.MarkedPlaces.{mark_cases}
 
 given_reads : (work : Work) (j : ℕ) → is_input work ≡ true → Reads (operands work) j → ⊥
 given_reads (const width number) j h r = r

@@ -1,10 +1,10 @@
 mod Ahead
-pub mod Marking
-pub mod Placing
-pub mod Rising
-mod Guarding
-mod Using
-mod Falling
+pub mod MarkedPlaces
+pub mod PlacedCode
+pub mod PreSets
+mod GuardMarks
+mod UserLists
+mod PostSets
 mod Deep
 mod Least
 pub mod Present

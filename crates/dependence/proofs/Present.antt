@@ -17,12 +17,12 @@ use Rattle.dependence.specs.Guards.{AreGuards}
 use Rattle.dependence.specs.Uses.{AreUses}
 use Rattle.dependence.specs.Noted.{noted_all, AreUsesSoFar}
 use Rattle.dependence.specs.Posted.{IsPostFrom}
-use Rattle.dependence.proofs.Rising.{IsSoFar, PreMay, CarriedMay, needed_of, operands_of, none_so_far, pre_more, carried_more, pre_done, carried_done}
+use Rattle.dependence.proofs.PreSets.{IsSoFar, PreMay, CarriedMay, needed_of, operands_of, none_so_far, pre_more, carried_more, pre_done, carried_done}
 use Rattle.dependence.proofs.Deep.{IsDepthsSoFar, depths_none, depths_more, depths_done}
-use Rattle.dependence.proofs.Using.{no_users, more_users, all_users}
-use Rattle.dependence.proofs.Falling.{may, enters, take_one, leave_out, post_from_end, post_found}
+use Rattle.dependence.proofs.UserLists.{no_users, more_users, all_users}
+use Rattle.dependence.proofs.PostSets.{may, enters, take_one, leave_out, post_from_end, post_found}
 use Rattle.flat_ir.proofs.Exact.{same_itself}
-use Rattle.flat_ir.proofs.Passing.{any_passes, passes_any}
+use Rattle.flat_ir.proofs.AnyBelow.{any_passes, passes_any}
 
 -- ## Step by step
 

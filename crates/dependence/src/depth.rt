@@ -58,7 +58,7 @@ fn next_depth(i: usize, one: &Instr, members: &Marks, depths: &Depths) -> u32
 /// The depths of the members, and 0 for every other instruction. It takes one step an operand.
 pub fn depths(alloc: Global, f: &Flat, members: &Marks) -> Result<Depths, NoMemory>
     requires formed { IsWellFormed (program_of f.now) }
-    requires few { length f.now.code ≤ 4096 }
+    requires few_instructions { length f.now.code ≤ 4096 }
     ensures { IfOk result (λ depths. IsDepths (program_of f.now) members.now depths) }
 {
     let code = f.code.as_slice();

@@ -1,14 +1,16 @@
 -- The body of an element by itself, and where it stands in the whole.
-use Rattle.std.proofs.Common.{◌≡◌, ℕ, suc, ◌+◌, ◌<◌, ◌≤◌, ◌%◌, ◌^◌, ◌==◌, Bool, true, false, cond, List, [], ◌∷◌, ◌++◌, length, nat_le, refl, sym, ap, ◌∙◌, subst, arith, slice_index, slice_get, mod-eq_of_lt, eq-eqb}
+use Rattle.std.proofs.Common.{◌≡◌, ℕ, suc, ◌+◌, ◌<◌, ◌≤◌, ◌%◌, ◌^◌, ◌==◌, Bool, true, false, cond, List, [], ◌∷◌, ◌++◌, length, nat_le, refl, sym, ap, ◌∙◌, subst, arith, slice_index, slice_get, is_some, mod-eq_of_lt, eq-eqb}
 use Rattle.std.proofs.lemmas.Bool.{eqb-true, leb-true, or_left, or_right}
 use Rattle.std.proofs.lemmas.List.{length_push}
+use Rattle.gal_bits.specs.Operators.{bit}
 use Rattle.packet_fields.specs.Arrivals.{IsArrival}
 use Rattle.packet_fields.specs.declared.field.Field.{Field}
 use Rattle.packet_fields.specs.declared.packet.Packet.{Packet}
 use Rattle.packet_fields.specs.declared.verdict.Verdict.TheVariants.{Drop, Send}
 use Rattle.packet_fields.specs.Fields.{field_value}
 use Rattle.packet_fields.specs.Table.{row, all_fields, field_index}
-use Rattle.state_store.specs.Store.{Store}
+use Rattle.state_store.specs.Store.{Store, is_stored, put_row, put_answer, del_row}
+use Rattle.state_store.specs.Store as store
 use Rattle.state_store.specs.Kept.{IsKept}
 use Rattle.element_lang.specs.Tree.{ExprTree, StmtTree, BodyTree, Tree}
 use Rattle.element_lang.specs.Tree.StmtTree.{let_local, assign, set_field, look, put, del, choose, repeat, send, drop}
@@ -24,7 +26,8 @@ use Rattle.element_lang.specs.KeptRuns.{Fits, value_fits, bound_fits, stmt_fits,
 use Rattle.element_chain.proofs.Numbers.{Extends, extends_more, IsNumbered, carries_one, stmt_carries, body_carries, the_first}
 use Rattle.element_chain.proofs.Sent.{written_behind_port, written_same}
 use Rattle.element_chain.proofs.Alike.{Instance, spot_of, IsIn, Alike, AlikeOutcomes, then_alike, fewer_outcomes, do_followed, value_alike, values_alike}
-use Rattle.element_chain.proofs.Steps.{bound_alike, assigned_alike, field_alike, put_alike, del_alike, look_alike, turns_alike, declared_there, counted_within}
+use Rattle.element_chain.proofs.Steps.{bound_alike, assigned_alike, field_alike, changed_alike, look_alike, turns_alike, declared_there, counted_within}
+use Rattle.element_chain.proofs.Tests.{and_three, and_four}
 use Rattle.lemmas.proofs.Tests.{and_first, and_second}
 
 abbrev pub ended : After → Outcome
@@ -92,12 +95,12 @@ same_after i st v x bytes others same also =
 module _ (i : Instance) (sent : Sends) (ready : IsReady i sent) where
   at_send : (scope names : List ℕ) (a t : State) → Fits i.m a → Alike i scope names a t → IsAt i t a.store
   at_send scope names a t fits alike = record {
-    many = alike.many;
-    all = alike.all;
-    fit = λ f may. subst (λ v. v < 2 ^ (row f).width) (sym (alike.fields (field_index f) (written_behind_port f may))) (subst (λ w. slice_index a.fields (field_index f) < 2 ^ w) (field_width_at f) (fits.fields (field_index f)));
+    many = alike.locals.many;
+    all = alike.fields.all;
+    fit = λ f may. subst (λ v. v < 2 ^ (row f).width) (sym (alike.fields.same (field_index f) (written_behind_port f may))) (subst (λ w. slice_index a.fields (field_index f) < 2 ^ w) (field_width_at f) (fits.fields (field_index f)));
     kept = fits.store;
     store = alike.store;
-    unset = alike.unset;
+    unset = alike.fields.unset;
   }
 
   send_alike : (scope names : List ℕ) (after : List ℕ) (a t : State) (port : ExprTree) (widths : List ℕ) (v : ℕ) → Fits i.m a → Alike i scope names a t → v < 2 ^ 8 → value_of i.widths i.whole port t ≡ v
@@ -107,7 +110,7 @@ module _ (i : Instance) (sent : Sends) (ready : IsReady i sent) where
       let low : value_of i.widths i.whole port t < 2 ^ 8 = subst (λ n. n < 2 ^ 8) (sym is) small in
       let cut : v % 2 ^ 8 ≡ v = mod-eq_of_lt small in
       let bytes : with_fields all_fields t.fields i.whole.bytes ≡ with_fields all_fields a.fields i.own.bytes
-      = written_same t.fields a.fields i.whole.bytes alike.fields ∙ sym (ready.as_sent a.fields) in
+      = written_same t.fields a.fields i.whole.bytes alike.fields.same ∙ sym (ready.as_sent a.fields) in
       subst (λ o. AlikeOutcomes i scope after (Ended a.store (Send (v % 2 ^ 8) (with_fields all_fields a.fields i.own.bytes))) o)
       (sym (ready.sends port widths t a.store (at_send scope names a t fits alike) low grown))
       (same_after i a.store (value_of i.widths i.whole port t) (v % 2 ^ 8) (with_fields all_fields t.fields i.whole.bytes) (with_fields all_fields a.fields i.own.bytes) (is ∙ sym cut) bytes)
@@ -140,10 +143,11 @@ module _ (i : Instance) (sent : Sends) (ready : IsReady i sent) where
     stmt_alike scope next (look found into object keys) n is good numbered within room grown bytes set a t fits alike =
         let carries = stmt_carries i.m (spot_of i) sent ready.grow scope next (look found into object keys) n is good numbered in
         let old = extends_more n.widths (all_declared (spot_of i) (found ∷ into) n).widths i.widths carries.widths grown in
-        let three = and_first _ _ (and_first _ _ (and_first _ _ (and_first _ _ good))) in
-        let counted : counted_from (length n.names) (found ∷ into) ≡ true = subst (λ k. counted_from k (found ∷ into) ≡ true) is (and_second _ _ (and_first _ _ good)) in
-        let same = values_alike i n scope numbered within old a t alike keys (and_first _ _ three) bytes in
-        let there : object < length a.store = there_in a object (widths_of (local_widths i.m) keys) fits (and_second _ _ three) in
+        let (three, one_bit, from_next, fresh) = and_four _ _ _ _ good in
+        let (good_keys, keys_fit, values_fit) = and_three _ _ _ three in
+        let counted : counted_from (length n.names) (found ∷ into) ≡ true = subst (λ k. counted_from k (found ∷ into) ≡ true) is from_next in
+        let same = values_alike i n scope numbered within old a t alike keys good_keys bytes in
+        let there : object < length a.store = there_in a object (widths_of (local_widths i.m) keys) fits keys_fit in
         subst (λ vs. Alike i ((found ∷ into) ++ scope) (all_declared (spot_of i) (found ∷ into) n).names (looked found into object (values_of (local_widths i.m) i.own keys a) a)
         (looked (length n.widths) (numbers (suc (length n.widths)) into) (i.base + object) vs t)) (sym same)
         (look_alike i scope n found into object (values_of (local_widths i.m) i.own keys a) a t counted numbered within (omega (arith, room, is))
@@ -151,35 +155,33 @@ module _ (i : Instance) (sent : Sends) (ready : IsReady i sent) where
     stmt_alike scope next (put ok object keys values) n is good numbered within room grown bytes set a t fits alike =
         let carries = stmt_carries i.m (spot_of i) sent ready.grow scope next (put ok object keys values) n is good numbered in
         let old = extends_more n.widths (declared (spot_of i) ok n).widths i.widths carries.widths grown in
-        let first : ok ≡ next = the_first next ok [] (and_second _ _ (and_first _ _ good)) in
-        let six = and_first _ _ (and_first _ _ good) in
-        let four = and_first _ _ (and_first _ _ six) in
-        let three = and_first _ _ four in
-        let two = and_first _ _ three in
+        let (five, one_bit, counted, fresh) = and_four _ _ _ _ good in
+        let (two, may, keys_fit, values_fit) = and_four _ _ _ _ five in
+        let first : ok ≡ next = the_first next ok [] counted in
         let same_keys = values_alike i n scope numbered within old a t alike keys (and_first _ _ two) (λ h. bytes (or_left (any_reads_bytes keys) (any_reads_bytes values) h)) in
         let same_values = values_alike i n scope numbered within old a t alike values (and_second _ _ two) (λ h. bytes (or_right (any_reads_bytes keys) (any_reads_bytes values) h)) in
-        let there : object < length a.store = there_in a object (widths_of (local_widths i.m) keys) fits (and_second _ _ four) in
+        let there : object < length a.store = there_in a object (widths_of (local_widths i.m) keys) fits keys_fit in
         let own : State = stored ok object (values_of (local_widths i.m) i.own keys a) (values_of (local_widths i.m) i.own values a) a in
         subst (λ ks. Alike i (ok ∷ scope) (declared (spot_of i) ok n).names own
         (stored (length n.widths) (i.base + object) ks (values_of i.widths i.whole (all_renamed i.port n.names values) t) t)) (sym same_keys)
         (subst (λ vs. Alike i (ok ∷ scope) (declared (spot_of i) ok n).names own (stored (length n.widths) (i.base + object) (values_of (local_widths i.m) i.own keys a) vs t)) (sym same_values)
-        (put_alike i scope n ok object (values_of (local_widths i.m) i.own keys a) (values_of (local_widths i.m) i.own values a) a t (first ∙ is) numbered within (omega (arith, first, room))
+        (changed_alike i scope n ok object (λ ob. bit (is_stored (put_answer ob (values_of (local_widths i.m) i.own keys a))))
+        (λ ob. put_row ob (values_of (local_widths i.m) i.own keys a) (values_of (local_widths i.m) i.own values a)) a t (first ∙ is) numbered within (omega (arith, first, room))
         (omega (arith, grown.longer, length_push n.widths (slice_index (local_widths i.m) ok))) ready.base there alike))
     stmt_alike scope next (del was object keys) n is good numbered within room grown bytes set a t fits alike =
         let carries = stmt_carries i.m (spot_of i) sent ready.grow scope next (del was object keys) n is good numbered in
         let old = extends_more n.widths (declared (spot_of i) was n).widths i.widths carries.widths grown in
-        let first : was ≡ next = the_first next was [] (and_second _ _ (and_first _ _ good)) in
-        let four = and_first _ _ (and_first _ _ good) in
-        let three = and_first _ _ four in
-        let same = values_alike i n scope numbered within old a t alike keys (and_first _ _ (and_first _ _ three)) bytes in
-        let there : object < length a.store = there_in a object (widths_of (local_widths i.m) keys) fits (and_second _ _ three) in
+        let (three, one_bit, counted, fresh) = and_four _ _ _ _ good in
+        let (good_keys, may, keys_fit) = and_three _ _ _ three in
+        let first : was ≡ next = the_first next was [] counted in
+        let same = values_alike i n scope numbered within old a t alike keys good_keys bytes in
+        let there : object < length a.store = there_in a object (widths_of (local_widths i.m) keys) fits keys_fit in
         subst (λ ks. Alike i (was ∷ scope) (declared (spot_of i) was n).names (deleted was object (values_of (local_widths i.m) i.own keys a) a) (deleted (length n.widths) (i.base + object) ks t)) (sym same)
-        (del_alike i scope n was object (values_of (local_widths i.m) i.own keys a) a t (first ∙ is) numbered within (omega (arith, first, room))
+        (changed_alike i scope n was object (λ ob. bit (is_some (store.look ob (values_of (local_widths i.m) i.own keys a))))
+        (λ ob. del_row ob (values_of (local_widths i.m) i.own keys a)) a t (first ∙ is) numbered within (omega (arith, first, room))
         (omega (arith, grown.longer, length_push n.widths (slice_index (local_widths i.m) was))) ready.base there alike)
     stmt_alike scope next (choose test first second) n is good numbered within room grown bytes set a t fits alike =
-        let good_first : is_good_body i.m scope next first ≡ true = and_second _ _ (and_first _ _ good) in
-        let good_second : is_good_body i.m scope (next + declared_by first) second ≡ true = and_second _ _ good in
-        let good_test = and_first _ _ (and_first _ _ (and_first _ _ good)) in
+        let (good_test, one_bit, good_first, good_second) = and_four _ _ _ _ good in
         let middle : Numbering = (body_placed (spot_of i) sent first n).numbering in
         let last : Numbering = (body_placed (spot_of i) sent second middle).numbering in
         let one_carries = body_carries i.m (spot_of i) sent ready.grow scope next first n is good_first numbered in
@@ -207,12 +209,10 @@ module _ (i : Instance) (sent : Sends) (ready : IsReady i sent) where
         ∙ ap (λ u. cond (u == 0) (do_body i.widths i.whole (body_placed (spot_of i) sent second middle).body t) (do_body i.widths i.whole (body_placed (spot_of i) sent first n).body t)) same))
         (choose_by i scope last.names (v == 0) _ _ _ _ no_part yes_part)
     stmt_alike scope next (repeat index count body) n is good numbered within room grown bytes set a t fits alike =
-        let good_body : is_good_body i.m (index ∷ scope) (next + 1) body ≡ true = and_second _ _ good in
-        let index_counted : counted_from next (index ∷ []) ≡ true = and_second _ _ (and_first _ _ (and_first _ _ good)) in
-        let four = and_first _ _ (and_first _ _ (and_first _ _ good)) in
-        let times = and_first (is_count count) _ (and_first _ _ (and_first _ _ four)) in
+        let (four, index_counted, fresh, good_body) = and_four _ _ _ _ good in
+        let (times, quiet, goes_on, is_wide) = and_four (is_count count) _ _ _ four in
         let few : count ≤ 64 = leb-true count 64 (and_second _ (nat_le count 64) times) in
-        let wide : slice_index (local_widths i.m) index ≡ 32 = eqb-true (slice_index (local_widths i.m) index) 32 (and_second _ _ four) in
+        let wide : slice_index (local_widths i.m) index ≡ 32 = eqb-true (slice_index (local_widths i.m) index) 32 is_wide in
         let first : index ≡ next = the_first next index [] index_counted in
         let inner : Numbering = declared (spot_of i) index n in
         let last : Numbering = (body_placed (spot_of i) sent body inner).numbering in
@@ -247,8 +247,7 @@ module _ (i : Instance) (sent : Sends) (ready : IsReady i sent) where
         → AlikeOutcomes i scope n.names (do_body (local_widths i.m) i.own b a) (do_body i.widths i.whole (body_placed (spot_of i) sent b n).body t)
     body_alike scope next done n is good numbered within room grown bytes set a t fits alike = alike
     body_alike scope next (stmt s b) n is good numbered within room grown bytes set a t fits alike =
-        let good_stmt : is_good_stmt i.m scope next s ≡ true = and_first _ _ (and_first _ _ good) in
-        let good_rest : is_good_body i.m (binds s ++ scope) (next + declared_in s) b ≡ true = and_second _ _ good in
+        let (good_stmt, alone, good_rest) = and_three _ _ _ good in
         let middle : Numbering = (stmt_placed (spot_of i) sent s n).numbering in
         let last : Numbering = (body_placed (spot_of i) sent b middle).numbering in
         let carries = stmt_carries i.m (spot_of i) sent ready.grow scope next s n is good_stmt numbered in

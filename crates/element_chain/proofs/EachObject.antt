@@ -1,5 +1,6 @@
 -- The objects of the whole, one by one.
-use Rattle.std.proofs.Common.{◌≡◌, ℕ, zero, suc, ◌+◌, ◌<◌, ◌==◌, Bool, true, false, cond, List, [], ◌∷◌, length, take, drop, refl, ap, ◌∙◌, arith, slice_set, Option, Some, None}
+use Rattle.std.proofs.Common.{◌≡◌, ℕ, zero, suc, ◌+◌, ◌<◌, ◌==◌, cond, List, [], ◌∷◌, length, take, drop, refl, ap, ◌∙◌, arith, slice_set, Option, Some, None}
+use Rattle.std.proofs.lemmas.Bool.{cond_both}
 use Rattle.std.proofs.lemmas.List.{length-set}
 use Rattle.packet_fields.specs.Arrivals.{IsArrival}
 use Rattle.packet_fields.specs.declared.packet.Packet.{Packet}
@@ -22,16 +23,11 @@ use Rattle.element_chain.proofs.Whole.{whole_is_chain}
 
 -- ## a run leaves as many objects
 abbrev HasObjects : ℕ → Outcome → Type 0
-HasObjects k (Running s) = length s.store ≡ k
-HasObjects k (Ended st verdict) = length st ≡ k
+HasObjects k o = length (store_after o) ≡ k
 
 then_has : (k : ℕ) (o : Outcome) (go : State → Outcome) → HasObjects k o → ((s : State) → length s.store ≡ k → HasObjects k (go s)) → HasObjects k (then_do o go)
 then_has k (Running s) go has goes = goes s has
 then_has k (Ended st verdict) go has goes = has
-
-either_has : (k : ℕ) (b : Bool) (x y : Outcome) → HasObjects k x → HasObjects k y → HasObjects k (cond b x y)
-either_has k true x y first second = first
-either_has k false x y first second = second
 
 turns_have : (k x : ℕ) (go : State → Outcome) → ((s : State) → length s.store ≡ k → HasObjects k (go s)) → (n i : ℕ) (s : State) → length s.store ≡ k → HasObjects k (turns n i x go s)
 turns_have k x go goes zero i s has = has
@@ -43,7 +39,8 @@ mutual
   stmt_has widths packet k (put ok object keys values) s has = length-set s.store object _ ∙ has
   stmt_has widths packet k (del was object keys) s has = length-set s.store object _ ∙ has
   stmt_has widths packet k (choose test first second) s has =
-      either_has k (value_of widths packet test s == 0) (do_body widths packet second s) (do_body widths packet first s) (body_has widths packet k second s has) (body_has widths packet k first s has)
+      cond_both (value_of widths packet test s == 0) (do_body widths packet second s) (do_body widths packet first s) (HasObjects k) (λ e. body_has widths packet k second s has)
+      (λ e. body_has widths packet k first s has)
   stmt_has widths packet k (repeat index count body) s has = turns_have k index (do_body widths packet body) (λ u has'. body_has widths packet k body u has') count 0 s has
   stmt_has widths packet k _ s has = has
 
@@ -52,12 +49,8 @@ mutual
   body_has widths packet k (stmt t b) s has =
       then_has k (do_stmt widths packet t s) (do_body widths packet b) (stmt_has widths packet k t s has) (λ u has'. body_has widths packet k b u has')
 
-after_has : (k : ℕ) (o : Outcome) → HasObjects k o → length (store_after o) ≡ k
-after_has k (Running s) has = has
-after_has k (Ended st verdict) has = has
-
 run_has : (m : Tree) (st : Store) (packet : Packet) → length (source_store m st packet) ≡ length st
-run_has m st packet = after_has (length st) _ (body_has _ packet (length st) m.body _ refl)
+run_has m st packet = body_has _ packet (length st) m.body _ refl
 
 -- ## and so does a chain
 record SameSizes (before after : List Store) : Type 0 where

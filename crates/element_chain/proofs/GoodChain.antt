@@ -1,6 +1,6 @@
 -- The composed middlebox keeps the rules.
-use Rattle.std.proofs.Common.{◌≡◌, ℕ, zero, suc, ◌+◌, ◌<◌, ◌≤◌, ◌^◌, Bool, true, false, cond, List, [], ◌∷◌, ◌++◌, length, refl, sym, ap, ◌∙◌, subst, arith, slice_index, true≢false, Option, Some, None, inl, eq-eqb}
-use Rattle.std.specs.List.{filter}
+use Rattle.std.proofs.Common.{◌≡◌, ℕ, zero, suc, ◌+◌, ◌<◌, ◌≤◌, ◌^◌, true, false, List, [], ◌∷◌, ◌++◌, length, refl, sym, ap, ◌∙◌, subst, arith, slice_index, true≢false, Option, Some, None, inl, eq-eqb}
+use Rattle.std.specs.List.{AllByRecursion, filter}
 use Rattle.std.proofs.lemmas.Bool.{and_from, lt-ltb}
 use Rattle.std.proofs.lemmas.List.{length_push, get_or_push, length-map}
 use Rattle.packet_fields.specs.declared.field.Field.{Field}
@@ -24,15 +24,16 @@ use Rattle.element_chain.specs.Laws.{IsSmall}
 use Rattle.element_chain.proofs.Ranked.{IsRanked, FallsTo, IsCalm, passes}
 use Rattle.element_chain.proofs.Numbers.{Extends, extends_self, extends_more}
 use Rattle.element_chain.proofs.Sets.{set_only}
-use Rattle.element_chain.proofs.Wired.{EachWire}
+use Rattle.element_chain.proofs.Wired.{EachWire, each_mapped}
 use Rattle.element_chain.proofs.Alike.{IsIn}
 use Rattle.element_chain.proofs.Steps.{in_cases}
 use Rattle.element_chain.proofs.Tests.{the_some, none_some}
 use Rattle.element_chain.proofs.Names.{all_objects_good, object_there}
-use Rattle.element_chain.proofs.GoodBodies.{bound_after, good_one, good_followed, IsAround, body_ends_same}
+use Rattle.element_chain.proofs.GoodBodies.{closed_so, bound_after, good_one, good_followed, IsAround, body_ends_same}
 use Rattle.element_chain.proofs.GoodStmts.{first_in, body_keeps}
 use Rattle.element_chain.proofs.Whole.{falls_further, good_at, no_names, tests_grow, sent_grow, ends_grow, width_of_locals, length_of_locals}
-use Rattle.element_chain.proofs.GoodWhole.{element_counts, ends_count, sent_count, ends_end, sent_end, clearing_declares, sends_quiet, IsKnown, known_wires, each_mapped, all_fresh}
+use Rattle.element_chain.proofs.GoodWhole.{element_counts, ends_count, sent_count, ends_end, sent_end, clearing_declares, sends_quiet, IsKnown, known_wires, all_fresh}
+use Rattle.lemmas.proofs.Lists.{each_all, each_filter}
 use Rattle.lemmas.proofs.Tests.{and_first}
 
 -- ## clearing
@@ -40,11 +41,7 @@ cleared_good : (m : Tree) (around : List ℕ) (k : ℕ) (f : Field) → (row f).
 cleared_good m around k MetaPort may = cc
 cleared_good m around k _ may = cc
 
-abbrev AllWritable : List Field → Type 0
-AllWritable [] = Unit {0}
-AllWritable (f ∷ fs) = ((row f).writable ≡ true) × AllWritable fs
-
-clearing_good : (m : Tree) (around : List ℕ) (k : ℕ) (fs : List Field) → AllWritable fs → is_good_body m around k (clearing fs) ≡ true
+clearing_good : (m : Tree) (around : List ℕ) (k : ℕ) (fs : List Field) → AllByRecursion (λ (f : Field). (row f).writable ≡ true) fs → is_good_body m around k (clearing fs) ≡ true
 clearing_good m around k [] may = refl
 clearing_good m around k (f ∷ fs) may =
     let next : k + 0 ≡ k = omega arith in
@@ -58,14 +55,6 @@ clearing_goes_on (f ∷ g ∷ fs) = clearing_goes_on (g ∷ fs)
 clearing_binds : (fs : List Field) (around : List ℕ) → bound_after (clearing fs) around ≡ around
 clearing_binds [] around = refl
 clearing_binds (f ∷ fs) around = clearing_binds fs around
-
-filtered_by : (b : Bool) (f : Field) (fs : List Field) → (b ≡ true → (row f).writable ≡ true) → AllWritable fs → AllWritable (cond b (f ∷ fs) fs)
-filtered_by true f fs may rest = (may refl, rest)
-filtered_by false f fs may rest = rest
-
-filtered : (is : Field → Bool) → ((f : Field) → is f ≡ true → (row f).writable ≡ true) → (fs : List Field) → AllWritable (filter is fs)
-filtered is only [] = tt
-filtered is only (f ∷ fs) = filtered_by (is f) f (filter is fs) (only f) (filtered is only fs)
 
 -- ## a whole, and the ends of wires in it
 eq_fits : (w : ℕ) → w ≡ 8 → fits_operator Eq 1 (w ∷ 8 ∷ []) ≡ true
@@ -152,11 +141,8 @@ module _ (c : Connected) (fit : IsRanked c) (calm : IsCalm c) (small : IsSmall c
       (λ y is. absurd (true≢false (sym is))) (λ x is. absurd (true≢false (sym is))) below grown (λ again. sends_quiet c fit calm n e there again)
 
   closed_good : (own b : BodyTree) (scope : List ℕ) (k : ℕ) → ends_always b ≡ ends_always own → is_good_body (composed c) scope k b ≡ true → is_good_body (composed c) scope k (closed own b) ≡ true
-  closed_good own b scope k same good = by_test (ends_always own) refl
-    where
-      by_test : (x : Bool) → ends_always own ≡ x → is_good_body (composed c) scope k (cond x b (followed b (one drop_all))) ≡ true
-      by_test true h = good
-      by_test false h = good_followed (composed c) b (one drop_all) scope k good (inl (same ∙ h)) refl
+  closed_good own b scope k same good =
+      closed_so (λ x. is_good_body (composed c) scope k x ≡ true) own b (λ h. good) (λ h. good_followed (composed c) b (one drop_all) scope k good (inl (same ∙ h)) refl)
 
   ends_good : (n : ℕ) → GoodEnds n
   ends_good n Out input scope widths falls there low below grown =
@@ -173,7 +159,7 @@ module _ (c : Connected) (fit : IsRanked c) (calm : IsCalm c) (small : IsSmall c
       let closes : is_good_body (composed c) scope (length widths) (closed m.body own.body) ≡ true
       = closed_good m.body own.body scope (length widths) (body_ends_same spot sent (sent_end (ends_within c n) (ends_end c n) (wires_of c.wires e)) m.body (record { names = []; widths = widths })) placed in
       let next : length widths + declared_by (clearing fs) ≡ length widths = omega (arith, clearing_declares fs) in
-      good_followed (composed c) (clearing fs) (closed m.body own.body) scope (length widths) (clearing_good (composed c) scope (length widths) fs (filtered (is_set c.elements) only all_fields))
+      good_followed (composed c) (clearing fs) (closed m.body own.body) scope (length widths) (clearing_good (composed c) scope (length widths) fs (each_filter (λ (f : Field). (row f).writable ≡ true) (is_set c.elements) all_fields (each_all (λ (f : Field). is_set c.elements f ≡ true → (row f).writable ≡ true) only all_fields)))
       (inl (clearing_goes_on fs))
       (subst (λ k. is_good_body (composed c) (bound_after (clearing fs) scope) k (closed m.body own.body) ≡ true) (sym next)
       (subst (λ around. is_good_body (composed c) around (length widths) (closed m.body own.body) ≡ true) (sym (clearing_binds fs scope)) closes))

@@ -1,5 +1,5 @@
 -- The whole keeps the rules.
-use Rattle.std.proofs.Common.{◌≡◌, ℕ, zero, suc, ◌+◌, ◌<◌, ◌≤◌, ◌^◌, ◌==◌, ◌||◌, not, Bool, true, false, cond, List, [], ◌∷◌, ◌++◌, length, map, refl, sym, ap, ◌∙◌, arith, Option, Some, codes}
+use Rattle.std.proofs.Common.{◌≡◌, ℕ, zero, suc, ◌+◌, ◌<◌, ◌≤◌, ◌^◌, ◌==◌, ◌||◌, not, true, false, cond, List, [], ◌∷◌, ◌++◌, length, map, refl, sym, ap, ◌∙◌, arith, Option, Some, codes}
 use Rattle.std.specs.Fmt.{decimal}
 use Rattle.std.specs.List.{list_any, filter, All}
 use Rattle.std.specs.Str.{bytes_eq}
@@ -10,10 +10,9 @@ use Rattle.packet_fields.specs.Table.{all_fields}
 use Rattle.state_store.specs.declared.object.ObjectDecl.{ObjectDecl}
 use Rattle.element_lang.specs.Tree.{ExprTree, BodyTree, Tree}
 use Rattle.element_lang.specs.Tree.StmtTree.{drop as drop_all}
-use Rattle.element_lang.specs.Tree.BodyTree.{done, stmt}
 use Rattle.element_lang.specs.Widths.{local_widths}
 use Rattle.element_lang.specs.Surface.{local_name, name_of_local}
-use Rattle.element_lang.specs.Rules.{object_names, counted_from, are_fresh, declared_by, ends_always, any_repeats, is_empty}
+use Rattle.element_lang.specs.Rules.{object_names, counted_from, are_fresh, declared_by, ends_always, any_repeats}
 use Rattle.element_chain.specs.declared.chain.Wire.{Wire}
 use Rattle.element_chain.specs.declared.chain.Target.{Target}
 use Rattle.element_chain.specs.declared.chain.Target.TheVariants.{Element, Out}
@@ -21,11 +20,11 @@ use Rattle.element_chain.specs.Chain.{Connected, element_at}
 use Rattle.element_chain.specs.Compose.{Placed, Spot, Ends, one, followed, tests, sent_by, wires_of, ends_within, element_placed, entry_within, whole_within, closed, clearing, is_set, base_of, named_objects, objects_from}
 use Rattle.element_chain.specs.Laws.{any_sends_again}
 use Rattle.element_chain.proofs.Ranked.{IsRanked, IsWireOf, IsCalm, IsPassedOn, passes}
-use Rattle.element_chain.proofs.Wired.{EachWire, each_low}
+use Rattle.element_chain.proofs.Wired.{EachWire, each_low, each_mapped}
 use Rattle.element_chain.proofs.Alike.{IsIn}
 use Rattle.element_chain.proofs.Names.{same_local, local_there}
 use Rattle.element_chain.proofs.Steps.{in_cases}
-use Rattle.element_chain.proofs.GoodBodies.{declared_followed, quiet_followed, ends_followed, quiet_body, body_ends_same}
+use Rattle.element_chain.proofs.GoodBodies.{closed_so, declared_followed, quiet_followed, ends_full, ends_followed, quiet_body, body_ends_same}
 use Rattle.element_chain.proofs.GoodStmts.{first_in, later_in, body_counts}
 use Rattle.element_chain.proofs.Whole.{length_of_locals}
 use Rattle.lemmas.proofs.Tests.{and_first, and_second}
@@ -36,11 +35,7 @@ clearing_declares [] = refl
 clearing_declares (f ∷ fs) = omega (arith, clearing_declares fs)
 
 closed_declares : (own b : BodyTree) → declared_by (closed own b) ≡ declared_by b
-closed_declares own b = by_test (ends_always own)
-  where
-    by_test : (x : Bool) → declared_by (cond x b (followed b (one drop_all))) ≡ declared_by b
-    by_test true = refl
-    by_test false = omega (arith, declared_followed b (one drop_all))
+closed_declares own b = closed_so (λ x. declared_by x ≡ declared_by b) own b (λ h. refl) (λ h. omega (arith, declared_followed b (one drop_all)))
 
 abbrev pub CountEnds : Ends → Type 0
 CountEnds end = (target : Target) (input : ℕ) (widths : List ℕ) → length widths + declared_by (end target input widths).body ≡ length (end target input widths).widths
@@ -78,10 +73,6 @@ ends_count c (suc n) (Element e) input widths =
     )
 
 -- ## what always ends
-full_end : (b : BodyTree) → ends_always b ≡ true → is_empty b ≡ false
-full_end done h = sym h
-full_end (stmt s b) h = refl
-
 abbrev pub EndEnds : Ends → Type 0
 EndEnds end = (target : Target) (input : ℕ) (widths : List ℕ) → ends_always (end target input widths).body ≡ true
 
@@ -94,11 +85,7 @@ sent_end end ends [] p widths = refl
 sent_end end ends (w ∷ ws) p widths = tests_end end ends (length widths) (w ∷ ws) (widths ++ 8 ∷ [])
 
 closed_end : (own b : BodyTree) → ends_always b ≡ ends_always own → ends_always (closed own b) ≡ true
-closed_end own b same = by_test (ends_always own) refl
-  where
-    by_test : (x : Bool) → ends_always own ≡ x → ends_always (cond x b (followed b (one drop_all))) ≡ true
-    by_test true h = same ∙ h
-    by_test false h = ends_followed b (one drop_all) refl
+closed_end own b same = closed_so (λ x. ends_always x ≡ true) own b (λ h. same ∙ h) (λ h. ends_followed b (one drop_all) refl)
 
 pub ends_end : (c : Connected) (n : ℕ) → EndEnds (ends_within c n)
 ends_end c n Out input widths = refl
@@ -109,7 +96,7 @@ ends_end c (suc n) (Element e) input widths =
     let own : Placed = element_placed c (ends_within c n) (Some input) e widths in
     let closes : ends_always (closed m.body own.body) ≡ true
     = closed_end m.body own.body (body_ends_same spot (sent_by (ends_within c n) (wires_of c.wires e)) (sent_end (ends_within c n) (ends_end c n) (wires_of c.wires e)) m.body (record { names = []; widths = widths })) in
-    ends_followed (clearing (filter (is_set c.elements) all_fields)) (closed m.body own.body) (full_end (closed m.body own.body) closes) ∙ closes
+    ends_followed (clearing (filter (is_set c.elements) all_fields)) (closed m.body own.body) (ends_full (closed m.body own.body) closes) ∙ closes
 
 -- ## what does not repeat
 clearing_quiet : (fs : List Field) → any_repeats (clearing fs) ≡ false
@@ -117,11 +104,7 @@ clearing_quiet [] = refl
 clearing_quiet (f ∷ fs) = clearing_quiet fs
 
 closed_quiet : (own b : BodyTree) → any_repeats b ≡ false → any_repeats (closed own b) ≡ false
-closed_quiet own b h = by_test (ends_always own)
-  where
-    by_test : (x : Bool) → any_repeats (cond x b (followed b (one drop_all))) ≡ false
-    by_test true = h
-    by_test false = quiet_followed b (one drop_all) h refl
+closed_quiet own b h = closed_so (λ x. any_repeats x ≡ false) own b (λ e. h) (λ e. quiet_followed b (one drop_all) h refl)
 
 abbrev QuietEnds : (Target → Type 0) → Ends → Type 0
 QuietEnds may end = (target : Target) (input : ℕ) (widths : List ℕ) → may target → any_repeats (end target input widths).body ≡ false
@@ -134,10 +117,6 @@ tests_quiet may end quiet v (w ∷ ws) widths each =
 sent_quiet : (may : Target → Type 0) (end : Ends) → QuietEnds may end → (ws : List Wire) (p : ExprTree) (widths : List ℕ) → EachWire (λ (w : Wire). may w.to) ws → any_repeats (sent_by end ws p widths).body ≡ false
 sent_quiet may end quiet [] p widths each = refl
 sent_quiet may end quiet (w ∷ ws) p widths each = tests_quiet may end quiet (length widths) (w ∷ ws) (widths ++ 8 ∷ []) each
-
-pub each_mapped : (P Q : Wire → Type 0) → ((w : Wire) → P w → Q w) → (ws : List Wire) → EachWire P ws → EachWire Q ws
-each_mapped P Q f [] each = tt
-each_mapped P Q f (w ∷ ws) each = (f w each.0, each_mapped P Q f ws each.1)
 
 -- a wire of an element, with all that is known of it
 abbrev pub IsKnown : (c : Connected) → IsRanked c → IsCalm c → ℕ → Wire → Type 0

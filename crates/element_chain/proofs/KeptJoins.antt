@@ -14,31 +14,18 @@ abbrev renamed_object : ℕ → ObjectDecl → ObjectDecl
 renamed_object e o = record o { name = prefixed e o.name }
 
 -- ## names play no part
-kept_named : (e : ℕ) (o : ObjectDecl) (x : Object) → IsKeptObject o x → IsKeptObject (renamed_object e o) x
-kept_named e o x k = record {
+kept_named : (o : ObjectDecl) (name : List ℕ) (x : Object) → IsKeptObject o x → IsKeptObject (record o { name = name }) x
+kept_named o name x k = record {
   kind = k.kind;
   size = k.size;
   count = k.count;
   few = k.few;
   rows = k.rows;
-  table = λ h. k.table h ∙ sym (same_contents o.kind o (prefixed e o.name));
+  table = λ h. k.table h ∙ sym (same_contents o.kind o name);
 }
 
-named_kept : (e : ℕ) (o : ObjectDecl) (x : Object) → IsKeptObject (renamed_object e o) x → IsKeptObject o x
-named_kept e o x k = record {
-  kind = k.kind;
-  size = k.size;
-  count = k.count;
-  few = k.few;
-  rows = k.rows;
-  table = λ h. k.table h ∙ same_contents o.kind o (prefixed e o.name);
-}
-
-whole_named : (e : ℕ) (o : ObjectDecl) (x : Object) → IsWhole o x → IsWhole (renamed_object e o) x
-whole_named e o x w = record { vector = w.vector; int = w.int }
-
-named_whole : (e : ℕ) (o : ObjectDecl) (x : Object) → IsWhole (renamed_object e o) x → IsWhole o x
-named_whole e o x w = record { vector = w.vector; int = w.int }
+whole_named : (o : ObjectDecl) (name : List ℕ) (x : Object) → IsWhole o x → IsWhole (record o { name = name }) x
+whole_named o name x w = record { vector = w.vector; int = w.int }
 
 -- ## one object more
 nothing_kept : IsKept [] []
@@ -74,27 +61,24 @@ one_less o os x st k = record {
 -- ## the objects of an element under their names in the whole
 pub kept_names : (e : ℕ) (os : List ObjectDecl) (st : Store) → IsKept os st → IsKept (named_objects e os) st
 kept_names e [] [] k = nothing_kept
-kept_names e [] (x ∷ st) k = absurd (omega (arith, k.count))
-kept_names e (o ∷ os) [] k = absurd (omega (arith, k.count))
 kept_names e (o ∷ os) (x ∷ st) k =
-    one_more (renamed_object e o) (named_objects e os) x st (kept_named e o x (k.each 0 o refl)) (whole_named e o x (k.whole 0 o refl))
+    one_more (renamed_object e o) (named_objects e os) x st (kept_named o (prefixed e o.name) x (k.each 0 o refl)) (whole_named o (prefixed e o.name) x (k.whole 0 o refl))
     (kept_names e os st (one_less o os x st k))
+kept_names e os st k = absurd (omega (arith, k.count))
 
 pub names_kept : (e : ℕ) (os : List ObjectDecl) (st : Store) → IsKept (named_objects e os) st → IsKept os st
 names_kept e [] [] k = nothing_kept
-names_kept e [] (x ∷ st) k = absurd (omega (arith, k.count))
-names_kept e (o ∷ os) [] k = absurd (omega (arith, k.count))
 names_kept e (o ∷ os) (x ∷ st) k =
-    one_more o os x st (named_kept e o x (k.each 0 (renamed_object e o) refl)) (named_whole e o x (k.whole 0 (renamed_object e o) refl))
+    one_more o os x st (kept_named (renamed_object e o) o.name x (k.each 0 (renamed_object e o) refl)) (whole_named (renamed_object e o) o.name x (k.whole 0 (renamed_object e o) refl))
     (names_kept e os st (one_less (renamed_object e o) (named_objects e os) x st k))
+names_kept e os st k = absurd (omega (arith, k.count))
 
 -- ## objects behind others
 kept_append : (a b : List ObjectDecl) (s t : Store) → IsKept a s → IsKept b t → IsKept (a ++ b) (s ++ t)
 kept_append [] b [] t k l = l
-kept_append [] b (x ∷ s) t k l = absurd (omega (arith, k.count))
-kept_append (o ∷ a) b [] t k l = absurd (omega (arith, k.count))
 kept_append (o ∷ a) b (x ∷ s) t k l =
     one_more o (a ++ b) x (s ++ t) (k.each 0 o refl) (k.whole 0 o refl) (kept_append a b s t (one_less o a x s k) l)
+kept_append a b s t k l = absurd (omega (arith, k.count))
 
 record Split (a b : List ObjectDecl) (st : Store) : Type 0 where
   pub front : Store
@@ -122,11 +106,10 @@ fewer_kept m ms st stores k = record { count = omega (arith, k.count); each = λ
 
 joined_from : (e : ℕ) (ms : List Tree) (stores : List Store) → AreKept ms stores → IsKept (objects_from e ms) (joined stores)
 joined_from e [] [] k = nothing_kept
-joined_from e [] (st ∷ stores) k = absurd (omega (arith, k.count))
-joined_from e (m ∷ ms) [] k = absurd (omega (arith, k.count))
 joined_from e (m ∷ ms) (st ∷ stores) k =
     kept_append (named_objects e m.objects) (objects_from (suc e) ms) st (joined stores)
     (kept_names e m.objects st (k.each 0 (omega arith))) (joined_from (suc e) ms stores (fewer_kept m ms st stores k))
+joined_from e ms stores k = absurd (omega (arith, k.count))
 
 more_kept : (m : Tree) (ms : List Tree) (st : Store) (stores : List Store) → IsKept m.objects st → AreKept ms stores → AreKept (m ∷ ms) (st ∷ stores)
 more_kept m ms st stores first rest = record { count = omega (arith, rest.count); each = each }

@@ -7,7 +7,7 @@ pub mod Numbers
 pub mod Alike
 pub mod Steps
 pub mod Bodies
-pub mod Clearing
+pub mod ClearedFields
 pub mod Sets
 pub mod Wired
 pub mod Whole

@@ -1,16 +1,18 @@
 -- Chains whose elements have ranks, and which elements stand within a `repeat`.
-use Rattle.std.proofs.Common.{◌≡◌, inl, inr, ℕ, zero, suc, ◌<◌, ◌^◌, ◌==◌, ◌&&◌, ◌||◌, Bool, true, false, IsTrue, List, length, refl, sym, ◌∙◌, subst, arith, true≢false, ⊎_elim}
+use Rattle.std.proofs.Common.{◌≡◌, inl, inr, ℕ, zero, suc, ◌<◌, ◌^◌, ◌==◌, ◌&&◌, ◌||◌, Bool, true, false, IsTrue, List, length, refl, subst, arith}
 use Rattle.std.specs.List.{All, Contains}
-use Rattle.std.proofs.lemmas.Bool.{and_parts, and_from, eqb-true, eq-eqb, cases_Bool, or_cases, or_left, or_right}
+use Rattle.std.specs.Prelude.{Decides}
+use Rattle.std.proofs.lemmas.Bool.{eqb-true, eq-eqb, false_from_ne_true}
+use Rattle.std.proofs.lemmas.Bool.Decides.{Decides-and, Decides-or, Decides-below_or}
 use Rattle.std.proofs.lemmas.List.Elements.{All-contains, Contains-get_or}
 use Rattle.element_lang.specs.Rules.{is_good, any_repeats}
 use Rattle.element_chain.specs.declared.chain.Wire.{Wire}
 use Rattle.element_chain.specs.declared.chain.Target.{Target}
 use Rattle.element_chain.specs.declared.chain.Target.TheVariants.{Element, Out}
 use Rattle.element_chain.specs.Chain.{Connected, element_at}
-use Rattle.element_chain.specs.Wiring.{directly, IsWithin, leads_by}
+use Rattle.element_chain.specs.Wiring.{Leads, directly, IsWithin, leads_by}
 use Rattle.element_chain.specs.Laws.{IsFit, IsReached, RepeatsBehind, any_uses_bytes, any_sends_again}
-use Rattle.element_chain.proofs.Ranks.{leads_so, so_leads, leads_on, leads_within, rank_by, rank_falls, rank_few}
+use Rattle.element_chain.proofs.Ranks.{leads_so, so_leads, leads_on, rank_by, rank_falls, rank_few}
 
 -- A wire leads to an element that is there, by an input of 8 bits. The elements have ranks, which fall along each wire:
 -- the wires have no cycle.
@@ -78,6 +80,10 @@ ranked c fit = record {
 }
 
 -- ## what repeats
+-- wires lead to an element from one that is reached and sends within a `repeat`
+abbrev IsSentAgain : Connected → ℕ → ℕ → Type 0
+IsSentAgain c e a = IsReached c a × ((any_sends_again (element_at c.elements a).body ≡ true) × Leads c.wires a e)
+
 module _ (c : Connected) (fit : IsFit c) where
   abbrev leads : ℕ → ℕ → Bool
   leads = leads_by c.wires (length c.elements)
@@ -90,42 +96,34 @@ module _ (c : Connected) (fit : IsFit c) where
   any_below p zero = false
   any_below p (suc k) = p k || any_below p k
 
-  below_so : (p : ℕ → Bool) (n : ℕ) → any_below p n ≡ true → (k : ℕ) × (p k ≡ true)
-  below_so p zero h = absurd (true≢false (sym h))
-  below_so p (suc n) h = ⊎_elim (λ here. (n, here)) (λ rest. below_so p n rest) (or_cases (p n) (any_below p n) h)
-
-  so_below : (p : ℕ → Bool) (n k : ℕ) → k < n → p k ≡ true → any_below p n ≡ true
-  so_below p zero k lt h = absurd (omega (arith, lt))
-  so_below p (suc n) k lt h =
-      ⊎_elim (λ same. or_left (p n) (any_below p n) (subst (λ j. p j ≡ true) (eqb-true k n same) h))
-      (λ apart. or_right (p n) (any_below p n) (so_below p n k (omega (arith, lt, other k n apart)) h))
-      (cases_Bool (k == n))
-    where
-      other : (k n : ℕ) → (k == n) ≡ false → (k ≡ n) → ⊥
-      other k n e same = true≢false (sym (eq-eqb k n same) ∙ e)
-
   abbrev sends_from : ℕ → ℕ → Bool
   sends_from e a = is_reached a && (any_sends_again (element_at c.elements a).body && leads a e)
 
   abbrev is_repeated : ℕ → Bool
   is_repeated e = any_below (sends_from e) (length c.elements)
 
-  reached_so : (e : ℕ) → is_reached e ≡ true → IsReached c e
-  reached_so e h =
-      ⊎_elim (λ is. inl (eqb-true e 0 is)) (λ on. inr (leads_so c.wires (length c.elements) 0 e on)) (or_cases (e == 0) (leads 0 e) h)
+  -- ### the tests are right
+  leads_decides : (e f : ℕ) → Decides (leads e f) (Leads c.wires e f)
+  leads_decides e f = (leads_so c.wires (length c.elements) e f, so_leads c.wires (length c.elements) fit.within)
 
-  step_on : (w : Wire) → Contains c.wires w → (e : ℕ) → w.to ≡ Element e → leads w.from e ≡ true
-  step_on w there e is = so_leads c.wires (length c.elements) fit.within (directly (w, there, refl, is))
+  reached_decides : (e : ℕ) → Decides (is_reached e) (IsReached c e)
+  reached_decides e = Decides-or (e == 0) (leads 0 e) (eqb-true e 0, eq-eqb e 0) (leads_decides 0 e)
 
-  further : (a e f : ℕ) → leads a e ≡ true → leads e f ≡ true → leads a f ≡ true
-  further a e f one two =
-      so_leads c.wires (length c.elements) fit.within
-      (leads_on (leads_so c.wires (length c.elements) a e one) (leads_so c.wires (length c.elements) e f two))
+  sends_decides : (e a : ℕ) → Decides (sends_from e a) (IsSentAgain c e a)
+  sends_decides e a =
+      Decides-and (is_reached a) (any_sends_again (element_at c.elements a).body && leads a e) (reached_decides a)
+      (Decides-and (any_sends_again (element_at c.elements a).body) (leads a e) (λ h. h, λ h. h) (leads_decides a e))
 
-  reached_on : (e f : ℕ) → is_reached e ≡ true → leads e f ≡ true → is_reached f ≡ true
-  reached_on e f h on =
-      or_right (f == 0) (leads 0 f)
-      (⊎_elim (λ is. subst (λ k. leads k f ≡ true) (eqb-true e 0 is) on) (λ near. further 0 e f near on) (or_cases (e == 0) (leads 0 e) h))
+  repeated_decides : (e : ℕ) → Decides (is_repeated e) ((a : ℕ) × (a < length c.elements) × IsSentAgain c e a)
+  repeated_decides e = Decides-below_or (sends_from e) (IsSentAgain c e) (any_below (sends_from e)) (sends_decides e) refl (λ n. refl) (length c.elements)
+
+  -- ### along a wire
+  step_on : (w : Wire) → Contains c.wires w → (e : ℕ) → w.to ≡ Element e → Leads c.wires w.from e
+  step_on w there e is = directly (w, there, refl, is)
+
+  reached_on : (e f : ℕ) → IsReached c e → Leads c.wires e f → IsReached c f
+  reached_on e f (inl is) on = inr (subst (λ k. Leads c.wires k f) is on)
+  reached_on e f (inr near) on = inr (leads_on near on)
 
   passed : (test : ℕ → Bool) (t : Target) → ((e : ℕ) → t ≡ Element e → test e ≡ true) → passes test t
   passed test Out each = tt
@@ -135,42 +133,21 @@ module _ (c : Connected) (fit : IsFit c) where
   from_within w there =
       (All-contains (λ (w : Wire). (w.from < length c.elements) × IsWithin (length c.elements) w.to) c.wires w fit.within there).0
 
-  leads_below : (a e : ℕ) → leads a e ≡ true → a < length c.elements
-  leads_below a e h = (leads_within (length c.elements) c.wires fit.within (leads_so c.wires (length c.elements) a e h)).0
-
   passed_on : (w : Wire) → Contains c.wires w → IsPassedOn c is_reached is_repeated w
   passed_on w there = record {
-    on = λ h. passed is_reached w.to (λ e is. reached_on w.from e h (step_on w there e is));
+    on = λ h. passed is_reached w.to (λ e is. (reached_decides e).1 (reached_on w.from e ((reached_decides w.from).0 h) (step_on w there e is)));
     again = λ h sends. passed is_repeated w.to (λ e is.
-        so_below (sends_from e) (length c.elements) w.from (from_within w there)
-        (and_from (is_reached w.from) (any_sends_again (element_at c.elements w.from).body && leads w.from e) h
-        (and_from (any_sends_again (element_at c.elements w.from).body) (leads w.from e) sends (step_on w there e is))));
+        (repeated_decides e).1 (w.from, from_within w there, ((reached_decides w.from).0 h, (sends, step_on w there e is))));
     behind = λ h again. passed is_repeated w.to (λ e is.
-        let found = below_so (sends_from w.from) (length c.elements) again in
-        let a : ℕ = found.0 in
-        let one = and_parts (is_reached a) (any_sends_again (element_at c.elements a).body && leads a w.from) found.1 in
-        let two = and_parts (any_sends_again (element_at c.elements a).body) (leads a w.from) one.1 in
-        so_below (sends_from e) (length c.elements) a (leads_below a w.from two.1)
-        (and_from (is_reached a) (any_sends_again (element_at c.elements a).body && leads a e) one.0
-        (and_from (any_sends_again (element_at c.elements a).body) (leads a e) two.0 (further a w.from e two.1 (step_on w there e is)))));
+        let (a, lt, (reached, (sends, behind))) = (repeated_decides w.from).0 again in
+        (repeated_decides e).1 (a, lt, (reached, (sends, leads_on behind (step_on w there e is)))));
   }
 
   none_repeats : ((e : ℕ) → RepeatsBehind c e → ⊥) → (e : ℕ) → is_repeated e ≡ true → any_repeats (element_at c.elements e).body ≡ false
   none_repeats quiet e again =
-      let found = below_so (sends_from e) (length c.elements) again in
-      let a : ℕ = found.0 in
-      let one = and_parts (is_reached a) (any_sends_again (element_at c.elements a).body && leads a e) found.1 in
-      let two = and_parts (any_sends_again (element_at c.elements a).body) (leads a e) one.1 in
-      ⊎_elim
-      (λ is. absurd (quiet e (record {
-        repeats = is;
-        from = a;
-        reached = reached_so a one.0;
-        sends = two.0;
-        behind = leads_so c.wires (length c.elements) a e two.1;
-      })))
-      (λ is. is)
-      (cases_Bool (any_repeats (element_at c.elements e).body))
+      let (a, lt, (reached, (sends, behind))) = (repeated_decides e).0 again in
+      false_from_ne_true (any_repeats (element_at c.elements e).body)
+      (λ is. quiet e (record { repeats = is; from = a; reached = reached; sends = sends; behind = behind }))
 
   pub calm : ((e : ℕ) → RepeatsBehind c e → ⊥) → IsCalm c
   calm quiet = record {

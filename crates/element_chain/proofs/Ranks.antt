@@ -1,27 +1,14 @@
 -- Where wires lead, as a test; and ranks of elements that fall along each wire, where there is no cycle.
-use Rattle.std.proofs.Common.{◌≡◌, ◌≢◌, ◌⊎◌, inl, inr, ℕ, zero, suc, ◌+◌, ◌<◌, ◌≤◌, ◌==◌, ◌&&◌, Bool, true, false, cond, List, [], ◌∷◌, refl, sym, ap, ◌∙◌, subst, arith, true≢false, ⊎_elim}
-use Rattle.std.specs.List.{Contains, list_any}
-use Rattle.std.proofs.lemmas.Bool.{and_parts, and_from, eqb-true, eq-eqb, cases_Bool, or_cases, or_left, or_right}
+use Rattle.std.proofs.Common.{◌≡◌, ◌⊎◌, inl, inr, ℕ, zero, suc, ◌+◌, ◌<◌, ◌≤◌, ◌==◌, ◌&&◌, Bool, true, false, cond, List, refl, sym, ap, ◌∙◌, subst, arith, true≢false, ⊎_elim}
+use Rattle.std.proofs.Math.Logic.{⊎_map}
+use Rattle.std.proofs.lemmas.Bool.{and_parts, and_from, eqb-true, eq-eqb, false_from_ne_true, or_cases, or_left, or_right}
 use Rattle.std.proofs.lemmas.List.Elements.{All-contains}
+use Rattle.std.proofs.lemmas.List.Folds.{Any-from_list_any, list_any-from_Any}
+use Rattle.lemmas.proofs.Numbers.{below_suc}
 use Rattle.element_chain.specs.declared.chain.Target.{Target}
 use Rattle.element_chain.specs.declared.chain.Target.TheVariants.{Element, Out}
 use Rattle.element_chain.specs.declared.chain.Wire.{Wire}
 use Rattle.element_chain.specs.Wiring.{IsJoined, Leads, directly, onward, HasNoCycle, IsWithin, AreWithin, is_to, is_joined, leads_by}
-
--- ## members that pass a test
-found_in : {X : Type 0} → (p : X → Bool) (x : X) (xs : List X) → (list_any p xs ≡ true → (y : X) × Contains xs y × (p y ≡ true))
-    → ((p x ≡ true) ⊎ (list_any p xs ≡ true)) → (y : X) × Contains (x ∷ xs) y × (p y ≡ true)
-found_in p x xs rest (inl here) = (x, (0, omega arith, refl), here)
-found_in p x xs rest (inr there) = let r = rest there in (r.0, (suc r.1.0, omega (arith, r.1.1), r.1.2), r.2)
-
-pub some_passes : {X : Type 0} → (p : X → Bool) (xs : List X) → list_any p xs ≡ true → (x : X) × Contains xs x × (p x ≡ true)
-some_passes p [] h = absurd (true≢false (sym h))
-some_passes p (x ∷ xs) h = found_in p x xs (λ there. some_passes p xs there) (or_cases (p x) (list_any p xs) h)
-
-pub passes_some : {X : Type 0} → (p : X → Bool) (xs : List X) (x : X) → Contains xs x → p x ≡ true → list_any p xs ≡ true
-passes_some p [] x (k, lt, is) h = absurd (omega (arith, lt))
-passes_some p (y ∷ xs) x (zero, lt, is) h = or_left (p y) (list_any p xs) (ap p is ∙ h)
-passes_some p (y ∷ xs) x (suc k, lt, is) h = or_right (p y) (list_any p xs) (passes_some p xs x (k, omega (arith, lt), is) h)
 
 -- ## wires
 to_element : (f : ℕ) (t : Target) → is_to f t ≡ true → t ≡ Element f
@@ -33,14 +20,14 @@ element_to f t h = ap (is_to f) h ∙ eq-eqb f f refl
 
 pub joined_is : (wires : List Wire) (e f : ℕ) → is_joined wires e f ≡ true → IsJoined wires e f
 joined_is wires e f h =
-    let found = some_passes (λ (w : Wire). w.from == e && is_to f w.to) wires h in
-    let both = and_parts (found.0.from == e) (is_to f found.0.to) found.2 in
-    (found.0, found.1, eqb-true found.0.from e both.0, to_element f found.0.to both.1)
+    let (k, w, lt, at, passes) = Any-from_list_any (λ (w : Wire). w.from == e && is_to f w.to) wires h in
+    let both = and_parts (w.from == e) (is_to f w.to) passes in
+    (w, (k, lt, at), eqb-true w.from e both.0, to_element f w.to both.1)
 
 pub is_joined_so : (wires : List Wire) (e f : ℕ) → IsJoined wires e f → is_joined wires e f ≡ true
-is_joined_so wires e f (w, there, from, to) =
-    passes_some (λ (w : Wire). w.from == e && is_to f w.to) wires w there
-    (and_from (w.from == e) (is_to f w.to) (eq-eqb w.from e from) (element_to f w.to to))
+is_joined_so wires e f (w, (k, lt, at), from, to) =
+    list_any-from_Any (λ (w : Wire). w.from == e && is_to f w.to) wires
+    (k, w, lt, at, and_from (w.from == e) (is_to f w.to) (eq-eqb w.from e from) (element_to f w.to to))
 
 pub joined_within : (n : ℕ) (wires : List Wire) (e f : ℕ) → AreWithin n wires → IsJoined wires e f → (e < n) × (f < n)
 joined_within n wires e f within (w, there, from, to) =
@@ -56,24 +43,22 @@ leads_within n wires within (directly {e = e} {f = f} j) = joined_within n wires
 leads_within n wires within (onward {e = e} {f = f} {g = g} j rest) = ((joined_within n wires e f within j).0, (leads_within n wires within rest).1)
 
 -- ## the test is right
+-- wires lead without the next number, or by way of it
+abbrev IsByIt : List Wire → ℕ → ℕ → ℕ → Type 0
+IsByIt wires k e f = (leads_by wires k e f ≡ true) ⊎ ((leads_by wires k e k ≡ true) × (leads_by wires k k f ≡ true))
+
+with_it : (wires : List Wire) (k e f : ℕ) → leads_by wires (suc k) e f ≡ true → IsByIt wires k e f
+with_it wires k e f h =
+    ⊎_map (λ near. near) (and_parts (leads_by wires k e k) (leads_by wires k k f)) (or_cases (leads_by wires k e f) (leads_by wires k e k && leads_by wires k k f) h)
+
 pub leads_so : (wires : List Wire) (k e f : ℕ) → leads_by wires k e f ≡ true → Leads wires e f
 leads_so wires zero e f h = directly (joined_is wires e f h)
 leads_so wires (suc k) e f h =
-    ⊎_elim (λ near. leads_so wires k e f near)
-    (λ both. let two = and_parts (leads_by wires k e k) (leads_by wires k k f) both in
-    leads_on (leads_so wires k e k two.0) (leads_so wires k k f two.1))
-    (or_cases (leads_by wires k e f) (leads_by wires k e k && leads_by wires k k f) h)
+    ⊎_elim (λ near. leads_so wires k e f near) (λ both. leads_on (leads_so wires k e k both.0) (leads_so wires k k f both.1)) (with_it wires k e f h)
 
 up_from_zero : (wires : List Wire) (k e f : ℕ) → is_joined wires e f ≡ true → leads_by wires k e f ≡ true
 up_from_zero wires zero e f h = h
 up_from_zero wires (suc k) e f h = or_left (leads_by wires k e f) _ (up_from_zero wires k e f h)
-
--- what leads to the next number, and from it, needs no way by it
-to_it : (wires : List Wire) (k e : ℕ) → leads_by wires (suc k) e k ≡ true → leads_by wires k e k ≡ true
-to_it wires k e h = ⊎_elim (λ same. same) (λ both. (and_parts (leads_by wires k e k) (leads_by wires k k k) both).0) (or_cases (leads_by wires k e k) _ h)
-
-from_it : (wires : List Wire) (k f : ℕ) → leads_by wires (suc k) k f ≡ true → leads_by wires k k f ≡ true
-from_it wires k f h = ⊎_elim (λ same. same) (λ both. (and_parts (leads_by wires k k k) (leads_by wires k k f) both).1) (or_cases (leads_by wires k k f) _ h)
 
 by_it : (wires : List Wire) (k e f : ℕ) → leads_by wires k e k ≡ true → leads_by wires k k f ≡ true → leads_by wires (suc k) e f ≡ true
 by_it wires k e f to from = or_right (leads_by wires k e f) _ (and_from (leads_by wires k e k) (leads_by wires k k f) to from)
@@ -82,43 +67,24 @@ closed_lower : (wires : List Wire) (k e m f : ℕ)
     → (leads_by wires k e m ≡ true → leads_by wires k m f ≡ true → leads_by wires k e f ≡ true)
     → (leads_by wires k e m ≡ true → leads_by wires k m k ≡ true → leads_by wires k e k ≡ true)
     → (leads_by wires k k m ≡ true → leads_by wires k m f ≡ true → leads_by wires k k f ≡ true)
-    → leads_by wires (suc k) e m ≡ true → leads_by wires (suc k) m f ≡ true → leads_by wires (suc k) e f ≡ true
-closed_lower wires k e m f whole front back to from =
-    ⊎_elim
-    (λ near. ⊎_elim
-    (λ far. or_left (leads_by wires k e f) (leads_by wires k e k && leads_by wires k k f) (whole near far))
-    (λ far. let two = and_parts (leads_by wires k m k) (leads_by wires k k f) far in by_it wires k e f (front near two.0) two.1)
-    (or_cases (leads_by wires k m f) (leads_by wires k m k && leads_by wires k k f) from))
-    (λ near. let one = and_parts (leads_by wires k e k) (leads_by wires k k m) near in
-    ⊎_elim
-    (λ far. by_it wires k e f one.0 (back one.1 far))
-    (λ far. let two = and_parts (leads_by wires k m k) (leads_by wires k k f) far in by_it wires k e f one.0 two.1)
-    (or_cases (leads_by wires k m f) (leads_by wires k m k && leads_by wires k k f) from))
-    (or_cases (leads_by wires k e m) (leads_by wires k e k && leads_by wires k k m) to)
+    → IsByIt wires k e m → IsByIt wires k m f → leads_by wires (suc k) e f ≡ true
+closed_lower wires k e m f whole front back (inl near) (inl far) = or_left (leads_by wires k e f) _ (whole near far)
+closed_lower wires k e m f whole front back (inl near) (inr (to, from)) = by_it wires k e f (front near to) from
+closed_lower wires k e m f whole front back (inr (to, from)) (inl far) = by_it wires k e f to (back from far)
+closed_lower wires k e m f whole front back (inr (to, from)) (inr (to', from')) = by_it wires k e f to from'
 
-closed_at : (wires : List Wire) (k e m f : ℕ) → m ≡ k
-    → leads_by wires (suc k) e m ≡ true → leads_by wires (suc k) m f ≡ true → leads_by wires (suc k) e f ≡ true
-closed_at wires k e m f same to from =
-    by_it wires k e f
-    (to_it wires k e (subst (λ x. leads_by wires (suc k) e x ≡ true) same to))
-    (from_it wires k f (subst (λ x. leads_by wires (suc k) x f ≡ true) same from))
-
-at_or_below : (m k : ℕ) → m < suc k → (m ≡ k) ⊎ (m < k)
-at_or_below m k lt = by_test (m == k) refl
-  where
-    by_test : (b : Bool) → (m == k) ≡ b → (m ≡ k) ⊎ (m < k)
-    by_test true h = inl (eqb-true m k h)
-    by_test false h =
-        let apart : m ≢ k = (λ same. true≢false (sym (eq-eqb m k same) ∙ h)) in
-        inr (omega (arith, lt, apart))
+-- what leads to the next number, and from it, needs no way by it
+closed_at : (wires : List Wire) (k e f : ℕ) → IsByIt wires k e k → IsByIt wires k k f → leads_by wires (suc k) e f ≡ true
+closed_at wires k e f to from = by_it wires k e f (⊎_elim (λ near. near) (λ both. both.0) to) (⊎_elim (λ near. near) (λ both. both.1) from)
 
 closed : (wires : List Wire) (k e m f : ℕ) → m < k → leads_by wires k e m ≡ true → leads_by wires k m f ≡ true → leads_by wires k e f ≡ true
 closed wires zero e m f lt to from = absurd (omega (arith, lt))
 closed wires (suc k) e m f lt to from =
-    ⊎_elim (λ same. closed_at wires k e m f same to from)
+    ⊎_elim
     (λ below. closed_lower wires k e m f (λ near far. closed wires k e m f below near far) (λ near far. closed wires k e m k below near far)
-    (λ near far. closed wires k k m f below near far) to from)
-    (at_or_below m k lt)
+    (λ near far. closed wires k k m f below near far) (with_it wires k e m to) (with_it wires k m f from))
+    (λ same. closed_at wires k e f (subst (IsByIt wires k e) same (with_it wires k e m to)) (subst (λ x. IsByIt wires k x f) same (with_it wires k m f from)))
+    (below_suc m k lt)
 
 pub so_leads : (wires : List Wire) (n : ℕ) {e f : ℕ} → AreWithin n wires → Leads wires e f → leads_by wires n e f ≡ true
 so_leads wires n within (directly {e = e} {f = f} j) = up_from_zero wires n e f (is_joined_so wires e f j)
@@ -149,9 +115,9 @@ unfolding count_below
 count_lt p q zero x h lt lacks is = absurd (omega (arith, lt))
 count_lt p q (suc k) x h lt lacks is =
     ⊎_elim
-    (λ same. omega (arith, count_le p q k h, one_more (p k) (q k) (subst (λ j. p j ≡ false) same lacks) (subst (λ j. q j ≡ true) same is)))
     (λ below. omega (arith, count_lt p q k x h below lacks is, one_each (p k) (q k) (h k)))
-    (at_or_below x k lt)
+    (λ same. omega (arith, count_le p q k h, one_more (p k) (q k) (subst (λ j. p j ≡ false) same lacks) (subst (λ j. q j ≡ true) same is)))
+    (below_suc x k lt)
 
 count_most : (n : ℕ) → count_below (λ k. true) n ≤ n
 unfolding count_below
@@ -163,7 +129,7 @@ pub rank_by : List Wire → ℕ → ℕ → ℕ
 rank_by wires n e = count_below (leads_by wires n e) n
 
 not_back : (wires : List Wire) (n e : ℕ) → HasNoCycle wires → leads_by wires n e e ≡ false
-not_back wires n e none = ⊎_elim (λ is. absurd (none e (leads_so wires n e e is))) (λ is. is) (cases_Bool (leads_by wires n e e))
+not_back wires n e none = false_from_ne_true (leads_by wires n e e) (λ is. none e (leads_so wires n e e is))
 
 pub rank_falls : (wires : List Wire) (n e f : ℕ) → AreWithin n wires → HasNoCycle wires → IsJoined wires e f → rank_by wires n f < rank_by wires n e
 unfolding rank_by

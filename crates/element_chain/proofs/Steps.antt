@@ -1,25 +1,25 @@
 -- The statements of an element, one at a time, by themselves and in the whole.
-use Rattle.std.proofs.Common.{◌≡◌, ◌≢◌, ℕ, zero, suc, ◌+◌, ◌<◌, ◌≤◌, ◌%◌, ◌^◌, ◌==◌, ◌||◌, Bool, true, false, List, [], ◌∷◌, ◌++◌, length, refl, sym, ap, ◌∙◌, subst, arith, slice_index, slice_set, slice_get, true≢false, Option, Some, None, is_some}
+use Rattle.std.proofs.Common.{◌≡◌, ◌≢◌, ℕ, zero, suc, ◌+◌, ◌<◌, ◌≤◌, ◌%◌, ◌^◌, ◌==◌, ◌||◌, Bool, true, false, List, [], ◌∷◌, ◌++◌, length, refl, sym, ap, ◌∙◌, subst, arith, slice_index, slice_set, slice_get, true≢false, Option, Some, None, is_some, ⊎_elim}
 use Rattle.std.specs.List.{list_any}
-use Rattle.std.proofs.lemmas.Bool.{eqb-true, or_right}
-use Rattle.std.proofs.lemmas.Bool.Decides.{nat_tests}
-use Rattle.std.proofs.lemmas.List.{length-set, get_or-set_same, get_or-set_other, length_push, get_or_append_left, get_or_push}
+use Rattle.std.proofs.lemmas.Bool.{cases_eq, eqb-true, or_cases, or_right}
+use Rattle.std.proofs.lemmas.Grind.{get_or-set_at}
+use Rattle.std.proofs.lemmas.List.{length-set, get_or-set_other, length_push, get_or_append_left, get_or_push}
 use Rattle.gal_bits.specs.Operators.{bit}
 use Rattle.packet_fields.specs.declared.field.Field.{Field}
 use Rattle.packet_fields.specs.Table.{row, field_index}
 use Rattle.state_store.specs.declared.object.ObjectDecl.{ObjectDecl}
 use Rattle.state_store.specs.Fitting.{fits_keys}
-use Rattle.state_store.specs.Store.{Object, object_at, with_object, is_stored, put_row, put_answer, del_row, looked_up}
+use Rattle.state_store.specs.Store.{Object, object_at, with_object, looked_up}
 use Rattle.state_store.specs.Store as store
 use Rattle.element_lang.specs.Widths.{local_widths}
 use Rattle.element_lang.specs.Rules.{counted_from}
-use Rattle.element_lang.specs.Meaning.{State, Outcome, bind_from, bound, assigned, looked, stored, deleted, turns}
+use Rattle.element_lang.specs.Meaning.{State, Outcome, bind_from, bound, assigned, looked, turns}
 use Rattle.element_chain.specs.Compose.{Numbering, Spot, declared, all_declared, numbers}
 use Rattle.packet_fields.specs.FieldOrder.{same_index}
 use Rattle.element_lang.specs.KeptRuns.{Fits, FitsOutcome}
-use Rattle.element_chain.proofs.Numbers.{IsNumbered, Carries, carries_one}
+use Rattle.element_chain.proofs.Numbers.{IsNumbered, carries_one}
 use Rattle.element_chain.proofs.Stores.{object_within, set_within}
-use Rattle.element_chain.proofs.Alike.{Instance, spot_of, own_port, IsIn, Alike, AlikeOutcomes, then_alike, fewer_alike}
+use Rattle.element_chain.proofs.Alike.{Instance, spot_of, own_port, IsIn, Alike, FieldsAlike, AlikeOutcomes, then_alike, fewer_alike}
 use Rattle.lemmas.proofs.Tests.{and_first, and_second, or_true}
 
 -- ## locals
@@ -27,12 +27,22 @@ use Rattle.lemmas.proofs.Tests.{and_first, and_second, or_true}
 abbrev pub LocalsAgree : List ℕ → List ℕ → List ℕ → List ℕ → Type 0
 LocalsAgree scope names own all = (x : ℕ) → IsIn x scope → slice_index all (slice_index names x) ≡ slice_index own x
 
+abbrev pub any_is : ℕ → List ℕ → Bool
+any_is y xs = list_any (λ z. z == y) xs
+
 pub in_cases : (P : Type 0) (x y : ℕ) (scope : List ℕ) → IsIn x (y ∷ scope) → (x ≡ y → P) → (x ≢ y → IsIn x scope → P) → P
-in_cases P x y scope is here there = by_test (y == x) refl is
-  where
-    by_test : (b : Bool) → (y == x) ≡ b → (b || list_any (λ z. z == x) scope) ≡ true → P
-    by_test true e h = here (sym (eqb-true y x e))
-    by_test false e h = there (λ same. grind (arith, nat_tests, e, same)) h
+in_cases P x y scope is here there =
+    ⊎_elim here
+    (λ other. ⊎_elim (λ same. absurd (other (sym (eqb-true y x same)))) (there other) (or_cases (y == x) (any_is x scope) is))
+    (cases_eq x y)
+
+-- a value that is set in two lists, at places that are the same in both
+set_both : (own all : List ℕ) (x j y k v : ℕ) → x < length own → j < length all → (y ≡ x → k ≡ j) → (y ≢ x → k ≢ j) → (y ≢ x → slice_index all k ≡ slice_index own y)
+    → slice_index (slice_set all j v) k ≡ slice_index (slice_set own x v) y
+set_both own all x j y k v room place same apart agree =
+    ⊎_elim (λ here. get_or-set_at all j k v 0 (same here) place ∙ sym (get_or-set_at own x y v 0 here room))
+    (λ other. get_or-set_other all j k v 0 (apart other) ∙ agree other ∙ sym (get_or-set_other own x y v 0 other))
+    (cases_eq y x)
 
 -- a local that is declared
 pub declare_agrees : (spot : Spot) (n : Numbering) (scope own all : List ℕ) (x v : ℕ) → x ≡ length n.names → IsNumbered spot.widths n → ((y : ℕ) → IsIn y scope → y < length n.names)
@@ -41,53 +51,28 @@ pub declare_agrees : (spot : Spot) (n : Numbering) (scope own all : List ℕ) (x
 declare_agrees spot n scope own all x v is numbered within room place agree y is_in =
     let names : List ℕ = n.names ++ length n.widths ∷ [] in
     let new : slice_index names (length n.names) ≡ length n.widths = get_or_push n.names (length n.widths) 0 (length n.names) refl in
-    in_cases (slice_index (slice_set all (length n.widths) v) (slice_index names y) ≡ slice_index (slice_set own x v) y) y x scope is_in
-    (λ here. ap (λ z. slice_index (slice_set all (length n.widths) v) (slice_index names z)) (here ∙ is)
-    ∙ ap (slice_index (slice_set all (length n.widths) v)) new
-    ∙ get_or-set_same all (length n.widths) v 0 place
-    ∙ sym (get_or-set_same own x v 0 room)
-    ∙ ap (slice_index (slice_set own x v)) (sym here))
-    (λ other there.
-    let low : y < length n.names = within y there in
-    let old : slice_index names y ≡ slice_index n.names y = get_or_append_left n.names (length n.widths ∷ []) 0 y low in
-    let apart : slice_index n.names y ≢ length n.widths = (λ e. absurd (omega (arith, e, numbered.below y low))) in
-    ap (slice_index (slice_set all (length n.widths) v)) old
-    ∙ get_or-set_other all (length n.widths) (slice_index n.names y) v 0 apart
-    ∙ agree y there
-    ∙ sym (get_or-set_other own x y v 0 other))
+    let old : y ≢ x → IsIn y scope × (slice_index names y ≡ slice_index n.names y) = λ other.
+    in_cases (IsIn y scope × (slice_index names y ≡ slice_index n.names y)) y x scope is_in (λ here. absurd (other here))
+    (λ _ there. (there, get_or_append_left n.names (length n.widths ∷ []) 0 y (within y there))) in
+    set_both own all x (length n.widths) y (slice_index names y) v room place
+    (λ here. ap (slice_index names) (here ∙ is) ∙ new)
+    (λ other e. absurd (omega (arith, e, (old other).1, numbered.below y (within y (old other).0))))
+    (λ other. ap (slice_index all) (old other).1 ∙ agree y (old other).0)
 
 -- a local in scope that gets another value
 assign_agrees : (widths : List ℕ) (n : Numbering) (scope own all : List ℕ) (x v : ℕ) → IsNumbered widths n → ((y : ℕ) → IsIn y scope → y < length n.names) → IsIn x scope
     → x < length own → slice_index n.names x < length all → LocalsAgree scope n.names own all
     → LocalsAgree scope n.names (slice_set own x v) (slice_set all (slice_index n.names x) v)
 assign_agrees widths n scope own all x v numbered within is room place agree y is_in =
-    by_test (y == x) refl
-  where
-    by_test : (b : Bool) → (y == x) ≡ b → slice_index (slice_set all (slice_index n.names x) v) (slice_index n.names y) ≡ slice_index (slice_set own x v) y
-    by_test true e =
-        let here : y ≡ x = eqb-true y x e in
-        ap (λ z. slice_index (slice_set all (slice_index n.names x) v) (slice_index n.names z)) here
-        ∙ get_or-set_same all (slice_index n.names x) v 0 place
-        ∙ sym (get_or-set_same own x v 0 room)
-        ∙ ap (slice_index (slice_set own x v)) (sym here)
-    by_test false e =
-        let other : y ≢ x = (λ same. grind (arith, nat_tests, e, same)) in
-        get_or-set_other all (slice_index n.names x) (slice_index n.names y) v 0 (λ same. other (numbered.apart y x (within y is_in) (within x is) same))
-        ∙ agree y is_in
-        ∙ sym (get_or-set_other own x y v 0 other)
+    set_both own all x (slice_index n.names x) y (slice_index n.names y) v room place (ap (slice_index n.names))
+    (λ other same. other (numbered.apart y x (within y is_in) (within x is) same)) (λ other. agree y is_in)
 
 with_locals : (i : Instance) (scope names scope' names' : List ℕ) (s t : State) (own all : List ℕ) → Alike i scope names s t → LocalsAgree scope' names' own all
     → length own ≡ length s.locals → length all ≡ length t.locals → Alike i scope' names' (record s { locals = own }) (record t { locals = all })
 with_locals i scope names scope' names' s t own all alike agree same_own same_all = record {
-  locals = agree;
-  many = same_all ∙ alike.many;
-  own_many = same_own ∙ alike.own_many;
+  locals = record { agree = agree; many = same_all ∙ alike.locals.many; own_many = same_own ∙ alike.locals.own_many };
   fields = alike.fields;
-  all = alike.all;
-  own_all = alike.own_all;
-  port = alike.port;
   store = alike.store;
-  unset = alike.unset;
 }
 
 pub bound_alike : (i : Instance) (scope : List ℕ) (n : Numbering) (x v : ℕ) (s t : State) → x ≡ length n.names → IsNumbered (local_widths i.m) n → ((y : ℕ) → IsIn y scope → y < length n.names)
@@ -95,7 +80,7 @@ pub bound_alike : (i : Instance) (scope : List ℕ) (n : Numbering) (x v : ℕ) 
     → Alike i (x ∷ scope) (declared (spot_of i) x n).names (bound x v s) (bound (length n.widths) v t)
 bound_alike i scope n x v s t is numbered within room place alike =
     with_locals i scope n.names (x ∷ scope) (declared (spot_of i) x n).names s t (slice_set s.locals x v) (slice_set t.locals (length n.widths) v) alike
-    (declare_agrees (spot_of i) n scope s.locals t.locals x v is numbered within (omega (arith, room, alike.own_many)) (omega (arith, place, alike.many)) alike.locals)
+    (declare_agrees (spot_of i) n scope s.locals t.locals x v is numbered within (omega (arith, room, alike.locals.own_many)) (omega (arith, place, alike.locals.many)) alike.locals.agree)
     (length-set s.locals x v) (length-set t.locals (length n.widths) v)
 
 pub assigned_alike : (i : Instance) (scope : List ℕ) (n : Numbering) (x v : ℕ) (s t : State) → IsNumbered (local_widths i.m) n → ((y : ℕ) → IsIn y scope → y < length n.names) → IsIn x scope
@@ -103,21 +88,10 @@ pub assigned_alike : (i : Instance) (scope : List ℕ) (n : Numbering) (x v : �
     → Alike i scope n.names (bound x v s) (bound (slice_index n.names x) v t)
 assigned_alike i scope n x v s t numbered within is room place alike =
     with_locals i scope n.names scope n.names s t (slice_set s.locals x v) (slice_set t.locals (slice_index n.names x) v) alike
-    (assign_agrees (local_widths i.m) n scope s.locals t.locals x v numbered within is (omega (arith, within x is, room, alike.own_many)) (omega (arith, numbered.below x (within x is), place, alike.many)) alike.locals)
+    (assign_agrees (local_widths i.m) n scope s.locals t.locals x v numbered within is (omega (arith, within x is, room, alike.locals.own_many)) (omega (arith, numbered.below x (within x is), place, alike.locals.many)) alike.locals.agree)
     (length-set s.locals x v) (length-set t.locals (slice_index n.names x) v)
 
 -- ## fields
-set_both : (xs ys : List ℕ) (j v k : ℕ) → length xs ≡ length ys → (k ≢ j → slice_index xs k ≡ slice_index ys k) → j < length ys → slice_index (slice_set xs j v) k ≡ slice_index (slice_set ys j v) k
-set_both xs ys j v k many same lt = by_test (k == j) refl
-  where
-    by_test : (b : Bool) → (k == j) ≡ b → slice_index (slice_set xs j v) k ≡ slice_index (slice_set ys j v) k
-    by_test true e =
-        let here : k ≡ j = eqb-true k j e in
-        ap (slice_index (slice_set xs j v)) here ∙ get_or-set_same xs j v 0 (omega (arith, many, lt)) ∙ sym (get_or-set_same ys j v 0 lt) ∙ ap (slice_index (slice_set ys j v)) (sym here)
-    by_test false e =
-        let other : k ≢ j = (λ is. grind (arith, nat_tests, e, is)) in
-        get_or-set_other xs j k v 0 other ∙ same other ∙ sym (get_or-set_other ys j k v 0 other)
-
 port_stays : (port : Option ℕ) (own all : List ℕ) (j v : ℕ) → j ≢ 0 → own_port port all ≡ slice_index own 0 → own_port port (slice_set all j v) ≡ slice_index (slice_set own j v) 0
 port_stays None own all j v other same = get_or-set_other all j 0 v 0 (λ e. other (sym e)) ∙ same ∙ sym (get_or-set_other own j 0 v 0 (λ e. other (sym e)))
 port_stays (Some k) own all j v other same = same ∙ sym (get_or-set_other own j 0 v 0 (λ e. other (sym e)))
@@ -127,18 +101,19 @@ pub field_alike : (i : Instance) (scope names : List ℕ) (f : Field) (v : ℕ) 
 field_alike i scope names f v s t other low set alike =
     let j : ℕ = field_index f in
     let u : ℕ = v % 2 ^ (row f).width in
+    let old : FieldsAlike i s.fields t.fields = alike.fields in
     record {
       locals = alike.locals;
-      many = alike.many;
-      own_many = alike.own_many;
-      fields = λ k apart. set_both t.fields s.fields j u k (alike.all ∙ sym alike.own_all) (λ _. alike.fields k apart) (omega (arith, low, alike.own_all));
-      all = length-set t.fields j u ∙ alike.all;
-      own_all = length-set s.fields j u ∙ alike.own_all;
-      port = port_stays i.port s.fields t.fields j u other alike.port;
+      fields = record {
+        same = λ k apart. set_both s.fields t.fields j j k k u (omega (arith, low, old.own_all)) (omega (arith, low, old.all)) (λ e. e) (λ e. e) (λ _. old.same k apart);
+        all = length-set t.fields j u ∙ old.all;
+        own_all = length-set s.fields j u ∙ old.own_all;
+        port = port_stays i.port s.fields t.fields j u other old.port;
+        unset = λ g never. get_or-set_other t.fields j (field_index g) u 0
+            (λ same. true≢false (sym set ∙ ap i.is_set (sym (same_index g f same)) ∙ never))
+            ∙ old.unset g never;
+      };
       store = alike.store;
-      unset = λ g never. get_or-set_other t.fields j (field_index g) u 0
-          (λ same. true≢false (sym set ∙ ap i.is_set (sym (same_index g f same)) ∙ never))
-          ∙ alike.unset g never;
     }
 
 -- ## objects
@@ -156,48 +131,25 @@ change_alike : (i : Instance) (scope names : List ℕ) (s t : State) (o : ℕ) (
     → Alike i scope names (record s { store = with_object s.store o ob }) (record t { store = with_object t.store (i.base + o) ob })
 change_alike i scope names s t o ob base lt alike = record {
   locals = alike.locals;
-  many = alike.many;
-  own_many = alike.own_many;
   fields = alike.fields;
-  all = alike.all;
-  own_all = alike.own_all;
-  port = alike.port;
   store = ap (λ st. with_object st (i.base + o) ob) alike.store ∙ set_within i.before s.store i.after o (i.base + o) ob (omega (arith, base)) lt;
-  unset = alike.unset;
 }
 
-pub put_alike : (i : Instance) (scope : List ℕ) (n : Numbering) (ok o : ℕ) (key values : List ℕ) (s t : State) → ok ≡ length n.names → IsNumbered (local_widths i.m) n
-    → ((y : ℕ) → IsIn y scope → y < length n.names) → ok < length i.m.locals → length n.widths < length i.widths → length i.before ≡ i.base → o < length s.store → Alike i scope n.names s t
-    → Alike i (ok ∷ scope) (declared (spot_of i) ok n).names (stored ok o key values s) (stored (length n.widths) (i.base + o) key values t)
-put_alike i scope n ok o key values s t is numbered within room place base lt alike =
-    let names : List ℕ = (declared (spot_of i) ok n).names in
+-- an object changes, and a new local gets what was found there
+pub changed_alike : (i : Instance) (scope : List ℕ) (n : Numbering) (x o : ℕ) (found : Object → ℕ) (change : Object → Object) (s t : State) → x ≡ length n.names → IsNumbered (local_widths i.m) n
+    → ((y : ℕ) → IsIn y scope → y < length n.names) → x < length i.m.locals → length n.widths < length i.widths → length i.before ≡ i.base → o < length s.store → Alike i scope n.names s t
+    → Alike i (x ∷ scope) (declared (spot_of i) x n).names
+    (bound x (found (object_at s.store o)) (record s { store = with_object s.store o (change (object_at s.store o)) }))
+    (bound (length n.widths) (found (object_at t.store (i.base + o))) (record t { store = with_object t.store (i.base + o) (change (object_at t.store (i.base + o))) }))
+changed_alike i scope n x o found change s t is numbered within room place base lt alike =
     let ob : Object = object_at s.store o in
-    let own : State = bound ok (bit (is_stored (put_answer ob key))) (record s { store = with_object s.store o (put_row ob key values) }) in
-    subst (λ (there : Object). Alike i (ok ∷ scope) names own
-    (record t { locals = slice_set t.locals (length n.widths) (bit (is_stored (put_answer there key))); store = with_object t.store (i.base + o) (put_row there key values) }))
+    subst (λ (there : Object). Alike i (x ∷ scope) (declared (spot_of i) x n).names (bound x (found ob) (record s { store = with_object s.store o (change ob) }))
+    (bound (length n.widths) (found there) (record t { store = with_object t.store (i.base + o) (change there) })))
     (sym (object_alike i scope n.names s t o base lt alike))
-    (bound_alike i scope n ok (bit (is_stored (put_answer ob key))) (record s { store = with_object s.store o (put_row ob key values) })
-    (record t { store = with_object t.store (i.base + o) (put_row ob key values) }) is numbered within room place
-    (change_alike i scope n.names s t o (put_row ob key values) base lt alike))
-
-pub del_alike : (i : Instance) (scope : List ℕ) (n : Numbering) (was o : ℕ) (key : List ℕ) (s t : State) → was ≡ length n.names → IsNumbered (local_widths i.m) n
-    → ((y : ℕ) → IsIn y scope → y < length n.names) → was < length i.m.locals → length n.widths < length i.widths → length i.before ≡ i.base → o < length s.store → Alike i scope n.names s t
-    → Alike i (was ∷ scope) (declared (spot_of i) was n).names (deleted was o key s) (deleted (length n.widths) (i.base + o) key t)
-del_alike i scope n was o key s t is numbered within room place base lt alike =
-    let names : List ℕ = (declared (spot_of i) was n).names in
-    let ob : Object = object_at s.store o in
-    let own : State = bound was (bit (is_some (store.look ob key))) (record s { store = with_object s.store o (del_row ob key) }) in
-    subst (λ (there : Object). Alike i (was ∷ scope) names own
-    (record t { locals = slice_set t.locals (length n.widths) (bit (is_some (store.look there key))); store = with_object t.store (i.base + o) (del_row there key) }))
-    (sym (object_alike i scope n.names s t o base lt alike))
-    (bound_alike i scope n was (bit (is_some (store.look ob key))) (record s { store = with_object s.store o (del_row ob key) })
-    (record t { store = with_object t.store (i.base + o) (del_row ob key) }) is numbered within room place
-    (change_alike i scope n.names s t o (del_row ob key) base lt alike))
+    (bound_alike i scope n x (found ob) (record s { store = with_object s.store o (change ob) }) (record t { store = with_object t.store (i.base + o) (change ob) }) is numbered within room place
+    (change_alike i scope n.names s t o (change ob) base lt alike))
 
 -- ## a look, which binds several locals
-abbrev pub any_is : ℕ → List ℕ → Bool
-any_is y xs = list_any (λ z. z == y) xs
-
 moved_back : (a b c : Bool) → (a || (b || c)) ≡ (b || (a || c))
 moved_back true b c = sym (or_true b)
 moved_back false b c = refl
@@ -214,30 +166,33 @@ counted_within next (x ∷ xs) scope y counted within is =
     (λ same. omega (arith, same, here))
     (λ other there. omega (arith, counted_within (next + 1) xs scope y (and_second (x == next) _ counted) (λ z old. omega (arith, within z old)) there))
 
--- in_cases where both are lists
-bind_agrees : (spot : Spot) (into values : List ℕ) (i next : ℕ) (n : Numbering) (scope own all : List ℕ) → next ≡ length n.names → counted_from next into ≡ true → IsNumbered spot.widths n
+-- what several locals get, in order
+abbrev BindsAgree : Spot → List ℕ → List ℕ → ℕ → Type 0
+BindsAgree spot into values i = (next : ℕ) (n : Numbering) (scope own all : List ℕ) → next ≡ length n.names → counted_from next into ≡ true → IsNumbered spot.widths n
     → ((y : ℕ) → IsIn y scope → y < length n.names) → next + length into ≤ length own → length n.widths + length into ≤ length all → LocalsAgree scope n.names own all
     → LocalsAgree (into ++ scope) (all_declared spot into n).names (bind_from i into values own) (bind_from i (numbers (length n.widths) into) values all)
-bind_agrees spot [] values i next n scope own all is counted numbered within room place agree = agree
-bind_agrees spot (x ∷ xs) values i next n scope own all is counted numbered within room place agree =
+
+bind_first : (spot : Spot) (x b : ℕ) (xs values : List ℕ) (i next : ℕ) (n : Numbering) (scope own all : List ℕ) → BindsAgree spot xs values i → next ≡ length n.names → counted_from next (x ∷ xs) ≡ true
+    → IsNumbered spot.widths n → ((y : ℕ) → IsIn y scope → y < length n.names) → next + suc (length xs) ≤ length own → length n.widths + suc (length xs) ≤ length all → LocalsAgree scope n.names own all
+    → LocalsAgree ((x ∷ xs) ++ scope) (all_declared spot (x ∷ xs) n).names (bind_from i xs values (slice_set own x b))
+    (bind_from i (numbers (suc (length n.widths)) xs) values (slice_set all (length n.widths) b))
+bind_first spot x b xs values i next n scope own all binds is counted numbered within room place agree y is_in =
     let here : x ≡ next = eqb-true x next (and_first _ _ counted) in
-    let v : ℕ = slice_index values i in
     let one = carries_one spot x n (here ∙ is) numbered in
     let many : length (declared spot x n).names ≡ length n.names + 1 = one.count in
     let wider : length (declared spot x n).widths ≡ suc (length n.widths) = length_push n.widths (slice_index spot.widths x) ∙ omega arith in
-    let first : LocalsAgree (x ∷ scope) (declared spot x n).names (slice_set own x v) (slice_set all (length n.widths) v)
-    = declare_agrees spot n scope own all x v (here ∙ is) numbered within (omega (arith, room, here)) (omega (arith, place)) agree in
-    let rest : LocalsAgree (xs ++ (x ∷ scope)) (all_declared spot xs (declared spot x n)).names
-    (bind_from (i + 1) xs values (slice_set own x v)) (bind_from (i + 1) (numbers (length (declared spot x n).widths) xs) values (slice_set all (length n.widths) v))
-    = bind_agrees spot xs values (i + 1) (next + 1) (declared spot x n) (x ∷ scope) (slice_set own x v) (slice_set all (length n.widths) v) (omega (arith, is, many))
+    let rest = binds (next + 1) (declared spot x n) (x ∷ scope) (slice_set own x b) (slice_set all (length n.widths) b) (omega (arith, is, many))
     (and_second (x == next) _ counted) one.numbered
     (λ y there. in_cases (y < length (declared spot x n).names) y x scope there (λ same. omega (arith, same, here, is, many)) (λ other old. omega (arith, within y old, many)))
-    (omega (arith, room, length-set own x v)) (omega (arith, place, wider, length-set all (length n.widths) v)) first in
-    let moved : LocalsAgree (xs ++ (x ∷ scope)) (all_declared spot xs (declared spot x n)).names
-    (bind_from (i + 1) xs values (slice_set own x v)) (bind_from (i + 1) (numbers (suc (length n.widths)) xs) values (slice_set all (length n.widths) v))
-    = subst (λ w. LocalsAgree (xs ++ (x ∷ scope)) (all_declared spot xs (declared spot x n)).names
-    (bind_from (i + 1) xs values (slice_set own x v)) (bind_from (i + 1) (numbers w xs) values (slice_set all (length n.widths) v))) wider rest in
-    λ y is_in. moved y (sym (any_middle y x xs scope) ∙ is_in)
+    (omega (arith, room, length-set own x b)) (omega (arith, place, wider, length-set all (length n.widths) b))
+    (declare_agrees spot n scope own all x b (here ∙ is) numbered within (omega (arith, room, here)) (omega (arith, place)) agree) in
+    subst (λ w. slice_index (bind_from i (numbers w xs) values (slice_set all (length n.widths) b)) (slice_index (all_declared spot xs (declared spot x n)).names y)
+    ≡ slice_index (bind_from i xs values (slice_set own x b)) y) wider (rest y (sym (any_middle y x xs scope) ∙ is_in))
+
+bind_agrees : (spot : Spot) (into values : List ℕ) (i : ℕ) → BindsAgree spot into values i
+bind_agrees spot [] values i next n scope own all is counted numbered within room place agree = agree
+bind_agrees spot (x ∷ xs) values i next n scope own all is counted numbered within room place agree =
+    bind_first spot x (slice_index values i) xs values (i + 1) next n scope own all (bind_agrees spot xs values (i + 1)) is counted numbered within room place agree
 
 length-bind : (into values : List ℕ) (i : ℕ) (locals : List ℕ) → length (bind_from i into values locals) ≡ length locals
 length-bind [] values i locals = refl
@@ -250,45 +205,13 @@ look_by : (i : Instance) (scope : List ℕ) (n : Numbering) (found : ℕ) (into 
     (record s { locals = bind_from 0 into values (slice_set s.locals found b) })
     (record t { locals = bind_from 0 (numbers (suc (length n.widths)) into) values (slice_set t.locals (length n.widths) b) })
 look_by i scope n found into b values s t counted numbered within room place alike =
-    let bs : List ℕ = b ∷ values in
     with_locals i scope n.names ((found ∷ into) ++ scope) (all_declared (spot_of i) (found ∷ into) n).names s t
     (bind_from 0 into values (slice_set s.locals found b))
     (bind_from 0 (numbers (suc (length n.widths)) into) values (slice_set t.locals (length n.widths) b)) alike
-    agree
+    (bind_first (spot_of i) found b into values 0 (length n.names) n scope s.locals t.locals (bind_agrees (spot_of i) into values 0) refl counted numbered within
+    (omega (arith, room, alike.locals.own_many)) (omega (arith, place, alike.locals.many)) alike.locals.agree)
     (length-bind into values 0 (slice_set s.locals found b) ∙ length-set s.locals found b)
     (length-bind (numbers (suc (length n.widths)) into) values 0 (slice_set t.locals (length n.widths) b) ∙ length-set t.locals (length n.widths) b)
-  where
-    spot : Spot
-    spot = spot_of i
-
-    is : found ≡ length n.names
-    is = eqb-true found (length n.names) (and_first _ _ counted)
-
-    one : Carries (local_widths i.m) n (declared (spot_of i) found n) 1
-    one = carries_one (spot_of i) found n is numbered
-
-    wider : length (declared (spot_of i) found n).widths ≡ suc (length n.widths)
-    wider = length_push n.widths (slice_index (local_widths i.m) found) ∙ omega arith
-
-    first : LocalsAgree (found ∷ scope) (declared (spot_of i) found n).names (slice_set s.locals found b) (slice_set t.locals (length n.widths) b)
-    first = declare_agrees (spot_of i) n scope s.locals t.locals found b is numbered within (omega (arith, is, room, alike.own_many)) (omega (arith, place, alike.many)) alike.locals
-
-    many : length (declared (spot_of i) found n).names ≡ length n.names + 1
-    many = one.count
-
-    rest : LocalsAgree (into ++ (found ∷ scope)) (all_declared (spot_of i) into (declared (spot_of i) found n)).names
-        (bind_from 0 into values (slice_set s.locals found b)) (bind_from 0 (numbers (length (declared (spot_of i) found n).widths) into) values (slice_set t.locals (length n.widths) b))
-    rest = bind_agrees (spot_of i) into values 0 (length n.names + 1) (declared (spot_of i) found n) (found ∷ scope) (slice_set s.locals found b) (slice_set t.locals (length n.widths) b)
-        (sym many) (and_second (found == length n.names) _ counted) one.numbered
-        (λ y there. in_cases (y < length (declared (spot_of i) found n).names) y found scope there (λ same. omega (arith, same, is, many)) (λ other old. omega (arith, within y old, many)))
-        (omega (arith, room, length-set s.locals found b, alike.own_many)) (omega (arith, place, wider, length-set t.locals (length n.widths) b, alike.many)) first
-
-    agree : LocalsAgree ((found ∷ into) ++ scope) (all_declared (spot_of i) (found ∷ into) n).names
-        (bind_from 0 into values (slice_set s.locals found b)) (bind_from 0 (numbers (suc (length n.widths)) into) values (slice_set t.locals (length n.widths) b))
-    agree y is_in =
-        subst (λ w. slice_index (bind_from 0 (numbers w into) values (slice_set t.locals (length n.widths) b)) (slice_index (all_declared (spot_of i) into (declared (spot_of i) found n)).names y)
-        ≡ slice_index (bind_from 0 into values (slice_set s.locals found b)) y) wider
-        (rest y (sym (any_middle y found into scope) ∙ is_in))
 
 pub look_alike : (i : Instance) (scope : List ℕ) (n : Numbering) (found : ℕ) (into : List ℕ) (o : ℕ) (key : List ℕ) (s t : State) → counted_from (length n.names) (found ∷ into) ≡ true
     → IsNumbered (local_widths i.m) n → ((y : ℕ) → IsIn y scope → y < length n.names)

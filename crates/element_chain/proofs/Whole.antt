@@ -1,8 +1,8 @@
 -- The whole does what the chain does.
-use Rattle.std.proofs.Common.{◌≡◌, ◌≢◌, ℕ, zero, suc, ◌+◌, ◌<◌, ◌≤◌, ◌%◌, ◌^◌, ◌==◌, ◌&&◌, ◌||◌, Bool, true, false, cond, List, [], ◌∷◌, ◌++◌, length, map, take, drop, get_or, refl, sym, ap, ◌∙◌, subst, arith, slice_index, slice_set, true≢false, Option, Some, None, mod-eq_of_lt, inr, ⊎_elim}
+use Rattle.std.proofs.Common.{◌≡◌, ◌≢◌, ℕ, zero, suc, ◌+◌, ◌<◌, ◌≤◌, ◌%◌, ◌^◌, ◌==◌, ◌&&◌, Bool, true, false, cond, List, [], ◌∷◌, ◌++◌, length, map, take, drop, get_or, refl, sym, ap, ◌∙◌, subst, arith, slice_index, slice_set, true≢false, Option, Some, None, mod-eq_of_lt, inr, ⊎_elim}
 use Rattle.std.specs.List.{list_any, filter}
-use Rattle.std.proofs.lemmas.Bool.{eqb-true, cases_lt}
-use Rattle.std.proofs.lemmas.Bool.Decides.{nat_tests}
+use Rattle.std.proofs.lemmas.Bool.{cases_eq, cond_both, eqb-true, cases_lt}
+use Rattle.std.proofs.lemmas.Grind.{get_or-set_at}
 use Rattle.std.proofs.lemmas.List.{length-set, get_or-set_same, get_or-set_other, get_or_past, get_or-map, length-map, length-replicate, length_push}
 use Rattle.gal_bits.specs.declared.op.Op.TheVariants.{Eq}
 use Rattle.gal_bits.specs.Operators.{value_of as operator_value}
@@ -33,7 +33,6 @@ use Rattle.element_chain.specs.Chain.{Connected, After, element_at, store_at, dr
 use Rattle.element_chain.specs.Compose.{Numbering, Spot, Written, one, followed, joined, tests, sent_by, Ends, wires_of, ends_within, element_placed, entry_within, whole_within, composed, closed, clearing, is_set, base_of, locals_from}
 use Rattle.element_chain.specs.Laws.{IsSmall, AreKept}
 use Rattle.element_chain.proofs.Ranked.{IsRanked, IsWireOf, FallsTo}
-use Rattle.packet_fields.specs.FieldOrder.{same_index}
 use Rattle.packet_fields.specs.FieldOrder.{at_index, index-lt, length-all_fields}
 use Rattle.element_lang.specs.KeptRuns.{start_fits}
 use Rattle.element_chain.proofs.Numbers.{Extends, extends_self, extends_more, extends_push, IsNumbered, body_carries}
@@ -42,8 +41,8 @@ use Rattle.element_chain.proofs.Sent.{written_twice, sent_length}
 use Rattle.element_chain.proofs.Sets.{set_only, set_by, sent_bytes}
 use Rattle.element_chain.proofs.Stores.{joined_set, joined_at, base_right}
 use Rattle.element_chain.proofs.Wired.{first_at, EachWire, each_of, first_of_all}
-use Rattle.element_chain.proofs.Alike.{Instance, Alike, AlikeOutcomes, do_followed}
-use Rattle.element_chain.proofs.Clearing.{eq_value, no_place, clearing_leaves, before_clearing}
+use Rattle.element_chain.proofs.Alike.{Instance, Alike, LocalsAlike, AlikeOutcomes, do_followed}
+use Rattle.element_chain.proofs.ClearedFields.{eq_value, no_place, listed, clearing_leaves, before_clearing}
 use Rattle.element_chain.proofs.Bodies.{ended, IsReady, do_one, body_alike}
 use Rattle.lemmas.proofs.Tests.{and_first, and_second}
 
@@ -51,10 +50,6 @@ use Rattle.lemmas.proofs.Tests.{and_first, and_second}
 abbrev HasEnded : Outcome → Type 0
 HasEnded (Running s) = ⊥
 HasEnded (Ended st verdict) = Unit {0}
-
-ended_either : (b : Bool) (x y : Outcome) → HasEnded x → HasEnded y → HasEnded (cond b x y)
-ended_either true x y first second = first
-ended_either false x y first second = second
 
 ended_behind : (o : Outcome) (go : State → Outcome) → ((s : State) → HasEnded (go s)) → HasEnded (then_do o go)
 ended_behind (Running s) go ends = ends s
@@ -67,8 +62,8 @@ ended_already (Ended st verdict) go ends = tt
 mutual
   stmt_ends : (widths : List ℕ) (packet : Packet) (s : StmtTree) (a : State) → always_ends s ≡ true → HasEnded (do_stmt widths packet s a)
   stmt_ends widths packet (choose test first second) a h =
-      ended_either (value_of widths packet test a == 0) (do_body widths packet second a) (do_body widths packet first a)
-      (body_ends widths packet second a (and_second (ends_always first) _ h)) (body_ends widths packet first a (and_first _ _ h))
+      cond_both (value_of widths packet test a == 0) (do_body widths packet second a) (do_body widths packet first a) HasEnded
+      (λ e. body_ends widths packet second a (and_second (ends_always first) _ h)) (λ e. body_ends widths packet first a (and_first _ _ h))
   stmt_ends widths packet (send port) a h = tt
   stmt_ends widths packet drop_all a h = tt
   stmt_ends widths packet _ a h = absurd (true≢false (sym h))
@@ -162,15 +157,10 @@ ends_grow c fit (suc n) (Element e) input widths = placed_grows c fit (ends_with
 
 -- ### stores
 store_set : (stores : List Store) (e i : ℕ) (st : Store) → e < length stores → (P : Store → Type 0) → (i ≡ e → P st) → (i ≢ e → P (store_at stores i)) → P (store_at (slice_set stores e st) i)
-store_set stores e i st lt P here there = by_test (i == e) refl
-  where
-    by_test : (b : Bool) → (i == e) ≡ b → P (store_at (slice_set stores e st) i)
-    by_test true h =
-        let same : i ≡ e = eqb-true i e h in
-        subst P (sym (ap (store_at (slice_set stores e st)) same ∙ get_or-set_same stores e st [] lt)) (here same)
-    by_test false h =
-        let other : i ≢ e = (λ same. grind (arith, nat_tests, h, same)) in
-        subst P (sym (get_or-set_other stores e i st [] other)) (there other)
+store_set stores e i st lt P here there =
+    ⊎_elim (λ same. subst P (sym (get_or-set_at stores e i st [] same lt)) (here same))
+    (λ other. subst P (sym (get_or-set_other stores e i st [] other)) (there other))
+    (cases_eq i e)
 
 kept_set : (elements : List Tree) (stores : List Store) (e : ℕ) (st : Store) → e < length elements → AreKept elements stores → IsKept (element_at elements e).objects st → AreKept elements (slice_set stores e st)
 kept_set elements stores e st lt kept is = record {
@@ -263,6 +253,9 @@ instance_at c widths whole n e stores own port = record {
   leaves = λ st verdict. passed_on (run_within c n) c.wires e (slice_set stores e st) verdict;
 }
 
+nothing_named : (i : Instance) (own whole_locals : List ℕ) → length whole_locals ≡ length i.widths → length own ≡ length i.m.locals → LocalsAlike i [] [] own whole_locals
+nothing_named i own whole_locals many own_many = record { agree = λ x is. absurd (true≢false (sym is)); many = many; own_many = own_many }
+
 ready_at : (c : Connected) → (fit : IsRanked c) → (widths : List ℕ) (whole : Packet) (n : ℕ) → EndRight c fit widths whole n → (e : ℕ) (stores : List Store) (own : Packet) (port : Option ℕ) → e < length c.elements → fit.rank e ≤ fit.rank 0 → AreKept c.elements stores
     → IsArrival own → ((values : List ℕ) → with_fields all_fields values own.bytes ≡ with_fields all_fields values whole.bytes)
     → IsReady (instance_at c widths whole n e stores own port) (sent_by (ends_within c n) (wires_of c.wires e))
@@ -306,9 +299,8 @@ store_same : (i : Instance) (scope names : List ℕ) (o p : Outcome)
     → ((st : Store) → (i.before ++ (st ++ i.after) ≡ joined (i.leaves st Drop).stores) × (Drop ≡ (i.leaves st Drop).verdict))
     → AlikeOutcomes i scope names o p → (store_after p ≡ joined (after_outcome i o).stores) × (verdict_after p ≡ (after_outcome i o).verdict)
 store_same i scope names (Running s) (Running t) drops alike = (alike.store ∙ (drops s.store).0, (drops s.store).1)
-store_same i scope names (Running s) (Ended all last) drops alike = absurd alike
-store_same i scope names (Ended st verdict) (Running t) drops alike = absurd alike
 store_same i scope names (Ended st verdict) (Ended all last) drops alike = alike
+store_same i scope names o p drops alike = absurd alike
 
 dropped_as : (widths : List ℕ) (packet : Packet) (p : Outcome) (a : After) → (store_after p ≡ joined a.stores) × (verdict_after p ≡ a.verdict)
     → then_do p (do_body widths packet (one drop_all)) ≡ ended a
@@ -319,14 +311,12 @@ closed_right : (i : Instance) (widths : List ℕ) (packet : Packet) (scope names
     → ((st : Store) → (i.before ++ (st ++ i.after) ≡ joined (i.leaves st Drop).stores) × (Drop ≡ (i.leaves st Drop).verdict))
     → AlikeOutcomes i scope names (do_body (local_widths i.m) i.own own a) (do_body widths packet placed u)
     → do_body widths packet (closed own placed) u ≡ ended (after_outcome i (do_body (local_widths i.m) i.own own a))
-closed_right i widths packet scope names own placed a u drops alike = by_test (ends_always own) refl
-  where
-    by_test : (b : Bool) → ends_always own ≡ b → do_body widths packet (cond b placed (followed placed (one drop_all))) u ≡ ended (after_outcome i (do_body (local_widths i.m) i.own own a))
-    by_test true h = end_ended i scope names (do_body (local_widths i.m) i.own own a) (do_body widths packet placed u) alike (body_ends (local_widths i.m) i.own own a h)
-    by_test false h =
-        do_followed widths packet placed (one drop_all) u
-        ∙ dropped_as widths packet (do_body widths packet placed u) (after_outcome i (do_body (local_widths i.m) i.own own a))
-        (store_same i scope names (do_body (local_widths i.m) i.own own a) (do_body widths packet placed u) drops alike)
+closed_right i widths packet scope names own placed a u drops alike =
+    let o : Outcome = do_body (local_widths i.m) i.own own a in
+    cond_both (ends_always own) placed (followed placed (one drop_all)) (λ b. do_body widths packet b u ≡ ended (after_outcome i o))
+    (λ h. end_ended i scope names o (do_body widths packet placed u) alike (body_ends (local_widths i.m) i.own own a h))
+    (λ h. do_followed widths packet placed (one drop_all) u
+    ∙ dropped_as widths packet (do_body widths packet placed u) (after_outcome i o) (store_same i scope names o (do_body widths packet placed u) drops alike))
 
 -- ## the elements behind the entry
 entered_right : (c : Connected) → (fit : IsRanked c) → (widths : List ℕ) (whole : Packet) → IsArrival whole → (n : ℕ) → EndRight c fit widths whole n → (e input : ℕ) (before : List ℕ) (t : State) (stores : List Store) → (e < length c.elements) × (fit.rank e < fit.rank 0)
@@ -340,7 +330,7 @@ entered_right c fit widths whole arrives n ends e input before t stores there sm
     let only : (f : Field) → is_set c.elements f ≡ true → (row f).writable ≡ true = (λ f h. set_only c.elements f (λ k lt. good_at c fit k) h) in
     let room : e < length stores = omega (arith, there.0, at.kept.count) in
     let own_arrives : IsArrival own = record { port = small; bytes = sent_bytes t.fields whole.bytes arrives.bytes; size = omega (arith, sent_length t.fields whole.bytes, arrives.size) } in
-    let clear = clearing_leaves widths whole (is_set c.elements) only t.fields input at.fit fs t (listed_set fs) at.all
+    let clear = clearing_leaves widths whole (is_set c.elements) only t.fields input at.fit fs t listed_set at.all
     (before_clearing widths whole (is_set c.elements) only t.fields input at.fit at.unset) at.fit in
     let u : State = clear.0 in
     let i : Instance = instance_at c widths whole n e stores own (Some input) in
@@ -348,15 +338,15 @@ entered_right c fit widths whole arrives n ends e input before t stores there sm
     let a : State = start_state m (store_at stores e) own in
     let start : Numbering = record { names = []; widths = before } in
     let alike : Alike i [] [] a u = record {
-      locals = λ x is. absurd (true≢false (sym is));
-      many = ap (λ (xs : List ℕ). length xs) clear.2.locals ∙ at.many;
-      own_many = length-replicate (length m.locals) 0;
-      fields = λ k other. by_place u.fields (field_value bytes input) k clear.2.all (λ f apart. clear.2.clear f apart (inr refl)) other;
-      all = clear.2.all;
-      own_all = length-map all_fields (field_value bytes input) ∙ length-all_fields;
-      port = sym (first_field (field_value bytes input) ∙ port_read bytes input);
+      locals = nothing_named i a.locals u.locals (ap (λ (xs : List ℕ). length xs) clear.2.locals ∙ at.many) (length-replicate (length m.locals) 0);
+      fields = record {
+        same = λ k other. by_place u.fields (field_value bytes input) k clear.2.all (λ f apart. clear.2.clear f apart (inr refl)) other;
+        all = clear.2.all;
+        own_all = length-map all_fields (field_value bytes input) ∙ length-all_fields;
+        port = sym (first_field (field_value bytes input) ∙ port_read bytes input);
+        unset = λ f never. clear.2.unset f never ∙ at.unset f never;
+      };
       store = clear.2.store ∙ at.store ∙ joined_at stores e room;
-      unset = λ f never. clear.2.unset f never ∙ at.unset f never;
     } in
     let result = body_alike i (sent_by (ends_within c n) (wires_of c.wires e)) ready [] 0 m.body start refl (good_at c fit e) (no_names (local_widths m) before)
     (λ y is. absurd (true≢false (sym is))) (omega (arith, locals_at c fit e there.0)) grown
@@ -371,21 +361,8 @@ entered_right c fit widths whole arrives n ends e input before t stores there sm
     not_entry zero lt = absurd (omega (arith, lt))
     not_entry (suc k) lt = omega arith
 
-    listed_by : (fs : List Field) (b : Bool) (f g : Field) → is_set c.elements f ≡ b → (list_any (λ h. field_index h == field_index g) fs ≡ true → is_set c.elements g ≡ true)
-        → list_any (λ h. field_index h == field_index g) (cond b (f ∷ fs) fs) ≡ true → is_set c.elements g ≡ true
-    listed_by fs true f g is rest h = from_either (field_index f == field_index g) refl h
-      where
-        from_either : (x : Bool) → (field_index f == field_index g) ≡ x → (x || list_any (λ h. field_index h == field_index g) fs) ≡ true → is_set c.elements g ≡ true
-        from_either true e h = ap (is_set c.elements) (sym (same_index f g (eqb-true (field_index f) (field_index g) e))) ∙ is
-        from_either false e h = rest h
-    listed_by fs false f g is rest h = rest h
-
-    listed_all : (fs : List Field) (g : Field) → list_any (λ h. field_index h == field_index g) (filter (is_set c.elements) fs) ≡ true → is_set c.elements g ≡ true
-    listed_all [] g h = absurd (true≢false (sym h))
-    listed_all (f ∷ fs) g h = listed_by (filter (is_set c.elements) fs) (is_set c.elements f) f g refl (listed_all fs g) h
-
-    listed_set : (fs : List Field) (g : Field) → list_any (λ h. field_index h == field_index g) (filter (is_set c.elements) all_fields) ≡ true → is_set c.elements g ≡ true
-    listed_set fs g h = listed_all all_fields g h
+    listed_set : (g : Field) → list_any (λ h. field_index h == field_index g) (filter (is_set c.elements) all_fields) ≡ true → is_set c.elements g ≡ true
+    listed_set g h = and_first _ _ (sym (listed (is_set c.elements) all_fields g) ∙ h)
 
 pub end_right : (c : Connected) → (fit : IsRanked c) → (widths : List ℕ) (whole : Packet) → IsArrival whole → (n : ℕ) → EndRight c fit widths whole n
 end_right c fit widths whole arrives n Out input before t stores there small at grown =
@@ -421,15 +398,15 @@ entry_alike c fit n stores whole arrives kept =
     let t : State = start_state (whole_within c n) (joined stores) whole in
     let g : Field → ℕ = field_value whole.bytes whole.port in
     let alike : Alike i [] [] a t = record {
-      locals = λ x is. absurd (true≢false (sym is));
-      many = length-replicate (length (whole_within c n).locals) 0 ∙ length_of_locals 0 widths;
-      own_many = length-replicate (length m.locals) 0;
-      fields = λ k other. refl;
-      all = length-map all_fields g ∙ length-all_fields;
-      own_all = length-map all_fields g ∙ length-all_fields;
-      port = refl;
+      locals = nothing_named i a.locals t.locals (length-replicate (length (whole_within c n).locals) 0 ∙ length_of_locals 0 widths) (length-replicate (length m.locals) 0);
+      fields = record {
+        same = λ k other. refl;
+        all = length-map all_fields g ∙ length-all_fields;
+        own_all = length-map all_fields g ∙ length-all_fields;
+        port = refl;
+        unset = λ f never. let low : field_index f < length all_fields = omega (arith, index-lt f, length-all_fields) in get_or-map g all_fields (field_index f) MetaPort 0 low ∙ ap g (at_index f);
+      };
       store = joined_at stores 0 room;
-      unset = λ f never. let low : field_index f < length all_fields = omega (arith, index-lt f, length-all_fields) in get_or-map g all_fields (field_index f) MetaPort 0 low ∙ ap g (at_index f);
     } in
     body_alike i (sent_by (ends_within c n) (wires_of c.wires 0)) ready [] 0 m.body (record { names = []; widths = [] }) refl (good_at c fit 0) (no_names (local_widths m) [])
     (λ y is. absurd (true≢false (sym is))) (omega (arith, locals_at c fit 0 fit.some)) (extends_self widths)

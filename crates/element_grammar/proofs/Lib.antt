@@ -12,4 +12,4 @@ pub mod Loops
 pub mod Operands
 pub mod StatementPieces
 pub mod DeclarationPieces
-pub mod Parsing
+pub mod OnlyTree

@@ -117,7 +117,7 @@ pub(crate) fn value(frame: &Frame<'_>, e: &Expr, vars: &Variables) -> u64
 /// The values of at most 8 expressions.
 #[cycle(value)]
 pub(crate) fn values(frame: &Frame<'_>, all: &[Expr], vars: &Variables) -> Values
-    requires few { count_of (expr_trees all.now) ≤ 8 }
+    requires few_operands { count_of (expr_trees all.now) ≤ 8 }
     requires good { AreRunnableExprs (expr_trees all.now) }
     ensures told { (store : Store)
         → result ≡ values_of (frame_widths frame.now) (packet_of frame.now) (expr_trees all.now)

@@ -36,7 +36,7 @@ fn digits(n: u64) -> u64
 #[tactic(auto, using(lemmas::proofs::Numbers::few_digits))]
 pub fn number_length(n: u64) -> u64
     ensures value { result ≡ lengths.number_length n }
-    ensures few { result ≤ 21 }
+    ensures bounded { result ≤ 21 }
 {
     digits(n) + 1
 }

@@ -9,7 +9,7 @@ use Rattle.element_rules.specs.declared.expressions.TestedList.{TestedList}
 use Rattle.element_rules.specs.Seen.{local_of}
 use Rattle.element_rules.specs.Tested.{both_faults, no_faults, Several, faults_of, list_faults, tested, tested_list, list_of}
 use Rattle.element_rules.specs.Faulty.{alone}
-use Rattle.element_rules.proofs.Testing.{both_assoc}
+use Rattle.element_rules.proofs.ExprFaults.{both_assoc}
 use Rattle.lemmas.proofs.Tests.{or_false}
 
 both_none : (a : Faults) → both_faults a no_faults ≡ a

@@ -1,9 +1,9 @@
 pub mod Bits
 pub mod Levels
-pub mod Testing
+pub mod ExprFaults
 pub mod Scope
 pub mod Declared
-pub mod Ending
+pub mod LastEnds
 pub mod Alone
-pub mod Walking
+pub mod BlockFaults
 pub mod Doubles

@@ -10,7 +10,7 @@ use Rattle.element_lang.specs.Surface.{Declared, Surface, object_of}
 use Rattle.element_lang.specs.Grammar.{Spells}
 use Rattle.element_lang.specs.Broken.{broken_in, broken_decl, first_broken}
 use Rattle.element_text.specs.Resolve.{Env, MadeBody, are_good_decls, decls_of, resolved}
-use Rattle.element_text.proofs.Agreeing.{agrees_some, agrees_bound, agrees_when}
+use Rattle.element_text.proofs.Agreement.{agrees_some, agrees_bound, agrees_when}
 use Rattle.element_text.proofs.AgreeingScopes.{Seen}
 use Rattle.element_text.proofs.AgreeingStmts.{sight_of}
 use Rattle.element_text.proofs.AgreeingSights.{none_or}

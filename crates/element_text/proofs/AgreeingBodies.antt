@@ -10,7 +10,7 @@ use Rattle.element_lang.specs.Rules as rules
 use Rattle.element_lang.specs.Surface.{SurfaceExpr, SurfaceStmt, SurfaceBody, let_local, assign, set_field, look, put, del, choose, repeat, send, drop, done, stmt}
 use Rattle.element_lang.specs.Broken.{width_in, in_expr, in_exprs, always_ends, ends_always, own_exprs, are_free, stmt_tests, binds, broken_within, broken_in}
 use Rattle.element_text.specs.Resolve.{Env, Made, MadeBody, with_locals, is_done, made_condition, made_stmt, made_body}
-use Rattle.element_text.proofs.Agreeing.{Agrees, agrees_some, agrees_to, agrees_bound, agrees_when}
+use Rattle.element_text.proofs.Agreement.{Agrees, agrees_some, agrees_to, agrees_bound, agrees_when}
 use Rattle.element_text.proofs.AgreeingExprs.{is_odd, is_wrong, expr_agrees}
 use Rattle.element_text.proofs.AgreeingScopes.{Seen, sole_agrees}
 use Rattle.element_text.proofs.AgreeingTests.{none_of, tests_apart}

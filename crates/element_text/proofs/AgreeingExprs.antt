@@ -16,7 +16,7 @@ use Rattle.element_lang.specs.Broken as broken
 use Rattle.element_text.specs.Resolve.{Known, local_in, Typed, TypedList, accepted_width, typed_apply, typed_local, typed_expr, typed_exprs}
 use Rattle.element_text.proofs.Operators.{result_fits, fitting_result, result_wide}
 use Rattle.element_text.proofs.CompleteExprs.{field_wide}
-use Rattle.element_text.proofs.Agreeing.{Agrees, agrees_some, agrees_none, agrees_to, agrees_bound, agrees_when, agrees_map, agrees_from}
+use Rattle.element_text.proofs.Agreement.{Agrees, agrees_some, agrees_none, agrees_to, agrees_bound, agrees_when, agrees_map, agrees_from}
 use Rattle.gal_bits.specs.Fits.{same_list}
 
 -- ## What may be wrong in an expression

@@ -10,7 +10,7 @@ use Rattle.element_lang.specs.declared.tree.Local.{Local}
 use Rattle.element_lang.specs.Rules.{is_width}
 use Rattle.element_lang.specs.Broken.{local_named, object_named, locals_of, are_free}
 use Rattle.element_text.specs.Resolve.{Known, local_in, object_from, Env, is_free, with_local, declared, all_declared}
-use Rattle.element_text.proofs.Agreeing.{Agrees, agrees_some, agrees_none, agrees_to, agrees_so, agrees_bound, agrees_when, swapped}
+use Rattle.element_text.proofs.Agreement.{Agrees, agrees_some, agrees_none, agrees_to, agrees_so, agrees_bound, agrees_when, swapped}
 use Rattle.element_text.proofs.AgreeingExprs.{is_wide, InScope, local_agrees}
 use Rattle.lemmas.proofs.Tests.{and_true, same_tests}
 

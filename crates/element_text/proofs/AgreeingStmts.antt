@@ -14,7 +14,7 @@ use Rattle.element_lang.specs.Rules as rules
 use Rattle.element_lang.specs.Surface.{SurfaceExpr, SurfaceExprs, SurfaceStmt, SurfaceBody, let_local, assign, set_field, look, put, del, choose, repeat, send, drop, done, stmt}
 use Rattle.element_lang.specs.Broken.{Sight, local_named, object_named, width_of_local, width_in, widths_in, in_expr, in_exprs, always_ends, own_exprs, value_widths, locals_of, are_free, binds, stmt_tests}
 use Rattle.element_text.specs.Resolve.{Env, TypedList, object_from, declared, all_declared, numbers_from, values_of, Made, made_stmt}
-use Rattle.element_text.proofs.Agreeing.{Agrees, agrees_some, agrees_to, agrees_bound, agrees_when, all_of}
+use Rattle.element_text.proofs.Agreement.{Agrees, agrees_some, agrees_to, agrees_bound, agrees_when, all_of}
 use Rattle.element_text.proofs.AgreeingExprs.{is_odd, is_wrong, local_agrees, expr_agrees, exprs_agree}
 use Rattle.element_text.proofs.AgreeingScopes.{has_values, Seen, object_agrees, sole_agrees, is_even, even_lengths, all_agree}
 use Rattle.element_text.proofs.AgreeingTests.{none_of, in_joined, own_tests, tests_apart}

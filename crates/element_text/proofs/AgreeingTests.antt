@@ -3,7 +3,7 @@ use Rattle.std.proofs.Common.{◌≡◌, ℕ, Bool, true, false, not, ◌&&◌, 
 use Rattle.element_lang.specs.declared.tree.Local.{Local}
 use Rattle.element_lang.specs.Surface.{SurfaceExpr, SurfaceExprs, SurfaceStmt, byte, shift, apply, no_expr, expr}
 use Rattle.element_lang.specs.Broken.{Sight, in_expr, in_exprs, is_bad_width, is_too_large, is_unknown, is_misfit, is_far_shift, appended, own_exprs, declares, are_free, uses_unknown, takes_misfit, writes_fixed, misfits_object, changes_fixed, repeats_badly, repeats_an_end, stmt_tests, lowest_broken}
-use Rattle.element_text.proofs.Agreeing.{all_of, pulled, one_fails}
+use Rattle.element_text.proofs.Agreement.{all_of, pulled, one_fails}
 use Rattle.element_text.proofs.AgreeingExprs.{is_odd, is_wrong}
 
 -- no rule is broken

@@ -14,7 +14,7 @@ use Rattle.element_lang.specs.Widths.{local_widths, width_of}
 use Rattle.element_lang.specs.Rules.{is_width, is_shift, widths_of, is_good_expr, are_good_exprs}
 use Rattle.element_lang.specs.Surface.{name_of_local, local_name, named_expr, named_exprs}
 use Rattle.element_text.specs.Resolve.{Known, local_in, Typed, TypedList, typed_expr, typed_exprs}
-use Rattle.element_text.proofs.Scoping.{local_in_pushed, found_alone, none_alone, width_at}
+use Rattle.element_text.proofs.NamesInScope.{local_in_pushed, found_alone, none_alone, width_at}
 use Rattle.element_text.proofs.Operators.{fitting_result, result_wide}
 use Rattle.lemmas.proofs.Lists.{bytes_eq_same}
 

@@ -17,7 +17,7 @@ use Rattle.element_lang.specs.Widths.{local_widths, width_of}
 use Rattle.element_lang.specs.Rules.{is_width, widths_of, same_widths, is_good_expr, are_good_exprs, fits_keys, fits_values, can_put, can_del, object_names, counted_from, are_fresh, binds, declared_in, declared_by, always_ends, ends_always, any_repeats, is_empty, is_count, is_good_stmt, is_good_body, are_widths, is_good_object, are_good_objects}
 use Rattle.element_lang.specs.Surface.{name_of_local, name_of_object, local_name, object_name, named_stmt, named_body}
 use Rattle.element_text.specs.Resolve.{Known, Env, object_from, declared, all_declared, numbers_from, values_of, Made, made_stmt, made_body}
-use Rattle.element_text.proofs.Scoping.{word_same, width_at, any_moved, empty_same}
+use Rattle.element_text.proofs.NamesInScope.{word_same, width_at, any_moved, empty_same}
 use Rattle.element_text.proofs.CompleteExprs.{IsKnown, Reads, reads_moved, reads_pushed, expr_read, exprs_read, expr_wide}
 use Rattle.lemmas.proofs.Lists.{get_within, take_next}
 

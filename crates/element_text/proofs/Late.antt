@@ -20,9 +20,9 @@ use Rattle.element_text.specs.Names.{HasSurfaceNames}
 use Rattle.element_text.specs.Refused.{IsRefused}
 use Rattle.element_text.specs.Reads.{IsAnswer, IsOnlySource, IsOnlyRefused, HasOnlySurface, Keeps, KeepsSizes, IsTooLarge, IsResolved}
 use Rattle.element_text.proofs.TokenNames.{tokens_named}
-use Rattle.element_text.proofs.Naming.{spelled_names}
+use Rattle.element_text.proofs.SpelledNames.{spelled_names}
 use Rattle.element_text.proofs.Refusals.{utf8_whole, none_wrong, moved}
-use Rattle.element_text.proofs.Keeping.{unbroken_kept, one_kept}
+use Rattle.element_text.proofs.KeptRules.{unbroken_kept, one_kept}
 
 -- a count isn't above what it is at most
 not_above : (n most have : ℕ) → n ≤ most → have ≡ min n (2 ^ 64 - 1) → most < have → ⊥

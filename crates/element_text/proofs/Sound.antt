@@ -13,7 +13,7 @@ use Rattle.element_lang.specs.Surface.{Literal, SurfaceRow, SurfaceDecl, Declare
 use Rattle.element_text.specs.Names.{declared_name, HasSurfaceNames}
 use Rattle.element_text.specs.Resolve.{Env, MadeBody, decls_of, is_written_row, are_written, is_written, are_good_decls, resolved}
 use Rattle.element_text.proofs.Optional.{Gives, gives, gives_bound, gives_when, given}
-use Rattle.element_text.proofs.Scoping.{keeps_all}
+use Rattle.element_text.proofs.NamesInScope.{keeps_all}
 use Rattle.element_text.proofs.SoundExprs.{fits_none}
 use Rattle.element_text.proofs.SoundStmts.{IsBodyMade, body_made}
 

@@ -12,7 +12,7 @@ use Rattle.element_lang.specs.Rules.{is_width, is_shift, widths_of, is_good_expr
 use Rattle.element_lang.specs.Surface.{SurfaceExpr, SurfaceExprs, lit, name, field, byte, shift, apply, no_expr, expr, name_of_local, local_name, named_expr, named_exprs}
 use Rattle.element_text.specs.Resolve.{Known, local_in, Typed, TypedList, accepted_width, typed_local, typed_expr, typed_exprs}
 use Rattle.element_text.proofs.Optional.{Gives, gives, gives_bound, gives_when, gives_map}
-use Rattle.element_text.proofs.Scoping.{local_in_pushed, alone, none_of_two, not_alone, width_at}
+use Rattle.element_text.proofs.NamesInScope.{local_in_pushed, alone, none_of_two, not_alone, width_at}
 use Rattle.element_text.proofs.Operators.{Fitting, result_fits}
 
 -- A local in scope has this name, stands in the middlebox under its number, and the number is among those in scope.

@@ -17,7 +17,7 @@ use Rattle.element_lang.specs.Surface.{SurfaceExpr, SurfaceExprs, SurfaceStmt, S
 use Rattle.element_text.specs.Names.{HasStmtNames, HasBodyNames}
 use Rattle.element_text.specs.Resolve.{Known, local_in, Env, typed_expr, typed_exprs, is_free, with_local, declared, all_declared, numbers_from, values_of, Made, MadeBody, with_locals, is_done, made_condition, made_stmt, made_body}
 use Rattle.element_text.proofs.Optional.{Gives, gives, gives_bound, gives_when, gives_tested, given}
-use Rattle.element_text.proofs.Scoping.{Keeps, keeps_all, keeps_on, keeps_pushed, width_at, any_moved, none_from, Within, within_same, within_both, within_locals, object_found, empty_same}
+use Rattle.element_text.proofs.NamesInScope.{Keeps, keeps_all, keeps_on, keeps_pushed, width_at, any_moved, none_from, Within, within_same, within_both, within_locals, object_found, empty_same}
 use Rattle.element_text.proofs.Operators.{lists_same}
 use Rattle.element_text.proofs.SoundExprs.{IsFound, Fits, fits_pushed, fits_moved, IsTyped, AreTyped, expr_typed, exprs_typed}
 use Rattle.lemmas.proofs.Lists.{get_pushed, each_pushed}

@@ -7,7 +7,7 @@ use Rattle.state_store.proofs.Laws.{rows_change_alone-others}
 use Rattle.state_store.specs.Kept.{IsKept}
 use Rattle.state_store.specs.Store.{Store}
 use Rattle.flat_ir.proofs.Changes.{is_its_changes}
-use Rattle.flat_ir.proofs.Fitting.{writes_no_table}
+use Rattle.flat_ir.proofs.FitParts.{writes_no_table}
 use Rattle.flat_ir.proofs.KeptRuns.{keeps_widths, turn_fits}
 use Rattle.flat_ir.proofs.Lines.{arm_live, line_suc, live_suc, seen_live}
 use Rattle.flat_ir.proofs.Readings.{change_same, live_same, results_same, same_for_operands}

@@ -12,7 +12,7 @@ use Rattle.flat_ir.specs.Run.{change_of, made, with_changes, after}
 use Rattle.flat_ir.specs.WellFormed.{IsWellFormed, WritesNoTable}
 use Rattle.state_store.specs.Kinds.{is_constant}
 use Rattle.flat_ir.specs.Laws.{KeepsTables}
-use Rattle.flat_ir.proofs.Fitting.{writes_no_table}
+use Rattle.flat_ir.proofs.FitParts.{writes_no_table}
 
 module _ (alone : (st : Store) (number : ℕ) (object : Object) → IsChangedAlone st number object) where
   -- a change of one object leaves the others

@@ -15,8 +15,8 @@ fn holds<R: Numbers>(block: Block, numbers: &R) -> bool
 
 /// Whether a block is live: its condition and those of all blocks above it have their polarity.
 pub fn is_live<R: Numbers>(blocks: &[Block], numbers: &R, block: u32) -> bool
-    requires low { HasLowParents blocks.now }
-    requires there { block ≤ length blocks.now }
+    requires parents { HasLowParents blocks.now }
+    requires block_in_range { block ≤ length blocks.now }
     ensures { result ≡ is_live blocks.now (R.reads numbers.now) block }
 {
     let mut number = block;
@@ -32,8 +32,8 @@ pub fn is_live<R: Numbers>(blocks: &[Block], numbers: &R, block: u32) -> bool
 
 /// Whether a block is another one, or stands above it.
 pub(crate) fn is_above(blocks: &[Block], above: u32, block: u32) -> bool
-    requires low { HasLowParents blocks.now }
-    requires there { block ≤ length blocks.now }
+    requires parents { HasLowParents blocks.now }
+    requires block_in_range { block ≤ length blocks.now }
     ensures { result ≡ is_above blocks.now above block }
 {
     let mut number = block;

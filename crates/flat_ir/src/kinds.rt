@@ -12,7 +12,7 @@ use state_store::ObjectDecl;
 // How many values the rows of an object have.
 fn value_count(objects: &[ObjectDecl], object: u32) -> u32
     ensures value { result ≡ length (value_widths objects.now object) }
-    ensures few { result ≤ 8 }
+    ensures bounded { result ≤ 8 }
 {
     match objects.get(object as usize) {
         Some(declared) => declared.values.len() as u32,
@@ -145,7 +145,7 @@ impl InstrKind {
     /// How many results it has, 9 at most.
     pub fn result_count(&self, objects: &[ObjectDecl]) -> u32
         ensures value { result ≡ result_count objects.now (work_of self.now) }
-        ensures few { result ≤ 9 }
+        ensures bounded { result ≤ 9 }
     {
         match self {
             InstrKind::Look { object, .. } => 1 + value_count(objects, *object),

@@ -48,7 +48,7 @@ fn in_order(alloc: Global, spans: &Spans) -> Result<Vec<Span>, NoMemory>
     requires { length spans.now < 2 ^ 32 }
     ensures same { IfOk result (λ sorted. IsPermutation spans.now sorted.items) }
     ensures rising { IfOk result (λ sorted. IsNonDecreasingBy (λ span. span.from) sorted.items) }
-    ensures few { IfOk result (λ sorted. length sorted.items < 2 ^ 32) }
+    ensures bounded { IfOk result (λ sorted. length sorted.items < 2 ^ 32) }
 {
     let mut sorted = spans.as_slice().to_vec(alloc)?;
     sorted.sort_by_key(|span| span.from)?;
@@ -95,7 +95,7 @@ impl RegPlan {
     /// A plan with as few registers as spans allow. This takes n log n steps for n spans, and one step for each value
     /// up to the greatest that has a span, at most 65,536.
     pub fn of(alloc: Global, spans: &Spans) -> Result<RegPlan, NoMemory>
-        requires few { length spans.now < 2 ^ 32 }
+        requires few_spans { length spans.now < 2 ^ 32 }
         requires differ { ValuesDiffer spans.now }
         requires ordered { AreWrittenFirst spans.now }
         ensures registers { IfOk result (λ plan. (value : ℕ)

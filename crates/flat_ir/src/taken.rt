@@ -19,7 +19,7 @@ pub struct Taken {
 // Whether the first register is free before a step.
 fn is_free(taken: &BinaryHeap<Taken>, from: u32) -> bool
     requires { IsHeap taken_cmp (heap_items taken.now) }
-    ensures some { result ≡ true → HoldsAt (λ entry. entry.last.0 < from) (heap_items taken.now) 0 }
+    ensures nonempty { result ≡ true → HoldsAt (λ entry. entry.last.0 < from) (heap_items taken.now) 0 }
     ensures none { result ≡ false → All (λ entry. from ≤ entry.last.0) (heap_items taken.now) }
 {
     match taken.peek() {
@@ -31,7 +31,7 @@ fn is_free(taken: &BinaryHeap<Taken>, from: u32) -> bool
 // A register that is free before a step, which is then no longer taken, or else one more.
 fn find(taken: &mut BinaryHeap<Taken>, from: u32) -> u32
     requires heap { IsHeap taken_cmp (heap_items taken.old) }
-    requires few { length (heap_items taken.old) < 2 ^ 32 }
+    requires few_taken { length (heap_items taken.old) < 2 ^ 32 }
     ensures found { IsFound from (heap_items taken.old) (heap_items taken.new) result }
     ensures heap { IsHeap taken_cmp (heap_items taken.new) }
 {
@@ -46,7 +46,7 @@ fn find(taken: &mut BinaryHeap<Taken>, from: u32) -> u32
 /// A register for a span: one that is free before it, or else one more.
 pub fn take(taken: &mut BinaryHeap<Taken>, span: &Span) -> Result<u32, NoMemory>
     requires heap { IsHeap taken_cmp (heap_items taken.old) }
-    requires few { length (heap_items taken.old) < 2 ^ 32 }
+    requires few_taken { length (heap_items taken.old) < 2 ^ 32 }
     ensures { IfOk result (λ register. IsTaken span.now (heap_items taken.old) (heap_items taken.new) register) }
 {
     let register = find(taken, span.from);

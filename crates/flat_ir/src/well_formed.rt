@@ -45,8 +45,8 @@ fn block_of(f: &Flat, value: ValueId) -> u32
 
 // Whether a value stands in a block or above it.
 fn is_seen(f: &Flat, block: u32, value: ValueId) -> bool
-    requires low { HasLowParents f.now.blocks }
-    requires there { block ≤ length f.now.blocks }
+    requires parents { HasLowParents f.now.blocks }
+    requires block_in_range { block ≤ length f.now.blocks }
     ensures { result ≡ is_seen (program_of f.now) block value }
 {
     is_above(f.blocks.as_slice(), block_of(f, value), block)
@@ -54,7 +54,7 @@ fn is_seen(f: &Flat, block: u32, value: ValueId) -> bool
 
 // Whether the condition of the block at a place is there, has 1 bit, and stands in the parent or above it.
 fn is_good_block(f: &Flat, place: usize) -> bool
-    requires low { HasLowParents f.now.blocks }
+    requires parents { HasLowParents f.now.blocks }
     requires within { place < length f.now.blocks }
     ensures { result ≡ is_good_block (program_of f.now) place }
 {
@@ -65,7 +65,7 @@ fn is_good_block(f: &Flat, place: usize) -> bool
 }
 
 fn has_good_blocks(f: &Flat) -> bool
-    requires low { HasLowParents f.now.blocks }
+    requires parents { HasLowParents f.now.blocks }
     ensures { result ≡ all_below (length f.now.blocks) (is_good_block (program_of f.now)) }
 {
     for place in 0..f.blocks.len() {
@@ -97,16 +97,16 @@ fn is_arm(blocks: &[Block], number: u32, side: Side) -> bool
 
 // Whether an instruction of a block may read a value.
 fn may_read(f: &Flat, i: usize, block: u32, value: ValueId) -> bool
-    requires low { HasLowParents f.now.blocks }
-    requires there { block ≤ length f.now.blocks }
+    requires parents { HasLowParents f.now.blocks }
+    requires block_in_range { block ≤ length f.now.blocks }
     ensures { result ≡ may_read (program_of f.now) i block value }
 {
     (value.instruction as usize) < i && is_named(f, value) && is_seen(f, block, value)
 }
 
 fn may_read_all(f: &Flat, i: usize, block: u32, values: &[ValueId]) -> bool
-    requires low { HasLowParents f.now.blocks }
-    requires there { block ≤ length f.now.blocks }
+    requires parents { HasLowParents f.now.blocks }
+    requires block_in_range { block ≤ length f.now.blocks }
     ensures { result ≡ list_all (may_read (program_of f.now) i block) values.now }
 {
     for value in values {
@@ -119,8 +119,8 @@ fn may_read_all(f: &Flat, i: usize, block: u32, values: &[ValueId]) -> bool
 
 // Whether a select may take a value as one of its sides.
 fn may_take(f: &Flat, i: usize, side: Side, value: ValueId) -> bool
-    requires low { HasLowParents f.now.blocks }
-    requires there { side.block ≤ length f.now.blocks }
+    requires parents { HasLowParents f.now.blocks }
+    requires block_in_range { side.block ≤ length f.now.blocks }
     ensures { result ≡ may_take (program_of f.now) i side.block side.cond side.polarity value }
 {
     (value.instruction as usize) < i
@@ -129,8 +129,8 @@ fn may_take(f: &Flat, i: usize, side: Side, value: ValueId) -> bool
 }
 
 fn reads_well(f: &Flat, i: usize, block: u32, kind: &InstrKind) -> bool
-    requires low { HasLowParents f.now.blocks }
-    requires there { block ≤ length f.now.blocks }
+    requires parents { HasLowParents f.now.blocks }
+    requires block_in_range { block ≤ length f.now.blocks }
     ensures { result ≡ reads_well (program_of f.now) i block (work_of kind.now) }
 {
     match kind {
@@ -169,8 +169,8 @@ fn reads_well(f: &Flat, i: usize, block: u32, kind: &InstrKind) -> bool
 
 // Whether the conditions of a block and of those above it stand before an instruction.
 fn are_before(blocks: &[Block], i: usize, block: u32) -> bool
-    requires low { HasLowParents blocks.now }
-    requires there { block ≤ length blocks.now }
+    requires parents { HasLowParents blocks.now }
+    requires block_in_range { block ≤ length blocks.now }
     ensures { result ≡ are_before blocks.now i block }
 {
     let mut number = block;
@@ -185,7 +185,7 @@ fn are_before(blocks: &[Block], i: usize, block: u32) -> bool
 }
 
 fn is_good_instr(f: &Flat, i: usize) -> bool
-    requires low { HasLowParents f.now.blocks }
+    requires parents { HasLowParents f.now.blocks }
     requires within { i < length f.now.code }
     ensures { result ≡ is_good_instr (program_of f.now) i }
 {
@@ -198,7 +198,7 @@ fn is_good_instr(f: &Flat, i: usize) -> bool
 }
 
 fn has_good_code(f: &Flat) -> bool
-    requires low { HasLowParents f.now.blocks }
+    requires parents { HasLowParents f.now.blocks }
     ensures { result ≡ all_below (length f.now.code) (is_good_instr (program_of f.now)) }
 {
     for i in 0..f.code.len() {

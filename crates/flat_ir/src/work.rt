@@ -63,7 +63,7 @@ pub fn look<L: Lookup, R: Numbers>(
 // The value of an operator.
 fn applied<R: Numbers>(numbers: &R, op: Op, width: Width, args: &[ValueId]) -> u64
     requires arity { length args.now ≡ (operator_row op).arity }
-    requires few { length args.now ≤ 8 }
+    requires few_args { length args.now ≤ 8 }
     ensures { result ≡ operator_value op width (map (R.reads numbers.now) args.now) }
 {
     match args {
@@ -244,8 +244,8 @@ fn write<R: Numbers>(f: &Flat, store: &mut Store, numbers: &R, kind: &InstrKind)
 
 // Whether an instruction is a put or a del in a block that is live. No other asks whether its block is live.
 fn is_live_write<R: Numbers>(f: &Flat, numbers: &R, instr: &Instr) -> bool
-    requires low { HasLowParents f.now.blocks }
-    requires there { instr.now.block ≤ length f.now.blocks }
+    requires parents { HasLowParents f.now.blocks }
+    requires block_in_range { instr.now.block ≤ length f.now.blocks }
     ensures { result
         ≡ (is_write (work_of instr.now.kind) && is_live f.now.blocks (R.reads numbers.now) instr.now.block) }
 {
@@ -256,8 +256,8 @@ fn is_live_write<R: Numbers>(f: &Flat, numbers: &R, instr: &Instr) -> bool
 // took effect.
 fn take_effect<R: Numbers>(f: &Flat, store: &mut Store, numbers: &R, instr: &Instr) -> bool
     requires fits { IsTrue (fits (program_of f.now) (work_of instr.now.kind)) }
-    requires low { HasLowParents f.now.blocks }
-    requires there { instr.now.block ≤ length f.now.blocks }
+    requires parents { HasLowParents f.now.blocks }
+    requires block_in_range { instr.now.block ≤ length f.now.blocks }
     ensures told { let reads = R.reads numbers.now in
         bit result ≡ length (made (is_live f.now.blocks reads instr.now.block)
         (change_of reads store.old (work_of instr.now.kind))) }
@@ -282,8 +282,8 @@ pub fn compute_number<R: Numbers>(
 ) -> u64
     requires number { is_look (work_of instr.now.kind) ≡ false }
     requires fits { IsTrue (fits (program_of f.now) (work_of instr.now.kind)) }
-    requires low { HasLowParents f.now.blocks }
-    requires there { instr.now.block ≤ length f.now.blocks }
+    requires parents { HasLowParents f.now.blocks }
+    requires block_in_range { instr.now.block ≤ length f.now.blocks }
     requires size { length arrival.now.bytes.now ≤ largest_packet }
     requires shape { arrival.now.shape ≡ shape_of arrival.now.bytes.now }
     ensures number { let reads = R.reads numbers.now in
@@ -310,8 +310,8 @@ pub fn compute<R: Numbers>(
     instr: &Instr,
 ) -> Results
     requires fits { IsTrue (fits (program_of f.now) (work_of instr.now.kind)) }
-    requires low { HasLowParents f.now.blocks }
-    requires there { instr.now.block ≤ length f.now.blocks }
+    requires parents { HasLowParents f.now.blocks }
+    requires block_in_range { instr.now.block ≤ length f.now.blocks }
     requires size { length arrival.now.bytes.now ≤ largest_packet }
     requires shape { arrival.now.shape ≡ shape_of arrival.now.bytes.now }
     ensures results { let reads = R.reads numbers.now in

@@ -40,10 +40,10 @@ use Rattle.flatten.proofs.Growth.{Grows, grows, then_grows, emit_grows, open_gro
 use Rattle.flatten.proofs.Meanings.{Run, val, lv, emit_reads, emit_still, open_live, nought_is, merge_id_means, merge_ids_means, merge_ended_means, Joined as JoinedRun, Valuable, Listable, valued_emit, operation_means, Doing, Sound, Carried, nothing_means, both_means, carried_sound, running_means, ended_means, follow_means, choose_means, bind_means, set_field_means, write_means, look_means, turn_means, send_means, drop_means}
 use Rattle.flatten.proofs.Views.{AllHave, all_map, have_at, have_set, have_scope, IsThere, there_set, Knows, known_at, there_scope}
 use Rattle.flatten.proofs.Writes.{put_tells, del_tells}
-use Rattle.flatten.proofs.Forming.{whole, IsPart, Ready, ready_more, Sided, sided_more, sided_of, IsFormed, low_of, Open, open_more, WorkFits, emit_formed, given_ready, open_formed, open_below, ready_below, sided_above, Constants, constants_ready, select_fits, Formed, merge_id_formed, merge_ids_formed, merge_ended_formed}
+use Rattle.flatten.proofs.FormedPieces.{whole, IsPart, Ready, ready_more, Sided, sided_more, sided_of, IsFormed, low_of, Open, open_more, WorkFits, emit_formed, given_ready, open_formed, open_below, ready_below, sided_above, Constants, constants_ready, select_fits, Formed, merge_id_formed, merge_ids_formed, merge_ended_formed}
 use Rattle.lemmas.proofs.Lists.{each_append}
 use Rattle.lemmas.proofs.Tests.{and_first, and_second}
-use Rattle.flatten.proofs.Keeping.{Keeps, keeps_refl, keeps_trans, keeps_bound, keeps_bound_to, knows_keeps, knows_bound, Leads, knows_after}
+use Rattle.flatten.proofs.ScopeKept.{Keeps, keeps_refl, keeps_trans, keeps_bound, keeps_bound_to, knows_keeps, knows_bound, Leads, knows_after}
 
 -- the widths of a declaration's values
 abbrev value_widths_of : Option ObjectDecl → List ℕ

@@ -24,7 +24,7 @@ use Rattle.flatten.proofs.Growth.{Grows, grows, then_grows, both_bits, emit_grow
 use Rattle.flatten.proofs.Meanings.{Run, val, store_at, emit_reads, emit_still, Carried}
 use Rattle.flatten.proofs.Views.{HasOption, AllHave, Agree, Meets, HasId, IsThere, have_none}
 use Rattle.flatten.proofs.Written.{counted, all_counted, same_itself}
-use Rattle.flatten.proofs.Forming.{whole, IsPart, WorkFits, option_later, Ready, IsFormed, Open, open_more, emit_formed, given_ready, in_root, constants_ready, low_of}
+use Rattle.flatten.proofs.FormedPieces.{whole, IsPart, WorkFits, option_later, Ready, IsFormed, Open, open_more, emit_formed, given_ready, in_root, constants_ready, low_of}
 use Rattle.flatten.proofs.Formed.{Ahead, Made, body_formed}
 use Rattle.lemmas.proofs.Tests.{and_first, and_second}
 

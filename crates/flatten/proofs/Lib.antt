@@ -5,12 +5,12 @@ pub mod Trees
 pub mod GoodSizes
 pub mod Branches
 pub mod Views
-pub mod Keeping
+pub mod ScopeKept
 pub mod Meanings
 pub mod Writes
 pub mod Written
 pub mod Whole
-pub mod Forming
+pub mod FormedPieces
 pub mod Formed
 pub mod FormedWhole
 mod Handed

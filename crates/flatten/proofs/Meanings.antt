@@ -36,7 +36,7 @@ use Rattle.flatten.specs.declared.place.Ending.{Ending}
 use Rattle.flatten.specs.declared.place.Ending.TheVariants.{No, Yes, Maybe}
 use Rattle.flatten.specs.declared.place.Place.{Place}
 use Rattle.flatten.specs.Flatten.{Emitted, View, At, Valued, Listed, Scoped, Merged, result_of, nought, one, nought_port, emit, give, opened, operation, same_id, merge_id, merge_option, merge_ids, merge_ended, ended_id, ends, bound, bound_to, assigned, finished, leave, constants}
-use Rattle.flatten.proofs.Forming.{whole, IsPart, step_emitted, block_opened}
+use Rattle.flatten.proofs.FormedPieces.{whole, IsPart, step_emitted, block_opened}
 use Rattle.flatten.proofs.Growth.{then_grows, emit_length, merge_ids_grow}
 use Rattle.flatten.proofs.Views.{Meets, AllHave, Agree, agree_set, have_scope}
 use Rattle.flatten.proofs.Written.{same_ids}
@@ -322,21 +322,21 @@ module _ (F : Program) (c : Run F) where
         pub out : val port ≡ by
         pub small : by < 2 ^ 8
 
-      abbrev pub Does : List (Option ValueId) → ValueId → ValueId → Verdict → Type 0
-      Does fields send port Drop = val send ≡ 0
-      Does fields send port (Send by now) = Leaves fields send port by now
+      abbrev pub EndsWith : List (Option ValueId) → ValueId → ValueId → Verdict → Type 0
+      EndsWith fields send port Drop = val send ≡ 0
+      EndsWith fields send port (Send by now) = Leaves fields send port by now
 
       -- the source's run has ended
       pub record Gone (st : Store) (w : View) (left : Store) (verdict : Verdict) : Type 0 where
         pub ended : val (ended_id w.ended) ≡ 1
-        pub does : Does w.fields w.send w.port verdict
+        pub does : EndsWith w.fields w.send w.port verdict
         pub store : st ≡ left
 
       abbrev pub Stands : Store → View → Outcome → Type 0
       Stands st w (Running s) = Going st w s
       Stands st w (Ended left verdict) = Gone st w left verdict
 
-      does_alike : (w w' : View) (verdict : Verdict) → Alike w w' → Does w.fields w.send w.port verdict → Does w'.fields w'.send w'.port verdict
+      does_alike : (w w' : View) (verdict : Verdict) → Alike w w' → EndsWith w.fields w.send w.port verdict → EndsWith w'.fields w'.send w'.port verdict
       does_alike w w' Drop e z = e.send 0 (lit< tt) z
       does_alike w w' (Send port bytes) e z = record {
         values = z.values;

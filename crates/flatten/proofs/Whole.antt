@@ -24,7 +24,7 @@ use Rattle.flatten.specs.Flatten.{arrived, start_view, end_of, flat_of, field_wi
 use Rattle.flatten.specs.Occurs.{is_in_body}
 use Rattle.packet_fields.specs.FieldOrder.{at_index, index-lt, length-all_fields}
 use Rattle.element_lang.specs.KeptRuns.{start_fits}
-use Rattle.flatten.proofs.Forming.{Ready}
+use Rattle.flatten.proofs.FormedPieces.{Ready}
 use Rattle.flatten.proofs.FormedWhole.{base, came, came_still, occurs, shown, made, means, well_formed}
 use Rattle.flatten.proofs.Meanings.{Run, val, store_at, nought_is, Going, Leaves, Stands}
 use Rattle.flatten.proofs.Views.{AllHave, Meets, Agree, HasId, IsThere, have_none}

@@ -49,7 +49,7 @@ with_locals xs w = record w { locals = xs }
 abbrev pub entry_locals : List Entry → List ℕ
 entry_locals = map (λ e. e.local)
 
--- These are in rising order and have the locals of both lists of entries.
+-- numbers in rising order, which have the locals of both lists of entries
 pub record AreAssigned (first second : List Entry) (xs : List ℕ) : Type 0 where
   pub rising : IsStrictlyIncreasing xs
   pub firsts : (x : ℕ) → Contains (entry_locals first) x → Contains xs x

@@ -154,7 +154,7 @@ fn last_state(
     requires good { IsTrue (is_good (tree m.now)) }
     requires arrived { scoped out.old came.now ≡ pure.arrived (tree m.now) }
     ensures told { IfOk result (λ w. placed out.new w ≡ pure.end_of (tree m.now)) }
-    ensures few { OnOk result (length out.new.code ≤ 4096) }
+    ensures bounded { OnOk result (length out.new.code ≤ 4096) }
     ensures large { IfErr result (λ error.
         error ≡ TooLarge → 4096 < length (pure.end_of (tree m.now)).given.code) }
 {
@@ -198,7 +198,7 @@ fn assembled(
 fn built(alloc: Global, m: &Middlebox) -> Result<Flat, FlatError>
     requires good { IsTrue (is_good (tree m.now)) }
     ensures program { IfOk result (λ f. program_of f ≡ pure.flat_of (tree m.now)) }
-    ensures few { IfOk result (λ f. length (program_of f).code ≤ 4096) }
+    ensures bounded { IfOk result (λ f. length (program_of f).code ≤ 4096) }
     ensures large { IfErr result (λ error.
         error ≡ TooLarge → 4096 < length (pure.flat_of (tree m.now)).code) }
 {
@@ -216,7 +216,7 @@ fn built(alloc: Global, m: &Middlebox) -> Result<Flat, FlatError>
 pub fn flatten(alloc: Global, m: &Middlebox) -> Result<Flat, FlatError>
     requires good { IsTrue (is_good (tree m.now)) }
     ensures program { IfOk result (λ f. program_of f ≡ pure.flat_of (tree m.now)) }
-    ensures few { IfOk result (λ f. length (program_of f).code ≤ 4096) }
+    ensures bounded { IfOk result (λ f. length (program_of f).code ≤ 4096) }
     ensures large { IfErr result (λ error.
         error ≡ TooLarge → 4096 < length (pure.flat_of (tree m.now)).code) }
     ensures meaning { IfOk result (λ f. MeansTheSame (program_of f) (tree m.now)) }

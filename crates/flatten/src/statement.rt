@@ -115,7 +115,7 @@ impl Output {
         w: &mut Tracked,
     ) -> Result<(), NoMemory>
         requires keys { AreSizedExprs frame.now.locals.items (expr_trees keys.now) }
-        requires few { length into.now ≤ 8 }
+        requires few_names { length into.now ≤ 8 }
         ensures told { OnOk result (placed self.new w.new.state
             ≡ pure.flat_stmt frame.now.locals.items (look found into.now object (expr_trees keys.now)) place self.old
             w.old.state) }

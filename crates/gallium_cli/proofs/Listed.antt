@@ -41,7 +41,7 @@ use Rattle.element_lang.specs.Surface.{Declared, Surface, unplaced_decl, named_a
 use Rattle.element_lang.specs.Token.{IsName}
 use Rattle.element_lang.specs.Tree.{Tree}
 use Rattle.element_text.specs.Names.{declared_name}
-use Rattle.element_text.proofs.Naming.{spelled_names}
+use Rattle.element_text.proofs.SpelledNames.{spelled_names}
 use Rattle.element_text.proofs.TokenNames.{tokens_named}
 use Rattle.report_text.specs.Form.{is_plain}
 use Rattle.gallium_cli.proofs.Declared.{name_plain}

@@ -61,7 +61,7 @@ fn made_parts(alloc: Global, f: &Flat, allowed: &Limits) -> Result<Split, NoMemo
     ensures chosen { IfOk result (λ split. IsChosen (program_of f.now) allowed.now false split) }
     ensures legal { IfOk result (λ split. IsLegal (program_of f.now) split) }
     ensures keeps { IfOk result (λ split. KeepsLimits (program_of f.now) split allowed.now) }
-    ensures low { IfOk result HasFewStages }
+    ensures few_stages { IfOk result HasFewStages }
 {
     match choose(alloc, f, allowed, false) {
         Ok(split) => Ok(split),

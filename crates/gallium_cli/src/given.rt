@@ -33,7 +33,7 @@ fn read(alloc: Global, f: &Flat, text: &[u8]) -> Result<Split, Refusal<'static>>
     requires { IsBounded (program_of f.now) }
     ensures ok { IfOk result (IsSplitText (length (program_of f.now).code) text.now) }
     ensures parts { IfOk result (λ split. length split ≡ length f.now.code) }
-    ensures few { IfOk result HasFewStages }
+    ensures few_stages { IfOk result HasFewStages }
     ensures err { (allowed : LimitsTold) → IfErr result (λ refusal.
         IsUnread refusal (legal_split (program_of f.now) allowed) text.now) }
 {
@@ -80,7 +80,7 @@ fn read_kept(
     requires { IsBounded (program_of f.now) }
     ensures ok { IfOk result (IsSplitText (length (program_of f.now).code) text.now) }
     ensures accepted { IfOk result (λ split. IsAccepted (program_of f.now) split allowed.now) }
-    ensures few { IfOk result HasFewStages }
+    ensures few_stages { IfOk result HasFewStages }
     ensures err { IfErr result (λ refusal.
         IsUnread refusal (legal_split (program_of f.now) allowed.now) text.now) }
 {
@@ -123,7 +123,7 @@ pub fn load_parts<'a, F: Files>(
     requires { IsBounded (program_of f.now) }
     ensures ok { IfOk result (λ split.
         IsGivenSplit (F.seen files.old).told name.now (program_of f.now) allowed.now split) }
-    ensures few { IfOk result HasFewStages }
+    ensures few_stages { IfOk result HasFewStages }
     ensures err { IfErr result (λ refusal. IsFileRefused refusal (legal_split (program_of f.now) allowed.now) name.now
         (F.seen files.old) (F.seen files.new)) }
     ensures stays { OnOk result (LeavesFiles Status.Done (F.seen files.old) (F.seen files.new)) }

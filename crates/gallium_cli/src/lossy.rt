@@ -75,6 +75,7 @@ fn replayed<S: SwitchPort>(
         (given (tree split_middlebox.program.middlebox) split_middlebox.split split_middlebox.writeback packets false)
         (S.seen port.old) (S.seen port.new)) }
 {
+    // The list tells the proof that each of its packets may arrive.
     let _ = packets.as_slice();
     let SplitMiddlebox {
         program,

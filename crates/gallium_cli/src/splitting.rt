@@ -68,7 +68,7 @@ pub fn choose(
     ensures chosen { IfOk result (λ split. IsChosen (program_of f.now) allowed.now shrink split) }
     ensures legal { IfOk result (λ split. IsLegal (program_of f.now) split) }
     ensures keeps { IfOk result (λ split. KeepsLimits (program_of f.now) split allowed.now) }
-    ensures low { IfOk result HasFewStages }
+    ensures few_stages { IfOk result HasFewStages }
     ensures err { IfErr result (λ refusal. IsUnchosen refusal (program_of f.now) allowed.now shrink) }
 {
     match partition(alloc, f, allowed, shrink) {

@@ -1,5 +1,5 @@
 //! The words of a command.
-ghost use Rattle.std.specs.Prelude.{◌≡◌, Some, None, MatchOption, map, string_bytes};
+ghost use Rattle.std.specs.Prelude.{◌≡◌, [], ◌∷◌, Some, None, MatchOption, map, string_bytes};
 ghost use Rattle.gallium_cli.specs.Words.{request_of, asked_by, pcap_in, pcap_out};
 ghost use Rattle.gallium_cli.specs.Words.{count_of, made_by, port_of, order_of, unit_of};
 
@@ -124,108 +124,163 @@ fn made_by<'a>(seed: &str, count: &str) -> Option<Form<'a>>
     Some(Form::Gen(seed, count))
 }
 
+// The form of a command of two words, if it has one.
+fn form_of_two<'a>(word: &str, wiring: &'a str) -> Option<Form<'a>>
+    ensures { MatchOption result (request_of (word.now ∷ wiring.now ∷ []) ≡ None)
+        (λ form. request_of (word.now ∷ wiring.now ∷ []) ≡ Some (asked_by form)) }
+{
+    if word == "chain" {
+        return Some(Form::Chain(wiring));
+    }
+    None
+}
+
+// The same of three words.
+fn form_of_three<'a>(word: &str, source: &'a str, second: &'a str) -> Option<Form<'a>>
+    ensures { MatchOption result (request_of (word.now ∷ source.now ∷ second.now ∷ []) ≡ None)
+        (λ form. request_of (word.now ∷ source.now ∷ second.now ∷ []) ≡ Some (asked_by form)) }
+{
+    if word == "run" {
+        return Some(Form::Run(source, second));
+    }
+    if word == "compile" {
+        return Some(Form::Compile(source, second, false));
+    }
+    if word == "gen" {
+        return made_by(source, second);
+    }
+    None
+}
+
+// The same of four words.
+fn form_of_four<'a>(
+    word: &str,
+    source: &'a str,
+    second: &'a str,
+    third: &'a str,
+) -> Option<Form<'a>>
+    ensures { MatchOption result (request_of (word.now ∷ source.now ∷ second.now ∷ third.now ∷ []) ≡ None)
+        (λ form. request_of (word.now ∷ source.now ∷ second.now ∷ third.now ∷ []) ≡ Some (asked_by form)) }
+{
+    if word == "pcap" {
+        return pcap_in(source, second, third);
+    }
+    if word == "replay" {
+        return Some(Form::Replay(source, second, third, SplitForm::ServerAlone));
+    }
+    if word == "check" {
+        return Some(Form::Check(source, second, third));
+    }
+    if word == "audit" {
+        return Some(Form::Audit(source, second, third));
+    }
+    if word == "compile" && third == "shrink" {
+        return Some(Form::Compile(source, second, true));
+    }
+    None
+}
+
+// The same of five words.
+fn form_of_five<'a>(
+    word: &str,
+    source: &'a str,
+    trace: &'a str,
+    schedule: &'a str,
+    limits: &'a str,
+) -> Option<Form<'a>>
+    ensures { MatchOption result (request_of (word.now ∷ source.now ∷ trace.now ∷ schedule.now ∷ limits.now ∷ []) ≡ None)
+        (λ form. request_of (word.now ∷ source.now ∷ trace.now ∷ schedule.now ∷ limits.now ∷ []) ≡ Some (asked_by form)) }
+{
+    if word == "pcap" {
+        return pcap_out(source, trace, schedule, limits);
+    }
+    if word == "replay" {
+        let within = SplitForm::Within(limits, false);
+        return Some(Form::Replay(source, trace, schedule, within));
+    }
+    if word == "lossy" {
+        return Some(Form::Lossy(source, trace, schedule, limits));
+    }
+    None
+}
+
+// The same of six words.
+fn form_of_six<'a>(
+    word: &str,
+    source: &'a str,
+    trace: &'a str,
+    schedule: &'a str,
+    limits: &'a str,
+    last: &str,
+) -> Option<Form<'a>>
+    ensures { MatchOption result (request_of (word.now ∷ source.now ∷ trace.now ∷ schedule.now ∷ limits.now ∷ last.now ∷ []) ≡ None)
+        (λ form. request_of (word.now ∷ source.now ∷ trace.now ∷ schedule.now ∷ limits.now ∷ last.now ∷ []) ≡ Some (asked_by form)) }
+{
+    if word == "replay" && last == "shrink" {
+        let within = SplitForm::Within(limits, true);
+        return Some(Form::Replay(source, trace, schedule, within));
+    }
+    None
+}
+
+// The same of seven words.
+fn form_of_seven<'a>(
+    word: &str,
+    source: &'a str,
+    trace: &'a str,
+    schedule: &'a str,
+    limits: &'a str,
+    by: &str,
+    split: &'a str,
+) -> Option<Form<'a>>
+    ensures { MatchOption result (request_of (word.now ∷ source.now ∷ trace.now ∷ schedule.now ∷ limits.now ∷ by.now ∷ split.now ∷ []) ≡ None)
+        (λ form. request_of (word.now ∷ source.now ∷ trace.now ∷ schedule.now ∷ limits.now ∷ by.now ∷ split.now ∷ []) ≡ Some (asked_by form)) }
+{
+    if word == "replay" && by == "split" {
+        let spelled = SplitForm::Spelled(limits, split);
+        return Some(Form::Replay(source, trace, schedule, spelled));
+    }
+    None
+}
+
 /// The form of the words after the program's name, if they have one.
 pub fn form_of<'a>(words: &'a [String]) -> Option<Form<'a>>
     ensures { MatchOption result (request_of (map string_bytes words.now) ≡ None)
         (λ form. request_of (map string_bytes words.now) ≡ Some (asked_by form)) }
 {
     match words {
-        [word, wiring] => {
-            if word.as_str() == "chain" {
-                return Some(Form::Chain(wiring.as_str()));
-            }
-            None
-        }
-        [word, source, second] => {
-            if word.as_str() == "run" {
-                return Some(Form::Run(source.as_str(), second.as_str()));
-            }
-            if word.as_str() == "compile" {
-                return Some(Form::Compile(source.as_str(), second.as_str(), false));
-            }
-            if word.as_str() == "gen" {
-                return made_by(source.as_str(), second.as_str());
-            }
-            None
-        }
-        [word, source, second, third] => {
-            if word.as_str() == "pcap" {
-                return pcap_in(source.as_str(), second.as_str(), third.as_str());
-            }
-            if word.as_str() == "replay" {
-                return Some(Form::Replay(
-                    source.as_str(),
-                    second.as_str(),
-                    third.as_str(),
-                    SplitForm::ServerAlone,
-                ));
-            }
-            if word.as_str() == "check" {
-                return Some(Form::Check(source.as_str(), second.as_str(), third.as_str()));
-            }
-            if word.as_str() == "audit" {
-                return Some(Form::Audit(source.as_str(), second.as_str(), third.as_str()));
-            }
-            if word.as_str() == "compile" {
-                if third.as_str() == "shrink" {
-                    return Some(Form::Compile(source.as_str(), second.as_str(), true));
-                }
-            }
-            None
-        }
-        [word, source, trace, schedule, limits] => {
-            if word.as_str() == "pcap" {
-                return pcap_out(
-                    source.as_str(),
-                    trace.as_str(),
-                    schedule.as_str(),
-                    limits.as_str(),
-                );
-            }
-            if word.as_str() == "replay" {
-                return Some(Form::Replay(
-                    source.as_str(),
-                    trace.as_str(),
-                    schedule.as_str(),
-                    SplitForm::Within(limits.as_str(), false),
-                ));
-            }
-            if word.as_str() == "lossy" {
-                return Some(Form::Lossy(
-                    source.as_str(),
-                    trace.as_str(),
-                    schedule.as_str(),
-                    limits.as_str(),
-                ));
-            }
-            None
-        }
-        [word, source, trace, schedule, limits, last] => {
-            if word.as_str() == "replay" {
-                if last.as_str() == "shrink" {
-                    return Some(Form::Replay(
-                        source.as_str(),
-                        trace.as_str(),
-                        schedule.as_str(),
-                        SplitForm::Within(limits.as_str(), true),
-                    ));
-                }
-            }
-            None
-        }
-        [word, source, trace, schedule, limits, by, split] => {
-            if word.as_str() == "replay" {
-                if by.as_str() == "split" {
-                    return Some(Form::Replay(
-                        source.as_str(),
-                        trace.as_str(),
-                        schedule.as_str(),
-                        SplitForm::Spelled(limits.as_str(), split.as_str()),
-                    ));
-                }
-            }
-            None
-        }
+        [word, wiring] => form_of_two(word.as_str(), wiring.as_str()),
+        [word, source, second] => form_of_three(word.as_str(), source.as_str(), second.as_str()),
+        [word, source, second, third] => form_of_four(
+            word.as_str(),
+            source.as_str(),
+            second.as_str(),
+            third.as_str(),
+        ),
+        [word, source, trace, schedule, limits] => form_of_five(
+            word.as_str(),
+            source.as_str(),
+            trace.as_str(),
+            schedule.as_str(),
+            limits.as_str(),
+        ),
+        [word, source, trace, schedule, limits, last] => form_of_six(
+            word.as_str(),
+            source.as_str(),
+            trace.as_str(),
+            schedule.as_str(),
+            limits.as_str(),
+            last.as_str(),
+        ),
+        [word, source, trace, schedule, limits, by, split] => form_of_seven(
+            word.as_str(),
+            source.as_str(),
+            trace.as_str(),
+            schedule.as_str(),
+            limits.as_str(),
+            by.as_str(),
+            split.as_str(),
+        ),
         _ => None,
     }
 }

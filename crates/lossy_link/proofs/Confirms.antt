@@ -11,7 +11,7 @@ use Rattle.lossy_link.specs.Marks.{numbers_set, set_below}
 use Rattle.lossy_link.specs.Sender.{Sender, answer_to, first_sender, given, unknown, with_known}
 use Rattle.lossy_link.specs.Unknown.{AreRising, known_beside, sender_with}
 use Rattle.lossy_link.proofs.Counts.{numbers_apart, numbers_at, numbers_cleared, numbers_pushed, numbers_rise}
-use Rattle.lossy_link.proofs.Rising.{known_again, known_first, known_given, known_removed, unknown_are}
+use Rattle.lossy_link.proofs.KnownNumbers.{known_again, known_first, known_given, known_removed, unknown_are}
 use Rattle.std.proofs.lemmas.Option.{slice_get_within, get_or_from_slice_get}
 
 abbrev pub sender_by : List (List ℕ) → List Bool → Sender

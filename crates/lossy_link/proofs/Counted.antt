@@ -7,7 +7,7 @@ use Rattle.std.specs.Ordering.{nat_cmp}
 use Rattle.std.proofs.lemmas.Bool.{cond-false}
 use Rattle.lossy_link.specs.Link.{is_among}
 use Rattle.lossy_link.specs.Unknown.{AreRising, known_beside, sender_with}
-use Rattle.lossy_link.proofs.Rising.{moved, rising_apart, rising_filter, rising_lower}
+use Rattle.lossy_link.proofs.KnownNumbers.{moved, rising_apart, rising_filter, rising_lower}
 use Rattle.std.proofs.lemmas.List.FromFn.{length-range_with_len}
 use Rattle.std.proofs.lemmas.List.Filters.{length-filter_both}
 

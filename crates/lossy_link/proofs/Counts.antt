@@ -7,7 +7,7 @@ use Rattle.std.proofs.lemmas.List.{get_or-set_other, get_or-set_same, get_or_app
 use Rattle.lossy_link.specs.Link.{is_among}
 use Rattle.lossy_link.specs.Marks.{AreCounts, AreLowered, IsCountBehind, IsCounted, IsFound, IsOneLess, IsOneMore, numbers_set, set_below, span_of}
 use Rattle.lossy_link.specs.Unknown.{AreRising}
-use Rattle.lossy_link.proofs.Rising.{rising_apart, rising_lower}
+use Rattle.lossy_link.proofs.KnownNumbers.{rising_apart, rising_lower}
 
 -- ---- spans
 

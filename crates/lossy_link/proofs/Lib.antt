@@ -5,6 +5,6 @@ pub mod Counts
 pub mod Faithful
 pub mod Kept
 pub mod Performed
-pub mod Rising
+pub mod KnownNumbers
 pub mod Spelled
 pub mod Laws

@@ -53,7 +53,7 @@ impl Numbers {
 
     /// One number more, with which there are `count`.
     pub(crate) fn add(&mut self, number: u32, count: usize) -> Result<(), NoMemory>
-        requires few { length self.old.marks.items ≤ 16 * count }
+        requires few_marks { length self.old.marks.items ≤ 16 * count }
         ensures ok { OnOk result (HasOneMore self.old self.new number count) }
         ensures err { OnErr result (HaveStayed self.old self.new) }
     {

@@ -2,33 +2,14 @@
 use Rattle.std.proofs.Common.{◌≡◌, ℕ, zero, suc, Bool, true, false, not, ◌&&◌, ◌||◌, cond, List, [], ◌∷◌, ◌++◌, refl, sym, ap, ◌∙◌, subst, Some, true≢false}
 use Rattle.std.specs.Prelude.{◌==◌, slice_get}
 use Rattle.std.specs.List.{filter, remove}
-use Rattle.std.proofs.lemmas.Bool.{and_right, cond-false, cond-true, eq-eqb, eqb-true, ne_eqb, or_left, or_parts, or_right}
+use Rattle.std.proofs.lemmas.Bool.{cond-false, cond-true, eq-eqb, ne_eqb, or_parts}
 use Rattle.lossy_link.specs.Link.{is_among}
 use Rattle.lossy_replay.specs.Linked.{without}
-use Rattle.lossy_link.proofs.Among.{among_push}
+use Rattle.std.proofs.lemmas.Option.{get_or_from_slice_get, slice_get_within}
+use Rattle.lossy_link.proofs.Among.{among_at, among_filter, among_push}
 
 pub among_there : (xs : List ℕ) (j n : ℕ) → slice_get xs j ≡ Some n → is_among xs n ≡ true
-among_there [] j n is = absurd cc
-among_there (x ∷ xs) zero n is = let same : x ≡ n = cc in or_left (x == n) (is_among xs n) (eq-eqb x n same)
-among_there (x ∷ xs) (suc j) n is = or_right (x == n) (is_among xs n) (among_there xs j n is)
-
-kept_case : (keeps passes here there kept : Bool) → (here ≡ true → keeps ≡ passes) → kept ≡ (there && passes)
-    → cond keeps (here || kept) kept ≡ ((here || there) && passes)
-kept_case true passes true there kept same is = same refl
-kept_case false true true there kept same is = absurd (true≢false (sym (same refl)))
-kept_case false false true there kept same is = is ∙ and_right there false refl
-kept_case true passes false there kept same is = is
-kept_case false passes false there kept same is = is
-
--- what a test keeps is what stands there and passes it
-pub among_filter : (p : ℕ → Bool) (xs : List ℕ) (n : ℕ) → is_among (filter p xs) n ≡ (is_among xs n && p n)
-among_filter p [] n = refl
-among_filter p (x ∷ xs) n =
-    elim (p x) as (λ b. is_among (cond b (x ∷ filter p xs) (filter p xs)) n ≡ cond b ((x == n) || is_among (filter p xs) n) (is_among (filter p xs) n)) [
-      | true ↦ refl
-      | false ↦ refl
-    ]
-    ∙ kept_case (p x) (p n) (x == n) (is_among xs n) (is_among (filter p xs) n) (λ here. ap p (eqb-true x n here)) (among_filter p xs n)
+among_there xs j n is = among_at xs j n (slice_get_within xs j n is) (get_or_from_slice_get xs j n 0 is)
 
 -- no number stands twice
 abbrev pub AreApart : List ℕ → Type 0

@@ -61,14 +61,13 @@ work_of line l sender receiver sent back faithful few =
 -- ---- one more item
 
 pub after_give : (line new : Line) (item : List ℕ) → IsAtWork line → length line.sender.items < 2 ^ 32 - 1
-    → new ≡ record line { sender = new.sender } → new.sender ≡ given line.sender item → IsWorkOf new (link_step (link_of line) (give item))
-after_give line new item w few is sender =
+    → new.sender ≡ given line.sender item → IsWorkOf (record line { sender = new.sender }) (link_step (link_of line) (give item))
+after_give line new item w few sender =
     let l = link_of line in
     let short : length (l.items ++ item ∷ []) < 2 ^ 32 = omega (arith, few, length_push l.items item) in
     let one = one_step_more l (give item) w.faithful short in
-    subst (λ (m : Line). IsWorkOf m (link_step l (give item))) (sym is)
-    (work_of (record line { sender = new.sender }) (link_step l (give item)) sender (w.receiver ∙ ap (λ (e : Ends). e.receiver) one.ends) refl refl
-    one.faithful short)
+    work_of (record line { sender = new.sender }) (link_step l (give item)) sender (w.receiver ∙ ap (λ (e : Ends). e.receiver) one.ends) refl refl
+    one.faithful short
 
 -- ---- a datagram is sent
 
@@ -76,15 +75,15 @@ after_give line new item w few is sender =
 abbrev pub unknown_is : Line → ℕ → ℕ → Type 0
 unknown_is line j n = slice_get (unknown line.sender.items line.sender.known) j ≡ Some n
 
-pub after_transmit : (line new : Line) (j n : ℕ) → IsAtWork line → unknown_is line j n → new ≡ record line { sent = new.sent }
-    → new.sent.items ≡ line.sent.items ++ n ∷ [] → IsWorkOf new (link_step (link_of line) (send j))
-after_transmit line new j n w is new_is sent =
+pub after_transmit : (line new : Line) (j n : ℕ) → IsAtWork line → unknown_is line j n
+    → new.sent.items ≡ line.sent.items ++ n ∷ [] → IsWorkOf (record line { sent = new.sent }) (link_step (link_of line) (send j))
+after_transmit line new j n w is sent =
     let l = link_of line in
     let step : link_step l (send j) ≡ with_sent l (Some n) = ap (with_sent l) is in
     let short : length (link_step l (send j)).items < 2 ^ 32 = subst (λ (m : Link). length m.items < 2 ^ 32) (sym step) w.few in
     let one = one_step_more l (send j) w.faithful short in
-    subst (λ (m : Line). IsWorkOf m (link_step l (send j))) (sym new_is) (subst (IsWorkOf (record line { sent = new.sent })) (sym step)
-    (work_of (record line { sent = new.sent }) (with_sent l (Some n)) refl w.receiver sent refl (subst IsFaithful step one.faithful) w.few))
+    subst (IsWorkOf (record line { sent = new.sent })) (sym step)
+    (work_of (record line { sent = new.sent }) (with_sent l (Some n)) refl w.receiver sent refl (subst IsFaithful step one.faithful) w.few)
 
 -- ---- a datagram arrives
 
@@ -143,11 +142,13 @@ pub record HasArrived (line new : Line) (j n : ℕ) (took : Took) : Type 0 where
   pub work : IsWorkOf new (link_step (link_of line) (arrive j))
   pub delivered : delivered_by (link_of line) (link_of new) ≡ delivered_in took n
 
-pub after_deliver : (line new : Line) (j n : ℕ) (took : Took) (bytes : List ℕ) → IsAtWork line
-    → slice_get line.sent.items j ≡ Some n → bytes ≡ datagram_of line.sender n → took ≡ take_answer line.receiver bytes
-    → new ≡ record line { receiver = new.receiver; back = new.back } → new.receiver ≡ after_take line.receiver bytes
-    → new.back.items ≡ line.back.items ++ told_back took n → HasArrived line new j n took
-after_deliver line new j n took bytes w is made answer new_is receiver back =
+pub after_deliver : (line new : Line) (j n : ℕ) (took : Took) (sent bytes : List ℕ) → IsAtWork line
+    → sent ≡ line.sent.items → true ≡ nat_lt j (length sent) → n ≡ get_or sent j n
+    → bytes ≡ datagram_of line.sender n → took ≡ take_answer line.receiver bytes → new.receiver ≡ after_take line.receiver bytes
+    → new.back.items ≡ line.back.items ++ told_back took n
+    → HasArrived line (record line { receiver = new.receiver; back = new.back }) j n took
+after_deliver line new j n took sent bytes w same there at made answer receiver back =
+    let is = read_at line.sent.items sent j n same there at in
     let l = link_of line in
     let e = ends_of l in
     let l' = with_arrived l (Some n) in
@@ -165,14 +166,13 @@ after_deliver line new j n took bytes w is made answer new_is receiver back =
     let confirmed : map number_bytes l.back ++ confirmations_of took ≡ map number_bytes (back_after l n) =
     ap (λ (t : Took). map number_bytes l.back ++ confirmations_of t) told ∙ ap (λ (x : Ends). x.confirmations) ends in
     let behind : new.back.items ≡ l'.back = back ∙ back_of l.back n (is_among (got_after l n) n) took confirmed in
-    let work = subst (λ (m : Line). IsWorkOf m l') (sym new_is) (work_of (record line { receiver = new.receiver; back = new.back }) l' refl
-    (receiver ∙ taken) refl behind (subst IsFaithful step one.faithful) w.few) in
-    let pairs : length line.receiver.pairs ≡ length l.got = sym (length-map line.receiver.pairs (λ (p : Delivered). p.number)) in
+    let later : Line = record line { receiver = new.receiver; back = new.back } in
+    let work = work_of later l' refl (receiver ∙ taken) refl behind (subst IsFaithful step one.faithful) w.few in
     let grown : length (with_item (receiver_of l) (item_in sends) took).pairs ≡ length l'.got =
     ap (λ (t : Took). length (with_item (receiver_of l) (item_in sends) t).pairs) told
     ∙ (ap (λ (x : Ends). length x.receiver.pairs) ends ∙ length-map l'.got (pair_of l'.items)) in
     record {
-      work = subst (IsWorkOf new) (sym step) work;
+      work = subst (IsWorkOf later) (sym step) work;
       delivered = ap (λ (m : Link). slice_get m.got (length l.got)) work.link
           ∙ got_of l.got n (is_due l n) took (receiver_of l) (item_in sends) (length-map l.got (pair_of l.items)) grown;
     }
@@ -184,9 +184,9 @@ unfolding number_bytes
 number_told n = refl
 
 pub after_known : (line new : Line) (j n : ℕ) → IsAtWork line → slice_get line.back.items j ≡ Some n
-    → new ≡ record line { sender = new.sender } → new.sender ≡ after_confirm line.sender (number_bytes n)
-    → IsWorkOf new (link_step (link_of line) (confirm j))
-after_known line new j n w is new_is sender =
+    → new.sender ≡ after_confirm line.sender (number_bytes n)
+    → IsWorkOf (record line { sender = new.sender }) (link_step (link_of line) (confirm j))
+after_known line new j n w is sender =
     let l = link_of line in
     let e = ends_of l in
     let l' = with_confirmed l (Some n) in
@@ -197,6 +197,6 @@ after_known line new j n w is new_is sender =
     slice_get-map number_bytes l.back j ∙ ap (option_map number_bytes) is in
     let ends : ends_confirmed e (Some (number_bytes n)) ≡ ends_of l' =
     sym (ap (ends_confirmed e) found) ∙ (one.ends ∙ ap ends_of step) in
-    subst (λ (m : Line). IsWorkOf m (link_step l (confirm j))) (sym new_is) (subst (IsWorkOf (record line { sender = new.sender })) (sym step)
+    subst (IsWorkOf (record line { sender = new.sender })) (sym step)
     (work_of (record line { sender = new.sender }) l' (sender ∙ ap (λ (x : Ends). x.sender) ends) (w.receiver ∙ ap (λ (x : Ends). x.receiver) ends)
-    refl refl (subst IsFaithful step one.faithful) w.few))
+    refl refl (subst IsFaithful step one.faithful) w.few)

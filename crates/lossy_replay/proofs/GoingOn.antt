@@ -1,12 +1,9 @@
 -- A replay over links goes on by one event.
 use Rattle.std.proofs.Common.{◌≡◌, ◌⊎◌, ◌≤◌, ◌+◌, ℕ, List, [], ◌∷◌, ◌++◌, length, refl, sym, ap, ◌∙◌, subst, Some, arith, append-nil, append_assoc, inl, inr}
-use Rattle.std.specs.Prelude.{slice_get}
 use Rattle.std.proofs.lemmas.List.{length_push}
-use Rattle.lossy_link.specs.Link.{Link, arrive, confirm, link_step, send}
-use Rattle.lossy_link.specs.Sender.{unknown}
+use Rattle.lossy_link.specs.Link.{Link}
 use Rattle.run_model.specs.declared.event.Event.{Event}
 use Rattle.run_model.specs.declared.link_event.Link.{Link as LinkName}
-use Rattle.run_model.specs.declared.link_event.Link.TheVariants as names
 use Rattle.run_model.specs.declared.link_event.LinkEvent.{LinkEvent}
 use Rattle.switch_ir.specs.Port.{PortState}
 use Rattle.switch_ir.specs.Tables.{Told}
@@ -18,42 +15,52 @@ use Rattle.replay_contracts.specs.Replay.{IsReplay}
 use Rattle.replay_course.specs.declared.course.Course.{Course}
 use Rattle.lossy_replay.specs.Linked.{World, Linked, at_link, first_linked, linked_step}
 use Rattle.lossy_replay.specs.Linking.{AreLinks, ArePlaced, HasFew, IsLinking, StayPlaced}
-use Rattle.lossy_replay.specs.Replay.{HasItems, linked_by, world_by, world_of}
+use Rattle.lossy_replay.specs.Replay.{HasItems, frames_down, linked_by, world_by, world_of}
 use Rattle.lossy_replay.specs.declared.line.Line.{Line}
+use Rattle.lossy_replay.specs.Ways.{IsWay}
 use Rattle.lossy_replay.specs.declared.links.Links.{Links}
-use Rattle.lossy_replay.proofs.Giving.{one_event_more}
-use Rattle.lossy_replay.proofs.Placed.{placed_still}
-use Rattle.lossy_link.proofs.Faithful.{arrived_items, confirmed_items, sent_items}
+use Rattle.lossy_replay.specs.declared.way.Way.{Way}
+use Rattle.lossy_replay.proofs.CourseItems.{one_event_more}
+use Rattle.lossy_replay.proofs.Placed.{keeps_given, placed_still}
 
-pub few_more : (n : ℕ) (line : Line) → HasFew n line → HasFew (n + 1) line
-few_more n line few = record { items = omega (arith, few.items); sent = omega (arith, few.sent); got = omega (arith, few.got) }
+pub few_more : (n m : ℕ) (line : Line) → n ≤ m → HasFew n line → HasFew m line
+few_more n m line more few = record { items = omega (arith, few.items); sent = omega (arith, few.sent); got = omega (arith, few.got) }
+
+-- the links of frames may be others, those of commands and acknowledgements stay
+pub ways_on : (n m : ℕ) (l new : Linked) (links : Links) (up down : Way) → AreLinks n l links → n ≤ m → new.ctl ≡ l.ctl → new.ack ≡ l.ack
+    → IsWay new.up new.ran up → IsWay new.down new.taken down → HasFew m up.line → HasFew m down.line
+    → AreLinks m new (record links { up = up; down = down })
+ways_on n m l new links up down are more ctl ack is_up is_down few_up few_down = record {
+  up = is_up;
+  down = is_down;
+  ctl = are.ctl;
+  ctl_is = are.ctl_is ∙ sym ctl;
+  ack = are.ack;
+  ack_is = are.ack_is ∙ sym ack;
+  few_up = few_up;
+  few_down = few_down;
+  few_ctl = few_more n m links.ctl more are.few_ctl;
+  few_ack = few_more n m links.ack more are.few_ack;
+}
 
 -- links that stay as they are
 pub links_stay : (n : ℕ) (l : Linked) (links : Links) → AreLinks n l links → AreLinks (n + 1) l links
-links_stay n l links are = record {
-  up = are.up;
-  down = are.down;
-  ctl = are.ctl;
-  ctl_is = are.ctl_is;
-  ack = are.ack;
-  ack_is = are.ack_is;
-  few_up = few_more n links.up.line are.few_up;
-  few_down = few_more n links.down.line are.few_down;
-  few_ctl = few_more n links.ctl are.few_ctl;
-  few_ack = few_more n links.ack are.few_ack;
-}
+links_stay n l links are =
+    ways_on n (n + 1) l l links links.up links.down are (omega arith) refl refl are.up are.down
+    (few_more n (n + 1) links.up.line (omega arith) are.few_up) (few_more n (n + 1) links.down.line (omega arith) are.few_down)
 
 -- ---- each event of a schedule
 
-none_behind : {X : Type 0} (xs ys : List X) → [] ≡ xs ++ ys → ys ≡ []
-none_behind [] ys is = sym is
-none_behind (x ∷ xs) ys is = absurd cc
+-- both parts of nothing are nothing
+pub no_parts : {X : Type 0} (xs ys : List X) → [] ≡ xs ++ ys → (xs ≡ []) × (ys ≡ [])
+no_parts [] ys is = (refl, sym is)
+no_parts (x ∷ xs) ys is = absurd cc
 
 -- what stands before the last event, or all
 last_or : {X : Type 0} (schedule before behind : List X) (event : X) → schedule ++ event ∷ [] ≡ before ++ behind
     → (behind ≡ []) ⊎ ((rest : List X) × (schedule ≡ before ++ rest))
 last_or [] [] behind event is = inr ([], refl)
-last_or [] (b ∷ before) behind event is = let rest : [] ≡ before ++ behind = cc in inl (none_behind before behind rest)
+last_or [] (b ∷ before) behind event is = let rest : [] ≡ before ++ behind = cc in inl (no_parts before behind rest).1
 last_or (s ∷ schedule) [] behind event is = inr (s ∷ schedule, refl)
 last_or (s ∷ schedule) (b ∷ before) behind event is =
     let first : s ≡ b = cc in
@@ -130,39 +137,17 @@ stays_in_world x schedule event links next c port linking l' steps events items 
 
 -- ---- an event of a link
 
-pub send_items : (l : Link) (j : ℕ) → (link_step l (send j)).items ≡ l.items
-send_items l j = sent_items l (slice_get (unknown l.items l.known) j)
-
-pub arrive_items : (l : Link) (j : ℕ) → (link_step l (arrive j)).items ≡ l.items
-arrive_items l j = arrived_items l (slice_get l.sent j)
-
-pub confirm_items : (l : Link) (j : ℕ) → (link_step l (confirm j)).items ≡ l.items
-confirm_items l j = confirmed_items l (slice_get l.back j)
-
--- a change of one link that leaves its items
-items_stay : (change : Link → Link) → ((l : Link) → (change l).items ≡ l.items) → (x : Inputs) (l : Linked) (name : LinkName)
-    (calls : List Call) (st : State) → HasItems x l calls st → HasItems x (at_link change l name) calls st
-items_stay change stays x l names.Up calls st items =
-    record { up = stays l.up ∙ items.up; down = items.down; ctl = items.ctl; ack = items.ack }
-items_stay change stays x l names.Down calls st items =
-    record { up = items.up; down = stays l.down ∙ items.down; ctl = items.ctl; ack = items.ack }
-items_stay change stays x l names.Ctl calls st items =
-    record { up = items.up; down = items.down; ctl = stays l.ctl ∙ items.ctl; ack = items.ack }
-items_stay change stays x l names.Ack calls st items =
-    record { up = items.up; down = items.down; ctl = items.ctl; ack = stays l.ack ∙ items.ack }
-
-events_stay : (change : Link → Link) (l : Linked) (name : LinkName) → (at_link change l name).events ≡ l.events
-events_stay change l names.Up = refl
-events_stay change l names.Down = refl
-events_stay change l names.Ctl = refl
-events_stay change l names.Ack = refl
-
 -- a change of one link that leaves its items
 pub link_on : (change : Link → Link) → ((l : Link) → (change l).items ≡ l.items) → (x : Inputs) (schedule : List LinkEvent) (event : LinkEvent)
     (name : LinkName) (links next : Links) (c : Course) (port : PortState) (linking : IsLinking x schedule links c port)
     → ((w : World) → linked_step (setup_for x) w linking.linked event ≡ at_link change linking.linked name)
     → AreLinks (length schedule + 1) (at_link change linking.linked name) next → IsLinking x (schedule ++ event ∷ []) next c port
 link_on change stays x schedule event name links next c port linking steps are =
-    stays_in_world x schedule event links next c port linking (at_link change linking.linked name) (λ w at. steps w)
-    (events_stay change linking.linked name) (items_stay change stays x linking.linked name linking.calls linking.st linking.items) are
-    (λ w. placed_still change stays w linking.linked name (length schedule + 1) next are)
+    let l = linking.linked in
+    let l' = at_link change l name in
+    let k = keeps_given change stays l name in
+    let items = linking.items in
+    let sent_down = k.down ∙ (items.down ∙ ap (λ (es : List Event). frames_down x linking.calls es) (sym k.events)) in
+    stays_in_world x schedule event links next c port linking l' (λ w at. steps w) k.events
+    (record { up = k.up ∙ items.up; down = sent_down; ctl = k.ctl ∙ items.ctl; ack = k.ack ∙ items.ack }) are
+    (λ w. placed_still w l l' k (length schedule + 1) next are)

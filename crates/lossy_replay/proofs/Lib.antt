@@ -1,17 +1,17 @@
 mod Apart
-mod Applying
+mod EventApplies
 mod AtWork
-mod Breaking
-mod Carrying
-mod Giving
+mod BrokenReplays
+mod LinkCounts
+mod CourseItems
 pub mod GoingOn
 mod Items
-mod Noting
+mod NotedItems
 mod OnWays
-mod Performing
+mod EventPerformed
 mod Placed
 mod SentDown
 mod Small
-mod Standing
+mod PlacesOnWays
 mod Whole
 mod WorldOn

@@ -6,50 +6,48 @@ use Rattle.std.specs.List.Sorted.{IsBinarySearchResult}
 use Rattle.std.specs.Ordering.{nat_cmp}
 use Rattle.std.proofs.lemmas.Bool.{cond-true, eqb-true, or_cases, false_from_ne_true}
 use Rattle.std.proofs.lemmas.List.{length_push}
-use Rattle.std.proofs.lemmas.List.Elements.{All-head, All-tail, filter-append}
+use Rattle.std.proofs.lemmas.List.Elements.{filter-append}
 use Rattle.lossy_link.specs.Laws.{IsFaithful}
 use Rattle.lossy_link.specs.Link.{Link, arrive, give, is_among, link_step, with_arrived}
 use Rattle.lossy_replay.specs.Linked.{arrived, gone_on, place_in, place_of, standing, without}
 use Rattle.lossy_replay.specs.Lines.{IsAtWork, delivered_by, link_of}
 use Rattle.lossy_replay.specs.Ways.{IsWay}
 use Rattle.lossy_replay.specs.declared.way.Way.{Way}
-use Rattle.lossy_replay.proofs.Apart.{among_filter, among_there, goes_at}
+use Rattle.lossy_replay.proofs.Apart.{among_there, goes_at}
 use Rattle.lemmas.proofs.Lists.{get_past, get_pushed}
 use Rattle.lemmas.proofs.Tests.{and_first, and_second}
-use Rattle.lossy_replay.proofs.Standing.{IsFoundAt, found_standing, missing_standing, one_stands, pairs_apart, range_apart}
-use Rattle.lossy_link.proofs.Among.{among_push, among_range}
+use Rattle.lossy_replay.proofs.PlacesOnWays.{IsFoundAt, found_standing, missing_standing, one_stands, pairs_apart, range_apart}
+use Rattle.lossy_link.proofs.Among.{among_filter, among_push, among_range, contained}
 use Rattle.lossy_link.proofs.Faithful.{arrived_items}
 
 -- ---- what is delivered
 
 pub below : (got : List ℕ) (n count : ℕ) → All (λ m. m < count) got → is_among got n ≡ true → n < count
-below [] n count all is = absurd cc
-below (x ∷ got) n count all is =
-    elim (or_cases (x == n) (is_among got n) is) [
-      | inl here ↦ subst (λ m. m < count) (eqb-true x n here) (All-head (λ m. m < count) x got all)
-      | inr there ↦ below got n count (All-tail (λ m. m < count) x got all) there
-    ]
+below got n count all is = let c = contained got n is in subst (λ m. m < count) c.2 (all c.0 n c.1)
+
+-- what was not given was not taken
+pub not_gone : (l : Link) (gone : List ℕ) (way : Way) → IsWay l gone way → is_among gone (length l.items) ≡ false
+not_gone l gone way w =
+    let faithful = subst IsFaithful w.link w.at_work.faithful in
+    let count = length l.items in
+    false_from_ne_true (is_among gone count) (λ there. absurd (omega (arith, below l.got count count faithful.items (w.taken count there))))
 
 -- ---- one more item
 
-pub way_given : (l : Link) (gone : List ℕ) (way new : Way) (item : List ℕ) → IsWay l gone way → IsFaithful l
+pub way_given : (l : Link) (gone : List ℕ) (way new : Way) (item : List ℕ) → IsWay l gone way
     → IsAtWork new.line → link_of new.line ≡ link_step l (give item) → new.standing.items ≡ way.standing.items ++ length l.items ∷ []
     → new.arrived.items ≡ way.arrived.items → IsWay (link_step l (give item)) gone new
-way_given l gone way new item w faithful at_work link stand came =
+way_given l gone way new item w at_work link stand came =
     let count = length l.items in
-    let fails : is_among gone count ≡ false =
-    false_from_ne_true (is_among gone count) (λ there. absurd (omega (arith, below l.got count count faithful.items (w.taken count there)))) in
     let long : suc count ≡ length (l.items ++ item ∷ []) = omega (arith, length_push l.items item) in
     record {
       at_work = at_work;
       link = link;
       stand = stand ∙ (ap (λ (ns : List ℕ). ns ++ count ∷ []) w.stand
-          ∙ (sym (one_stands gone count fails) ∙ ap (λ (k : ℕ). without gone (range_with_len 0 k)) long));
+          ∙ (sym (one_stands gone count (not_gone l gone way w)) ∙ ap (λ (k : ℕ). without gone (range_with_len 0 k)) long));
       came = came ∙ w.came;
       taken = w.taken;
     }
-
--- ---- what leaves the items and what was delivered
 
 -- ---- a datagram arrives
 
@@ -72,16 +70,12 @@ among_more : (got : List ℕ) (n m : ℕ) → is_among got m ≡ true → is_amo
 among_more got n m there = among_push got n m ∙ ap (λ b. b || (n == m)) there
 
 came_by : (l l' : Link) (gone : List ℕ) (o : Option ℕ) → ((n : ℕ) → is_among gone n ≡ true → is_among l.got n ≡ true)
-    → IsGotBy l.got l'.got o → (number : Option ℕ) → o ≡ number → arrived l' gone ≡ gone_on (arrived l gone) number
-came_by l l' gone None taken is None same = ap (without gone) is
-came_by l l' gone None taken is (Some n) same = absurd cc
-came_by l l' gone (Some n) taken is None same = absurd cc
-came_by l l' gone (Some n) taken is (Some m) same =
-    let one : n ≡ m = cc in
+    → IsGotBy l.got l'.got o → arrived l' gone ≡ gone_on (arrived l gone) o
+came_by l l' gone None taken is = ap (without gone) is
+came_by l l' gone (Some n) taken is =
     let fails : is_among gone n ≡ false = false_from_ne_true (is_among gone n) (λ there. true≢false (sym (taken n there) ∙ is.1)) in
     ap (without gone) is.0 ∙ (filter-append (λ k. not (is_among gone k)) l.got (n ∷ [])
-    ∙ (ap (λ (ns : List ℕ). without gone l.got ++ ns) (cond-true (not (is_among gone n)) (n ∷ []) [] (ap not fails))
-    ∙ ap (λ (k : ℕ). without gone l.got ++ k ∷ []) one))
+    ∙ ap (λ (ns : List ℕ). without gone l.got ++ ns) (cond-true (not (is_among gone n)) (n ∷ []) [] (ap not fails)))
 
 kept_by : (before after : List ℕ) (o : Option ℕ) (m : ℕ) → IsGotBy before after o → is_among before m ≡ true → is_among after m ≡ true
 kept_by before after None m is there = ap (λ (ns : List ℕ). is_among ns m) is ∙ there
@@ -99,32 +93,10 @@ way_delivered l gone way new j number w at_work link by stand came =
       at_work = at_work;
       link = link;
       stand = stand ∙ (w.stand ∙ ap (λ (xs : List (List ℕ)). without gone (range_with_len 0 (length xs))) (sym (arrived_items l o)));
-      came = came ∙ (ap (λ (ns : List ℕ). gone_on ns number) w.came ∙ sym (came_by l l' gone (delivered_by l l') w.taken is number by));
+      came = came ∙ (ap (λ (ns : List ℕ). gone_on ns number) w.came
+          ∙ sym (came_by l l' gone (delivered_by l l') w.taken is ∙ ap (gone_on (arrived l gone)) by));
       taken = λ n there. kept_by l.got l'.got (delivered_by l l') n is (w.taken n there);
     }
-
--- ---- a frame is taken
-
-pub way_taken : (l : Link) (gone : List ℕ) (way new : Way) (j n place : ℕ) → IsWay l gone way → IsFaithful l
-    → slice_get way.arrived.items j ≡ Some n → slice_get way.standing.items place ≡ Some n → new.line ≡ way.line
-    → new.arrived.items ≡ remove way.arrived.items j → new.standing.items ≡ remove way.standing.items place
-    → IsWay l (gone_on gone (slice_get (arrived l gone) j)) new
-way_taken l gone way new j n place w faithful at there line came stand =
-    let number : slice_get (arrived l gone) j ≡ Some n = ap (λ (ns : List ℕ). slice_get ns j) (sym w.came) ∙ at in
-    let stands : slice_get (standing l gone) place ≡ Some n = ap (λ (ns : List ℕ). slice_get ns place) (sym w.stand) ∙ there in
-    let got : is_among l.got n ≡ true =
-    and_first (is_among l.got n) _ (sym (among_filter (λ k. not (is_among gone k)) l.got n) ∙ among_there (arrived l gone) j n number) in
-    subst (λ (o : Option ℕ). IsWay l (gone_on gone o) new) (sym number) (record {
-      at_work = subst IsAtWork (sym line) w.at_work;
-      link = ap link_of line ∙ w.link;
-      stand = stand ∙ (ap (λ (ns : List ℕ). remove ns place) w.stand
-          ∙ goes_at gone (range_with_len 0 (length l.items)) place n (range_apart 0 (length l.items)) stands);
-      came = came ∙ (ap (λ (ns : List ℕ). remove ns j) w.came ∙ goes_at gone l.got j n (pairs_apart l.got faithful.once) number);
-      taken = λ m in_it. elim (or_cases (is_among gone m) (n == m) (sym (among_push gone n m) ∙ in_it)) [
-        | inl before ↦ w.taken m before
-        | inr last ↦ subst (λ k. is_among l.got k ≡ true) (eqb-true n m last) got
-      ];
-    })
 
 -- ---- what was delivered stands there
 
@@ -150,14 +122,28 @@ search_misses l gone way xs j n place w same at search =
     let none = missing_standing gone (length l.items) n place (subst (λ (ys : List ℕ). IsBinarySearchResult (λ y. nat_cmp y n) ys (Err place)) (same ∙ w.stand) search) in
     true≢false (sym (stands_too l gone j n faithful number) ∙ none)
 
+-- it is taken
 pub way_takes : (l : Link) (gone : List ℕ) (way new : Way) (xs : List ℕ) (j n place : ℕ) → IsWay l gone way → xs ≡ way.standing.items
     → slice_get way.arrived.items j ≡ Some n → IsBinarySearchResult (λ y. nat_cmp y n) xs (Ok place) → new.line ≡ way.line
     → new.arrived.items ≡ remove way.arrived.items j → new.standing.items ≡ remove way.standing.items place
     → IsWay l (gone_on gone (slice_get (arrived l gone) j)) new
 way_takes l gone way new xs j n place w same at search line came stand =
+    let faithful = subst IsFaithful w.link w.at_work.faithful in
+    let number : slice_get (arrived l gone) j ≡ Some n = ap (λ (ns : List ℕ). slice_get ns j) (sym w.came) ∙ at in
     let found = search_finds l gone way xs n place w same search in
-    way_taken l gone way new j n place w (subst IsFaithful w.link w.at_work.faithful) at (ap (λ (ns : List ℕ). slice_get ns place) w.stand ∙ found.there)
-    line came stand
+    let got : is_among l.got n ≡ true =
+    and_first (is_among l.got n) _ (sym (among_filter (λ k. not (is_among gone k)) l.got n) ∙ among_there (arrived l gone) j n number) in
+    subst (λ (o : Option ℕ). IsWay l (gone_on gone o) new) (sym number) (record {
+      at_work = subst IsAtWork (sym line) w.at_work;
+      link = ap link_of line ∙ w.link;
+      stand = stand ∙ (ap (λ (ns : List ℕ). remove ns place) w.stand
+          ∙ goes_at gone (range_with_len 0 (length l.items)) place n (range_apart 0 (length l.items)) found.there);
+      came = came ∙ (ap (λ (ns : List ℕ). remove ns j) w.came ∙ goes_at gone l.got j n (pairs_apart l.got faithful.once) number);
+      taken = λ m in_it. elim (or_cases (is_among gone m) (n == m) (sym (among_push gone n m) ∙ in_it)) [
+        | inl before ↦ w.taken m before
+        | inr last ↦ subst (λ k. is_among l.got k ≡ true) (eqb-true n m last) got
+      ];
+    })
 
 -- its place
 pub placed_by : (l : Link) (gone : List ℕ) (way : Way) (xs : List ℕ) (j n place : ℕ) → IsWay l gone way → xs ≡ way.standing.items

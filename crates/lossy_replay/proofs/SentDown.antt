@@ -1,13 +1,12 @@
 -- All that was given to the link down is what the server sent down.
-use Rattle.std.proofs.Common.{◌≡◌, ℕ, Bool, true, false, cond, List, [], ◌∷◌, ◌++◌, length, map, refl, sym, ap, ◌∙◌, subst, Some, None, append-nil, append_assoc}
+use Rattle.std.proofs.Common.{◌≡◌, ℕ, Bool, true, false, cond, List, [], ◌∷◌, ◌++◌, length, map, refl, sym, ap, ◌∙◌, Some, None, append-nil, append_assoc}
 use Rattle.std.specs.Prelude.{Option, slice_get}
 use Rattle.std.proofs.lemmas.Bool.{cond-true}
 use Rattle.std.proofs.lemmas.List.{drop_at}
 use Rattle.lossy_link.specs.Link.{Link, arrive, confirm, link_step, send}
 use Rattle.run_model.specs.declared.event.Event.{Event}
-use Rattle.run_model.specs.declared.event.Event.TheVariants.{Admit, Stage, Serve, Send, Apply, Ack, Hold, Down}
+use Rattle.run_model.specs.declared.event.Event.TheVariants.{Hold}
 use Rattle.run_model.specs.declared.link_event.Link.{Link as LinkName}
-use Rattle.run_model.specs.declared.link_event.Link.TheVariants as names
 use Rattle.run_model.specs.declared.link_event.LinkEvent.{LinkEvent}
 use Rattle.run_model.specs.declared.link_event.LinkEvent.TheVariants.{World as InWorld, Transmit, Deliver, Confirm}
 use Rattle.state_store.specs.Store.{start_store}
@@ -20,9 +19,12 @@ use Rattle.replay_contracts.specs.Inputs.{Inputs, setup_for, whole}
 use Rattle.replay_contracts.specs.Replay.{answered}
 use Rattle.lossy_replay.specs.Linked.{Linked, at_link, behind, first_linked, gives, let_by, linked_step, linked_steps, performed, performed_if}
 use Rattle.lossy_replay.specs.Replay.{frame_let_go, frames_down, linked_by, sent_down, sent_down_from, world_by}
-use Rattle.lossy_replay.proofs.GoingOn.{arrive_items, confirm_items, send_items}
-use Rattle.lossy_replay.proofs.Items.{is_as, none_behind}
-use Rattle.lossy_replay.proofs.Noting.{applied_step}
+use Rattle.lossy_link.specs.Sender.{unknown}
+use Rattle.lossy_link.proofs.Faithful.{arrived_items, confirmed_items, sent_items}
+use Rattle.lossy_replay.proofs.Items.{none_behind}
+use Rattle.lossy_replay.proofs.NotedItems.{applied_step}
+use Rattle.lossy_replay.proofs.EventPerformed.{IsAs, is_as, lets_go}
+use Rattle.lossy_replay.proofs.Placed.{keeps_given}
 
 abbrev pub HasSentDown : Inputs → List Call → Linked → Type 0
 HasSentDown x calls l = l.down.items ≡ frames_down x calls l.events
@@ -52,38 +54,16 @@ let_go_gives s calls st j None = ap (map (down_frame s calls (tick st))) (none_b
 let_go_gives s calls st j (Some (n, need)) =
     ap (map (down_frame s calls (let_go (tick st) j (Some (n, need))))) (drop_at st.down (n ∷ []) (length st.down) refl)
 
-none_given : (x : Inputs) (calls : List Call) (st : State) (items : List (List ℕ)) (e own : Event) → e ≡ own → sent_down x calls st e ≡ []
-    → items ≡ items ++ sent_down x calls st own
-none_given x calls st items e own same none =
-    sym (append-nil items)
-    ∙ (ap (λ (frames : List (List ℕ)). items ++ frames) (sym none) ∙ ap (λ (event : Event). items ++ sent_down x calls st event) same)
-
-given_down : (x : Inputs) (calls : List Call) (l : Linked) (st : State) (event own : Event) → let_by l st event ≡ Some own
-    → applies (setup_for x) st own ≡ true
+given_down : (x : Inputs) (calls : List Call) (l : Linked) (st : State) {event own : Event} → IsAs l event own → applies (setup_for x) st own ≡ true
     → (gives (world_by x calls) l event st (step (setup_for x) (answered x calls) st own)).down.items ≡ l.down.items ++ sent_down x calls st own
-given_down x calls l st Admit own is may = none_given x calls st l.down.items Admit own (is_as l st Admit own is) refl
-given_down x calls l st (Stage j) own is may = absurd (is_as l st (Stage j) own is)
-given_down x calls l st (Serve j) own is may =
-    let kind = is_as l st (Serve j) own is in
-    none_given x calls st l.down.items (Serve kind.0) own kind.1 refl
-given_down x calls l st Send own is may = none_given x calls st l.down.items Send own (is_as l st Send own is) refl
-given_down x calls l st Apply own is may = none_given x calls st l.down.items Apply own (is_as l st Apply own is) refl
-given_down x calls l st Ack own is may = none_given x calls st l.down.items Ack own (is_as l st Ack own is) refl
-given_down x calls l st (Hold j) own is may =
+given_down x calls l st (lets_go j) may =
     let setup = setup_for x in
-    let a = answered x calls in
     let items = l.down.items in
     let held = slice_get st.held j in
-    let same : Hold j ≡ own = is_as l st (Hold j) own is in
-    let now : applies setup st (Hold j) ≡ true = subst (λ (e : Event). applies setup st e ≡ true) (sym same) may in
-    let next_is : step setup a st own ≡ let_go (tick st) j held = ap (λ (e : Event). step setup a st e) (sym same) ∙ applied_step setup a st (Hold j) now in
-    ap (λ (s : State). items ++ map (down_frame (whole x) calls s) (behind st.down s.down)) next_is
-    ∙ (ap (λ (frames : List (List ℕ)). items ++ frames)
-    (let_go_gives (whole x) calls st j held ∙ sym (cond-true (applies setup st (Hold j)) (frame_let_go (whole x) calls st held) [] now))
-    ∙ ap (λ (e : Event). items ++ sent_down x calls st e) same)
-given_down x calls l st (Down j) own is may =
-    let kind = is_as l st (Down j) own is in
-    none_given x calls st l.down.items (Down kind.0) own kind.1 refl
+    ap (λ (s : State). items ++ map (down_frame (whole x) calls s) (behind st.down s.down)) (applied_step setup (answered x calls) st (Hold j) may)
+    ∙ ap (λ (frames : List (List ℕ)). items ++ frames)
+    (let_go_gives (whole x) calls st j held ∙ sym (cond-true (applies setup st (Hold j)) (frame_let_go (whole x) calls st held) [] may))
+given_down x calls l st kind may = sym (append-nil l.down.items)
 
 -- ---- one event of a schedule more
 
@@ -97,7 +77,7 @@ sent_by x calls l event own is may sent =
     let first = first_state (start_store x.program.objects) in
     let st = w.at l.events in
     ap (λ (next : State). (gives w l event st next).down.items) (one_step_more setup a first l.events own)
-    ∙ (given_down x calls l st event own is may
+    ∙ (given_down x calls l st (is_as l st event own is) may
     ∙ (ap (λ (items : List (List ℕ)). items ++ sent_down x calls st own) sent ∙ sym (one_more x calls first l.events own)))
 
 sent_if : (x : Inputs) (calls : List Call) (l : Linked) (event own : Event) (b : Bool)
@@ -116,17 +96,15 @@ sent_where x calls l event (Some own) is sent =
 -- a change of one link that leaves its items
 sent_still : (change : Link → Link) → ((l : Link) → (change l).items ≡ l.items) → (x : Inputs) (calls : List Call) (l : Linked)
     (name : LinkName) → HasSentDown x calls l → HasSentDown x calls (at_link change l name)
-sent_still change stays x calls l names.Up sent = sent
-sent_still change stays x calls l names.Down sent = stays l.down ∙ sent
-sent_still change stays x calls l names.Ctl sent = sent
-sent_still change stays x calls l names.Ack sent = sent
+sent_still change stays x calls l name sent =
+    let k = keeps_given change stays l name in k.down ∙ (sent ∙ ap (λ (es : List Event). frames_down x calls es) (sym k.events))
 
 sent_on : (x : Inputs) (calls : List Call) (l : Linked) (event : LinkEvent) → HasSentDown x calls l
     → HasSentDown x calls (linked_step (setup_for x) (world_by x calls) l event)
 sent_on x calls l (InWorld event) sent = sent_where x calls l event (let_by l ((world_by x calls).at l.events) event) refl sent
-sent_on x calls l (Transmit name j) sent = sent_still (λ one. link_step one (send j)) (λ one. send_items one j) x calls l name sent
-sent_on x calls l (Deliver name j) sent = sent_still (λ one. link_step one (arrive j)) (λ one. arrive_items one j) x calls l name sent
-sent_on x calls l (Confirm name j) sent = sent_still (λ one. link_step one (confirm j)) (λ one. confirm_items one j) x calls l name sent
+sent_on x calls l (Transmit name j) sent = sent_still (λ one. link_step one (send j)) (λ one. sent_items one (slice_get (unknown one.items one.known) j)) x calls l name sent
+sent_on x calls l (Deliver name j) sent = sent_still (λ one. link_step one (arrive j)) (λ one. arrived_items one (slice_get one.sent j)) x calls l name sent
+sent_on x calls l (Confirm name j) sent = sent_still (λ one. link_step one (confirm j)) (λ one. confirmed_items one (slice_get one.back j)) x calls l name sent
 
 sent_through : (x : Inputs) (calls : List Call) (l : Linked) (schedule : List LinkEvent) → HasSentDown x calls l
     → HasSentDown x calls (linked_steps (setup_for x) (world_by x calls) l schedule)

@@ -23,12 +23,13 @@ use Rattle.lossy_replay.specs.Linking.{AreLinks, ArePlaced, HasLinked, IsLinking
 use Rattle.lossy_replay.specs.Replay.{HasEnds, HasItems, IsLinkedReplay, IsLinkedRun, events_through, frames_in, linked_by, world_by, world_of}
 use Rattle.lossy_replay.specs.declared.links.Links.{Links}
 use Rattle.lossy_replay.specs.declared.run.LossyRun.{LossyRun}
+use Rattle.lossy_replay.proofs.GoingOn.{no_parts}
 use Rattle.lossy_replay.proofs.Items.{blank, sent_of}
 use Rattle.lossy_replay.proofs.Placed.{takes_what_came}
 use Rattle.lemmas.proofs.Lists.{length_take_most, take_next, take_past}
 use Rattle.replay_contracts.proofs.Asked.{none_asked}
 use Rattle.replay_contracts.proofs.Laws.{a_quiet_switch_has_the_servers_tables, a_run_keeps_its_promises, a_told_replay_reports_the_run}
-use Rattle.replay_course.proofs.Reporting.{ReportsOf, kept_replay, reports_there, some_of}
+use Rattle.replay_course.proofs.ReportedState.{ReportsOf, kept_replay, reports_there, some_of}
 use Rattle.replay_state.proofs.Laws.{a_run_is_answered_by_its_calls-once as end_once}
 
 -- ---- the start
@@ -43,13 +44,9 @@ no_items x calls st port replay =
       ack = ap (λ (s : State). map blank (applied_commands s)) (sym replay.answered.run);
     }
 
-no_front : {X : Type 0} (xs ys : List X) → [] ≡ xs ++ ys → xs ≡ []
-no_front [] ys is = refl
-no_front (x ∷ xs) ys is = absurd cc
-
 first_placed : (x : Inputs) (calls : List Call) → StayPlaced x [] calls
 first_placed x calls = λ more before behind is.
-    subst (λ (s : List LinkEvent). ArePlaced (world_by x (calls ++ more)) (linked_by x (calls ++ more) s)) (sym (no_front before behind is))
+    subst (λ (s : List LinkEvent). ArePlaced (world_by x (calls ++ more)) (linked_by x (calls ++ more) s)) (sym (no_parts before behind is).0)
     (record { up = refl; down = refl; stand_up = λ j number at. absurd cc; stand_down = λ j number at. absurd cc })
 
 pub starts : (x : Inputs) (links : Links) (c : Course) (first port : PortState) → x.manner.fine ≡ false → HasReplayedFrom x [] c first port

@@ -1,6 +1,8 @@
 -- An event of the world that is performed.
 use Rattle.std.proofs.Common.{◌≡◌, ◌≤◌, ◌+◌, ℕ, true, false, List, [], ◌∷◌, ◌++◌, length, refl, sym, ap, ◌∙◌, subst, Option, Some, None, cond, arith, append-nil, append_assoc, true≢false}
 use Rattle.std.specs.Prelude.{is_some, slice_get}
+use Rattle.replay_state.specs.Carried.{Member}
+use Rattle.std.proofs.lemmas.Bool.{cond-true}
 use Rattle.std.proofs.lemmas.List.{length_push}
 use Rattle.run_model.specs.declared.event.Event.{Event}
 use Rattle.run_model.specs.declared.link_event.LinkEvent.{LinkEvent}
@@ -11,7 +13,7 @@ use Rattle.replay_state.specs.Places.{HavePlaces}
 use Rattle.output_commit.specs.Batches.{Batch, commands_in}
 use Rattle.switch_ir.specs.declared.journal.Entry.{Entry}
 use Rattle.switch_ir.specs.declared.journal.Entry.TheVariants as entry
-use Rattle.replay_state.specs.Journal.{Call, SentUp, UpAnswer, frame_in, over_in, up_answer}
+use Rattle.replay_state.specs.Journal.{Call, SentUp, asks, down_frame, UpAnswer, frame_in, over_in, up_answer}
 use Rattle.replay_state.specs.State.{State}
 use Rattle.replay_state.specs.Step.{applies, step}
 use Rattle.replay_contracts.specs.Called.{journal_of}
@@ -27,57 +29,56 @@ use Rattle.lossy_replay.specs.Linked.{World, Linked, first_linked, let_by, linke
 use Rattle.lossy_replay.specs.Linking.{AreLinks, ArePlaced, IsLinking, IsLinkingShort, noted}
 use Rattle.lossy_replay.specs.Replay.{linked_by, world_by, world_of}
 use Rattle.lossy_replay.specs.declared.links.Links.{Links}
-use Rattle.lossy_replay.proofs.Giving.{one_event_more}
-use Rattle.lossy_replay.proofs.GoingOn.{links_stay, placed_behind, placed_more, placed_now, stays_at, stays_in_world, told_at}
-use Rattle.lossy_replay.proofs.Items.{GoesOn, items_on}
-use Rattle.lossy_replay.proofs.Noting.{HasFrames, has_given, noted_is}
+use Rattle.lossy_replay.proofs.CourseItems.{one_event_more}
+use Rattle.lossy_replay.proofs.GoingOn.{links_stay, placed_behind, placed_more, placed_now, stays_at, stays_in_world, told_at, ways_on}
+use Rattle.lossy_replay.proofs.Items.{TakesEvent, items_on}
+use Rattle.lossy_replay.proofs.NotedItems.{HasFrames, has_given, noted_is}
 use Rattle.lossy_replay.proofs.Placed.{IsPerformed, frames_stay, placed_on}
-use Rattle.lossy_replay.proofs.Performing.{after_event, not_applied, not_let, performs}
+use Rattle.lossy_replay.proofs.EventPerformed.{after_event, is_as, performs}
 use Rattle.lossy_replay.proofs.SentDown.{HasSentDown, all_sent_down}
-use Rattle.replay_contracts.proofs.Going.{journal_append}
+use Rattle.replay_contracts.proofs.CallsOfEvent.{journal_append}
 use Rattle.replay_contracts.proofs.Laws.{a_replay_goes_on}
-use Rattle.replay_course.proofs.Draining.{map_length}
+use Rattle.replay_course.proofs.DrainEvents.{map_length}
 use Rattle.replay_course.proofs.Lists.{get_member}
-use Rattle.replay_course.proofs.Showing.{down_at, up_at}
+use Rattle.replay_course.proofs.ShownOutputs.{down_at, up_at}
 use Rattle.replay_course.proofs.Laws.{the_next_calls_may_be_made}
 use Rattle.replay_state.proofs.Laws.{a_run_is_answered_by_its_calls-gone as went_up, packets_are_where_they_are_told}
 use Rattle.replay_contracts.proofs.KnowingOn.{answer_stays}
 
 -- ---- the worlds of a replay
 
-frames_by : (x : Inputs) (events : List Event) (calls more : List Call) (st : State) (port : PortState) (c : Course)
-    → IsReplay x events calls st port → IsShown (whole x) calls st c → HasFrames (world_by x (calls ++ more)) st c
-frames_by x events calls more st port c replay shown = record {
+-- a course shows the frames that calls answered, which are those of a world
+shows_frames : (x : Inputs) (w : World) (calls : List Call) (st : State) (c : Course) → IsShown (whole x) calls st c
+    → ((n : ℕ) (frame : List ℕ) → Member n st.up → up_answer calls n ≡ Some (SentUp frame) → w.up n ≡ frame)
+    → ((n : ℕ) → Member n st.down → w.down st n ≡ down_frame (whole x) calls st n) → HasFrames w st c
+shows_frames x w calls st c shown up down = record {
   up = shown.up;
-  up_frames = λ j item is. ap frame_in (answer_stays calls more item.0 (SentUp item.1) (shown.up_frames j item is));
+  up_frames = λ j item is.
+      up item.0 item.1 (get_member st.up j item.0 (up_at (whole x) calls st c shown j item is)) (shown.up_frames j item is);
   down = shown.down;
   down_frames = λ j item is.
-      let here = get_member st.down j item.0 (down_at (whole x) calls st c shown j item is) in
-      let went = (went_up (setup_for x) (whole x) x.packets events calls st replay.answered).down item.0 here in
-      let stays = answer_stays calls more item.0 (SentUp went.0) went.1 in
-      ap (λ (answer : Option UpAnswer). (whole x).serve_down (over_in (slice_get st.progress item.0)) (frame_in answer)) (stays ∙ sym went.1)
-      ∙ sym (shown.down_frames j item is);
+      down item.0 (get_member st.down j item.0 (down_at (whole x) calls st c shown j item is)) ∙ sym (shown.down_frames j item is);
   batches = shown.batches;
   sent = shown.sent;
 }
 
-pub frames_of : (x : Inputs) (events : List Event) (calls : List Call) (st : State) (port : PortState) (c : Course) (tables : Told)
+frames_by : (x : Inputs) (events : List Event) (calls more : List Call) (st : State) (port : PortState) (c : Course)
+    → IsReplay x events calls st port → IsShown (whole x) calls st c → HasFrames (world_by x (calls ++ more)) st c
+frames_by x events calls more st port c replay shown =
+    shows_frames x (world_by x (calls ++ more)) calls st c shown
+    (λ n frame here is. ap frame_in (answer_stays calls more n (SentUp frame) is))
+    (λ n here.
+    let went = (went_up (setup_for x) (whole x) x.packets events calls st replay.answered).down n here in
+    ap (λ (answer : Option UpAnswer). (whole x).serve_down (over_in (slice_get st.progress n)) (frame_in answer))
+    (answer_stays calls more n (SentUp went.0) went.1 ∙ sym went.1))
+
+frames_of : (x : Inputs) (events : List Event) (calls : List Call) (st : State) (port : PortState) (c : Course) (tables : Told)
     → IsReplay x events calls st port → port.told ≡ Some tables → IsShown (whole x) calls st c → HasFrames (world_of x) st c
 frames_of x events calls st port c tables replay is shown =
     let framed = (replay.told tables is).tied.framed in
-    record {
-      up = shown.up;
-      up_frames = λ j item at.
-          let here = get_member st.up j item.0 (up_at (whole x) calls st c shown j item at) in
-          ap frame_in (sym (framed.up item.0 here) ∙ shown.up_frames j item at);
-      down = shown.down;
-      down_frames = λ j item at.
-          let here = get_member st.down j item.0 (down_at (whole x) calls st c shown j item at) in
-          ap (λ (answer : Option UpAnswer). (whole x).serve_down (over_in (slice_get st.progress item.0)) (frame_in answer)) (sym (framed.down item.0 here))
-          ∙ sym (shown.down_frames j item at);
-      batches = shown.batches;
-      sent = shown.sent;
-    }
+    shows_frames x (world_of x) calls st c shown
+    (λ n frame here answer. ap frame_in (sym (framed.up n here) ∙ answer))
+    (λ n here. ap (λ (answer : Option UpAnswer). (whole x).serve_down (over_in (slice_get st.progress n)) (frame_in answer)) (sym (framed.down n here)))
 
 -- where it is told after calls, it was told before them
 was_told : (old new : Option Told) (tables : Told) → is_some new ≡ is_some old → new ≡ Some tables → (t : Told) × (old ≡ Some t)
@@ -87,18 +88,8 @@ was_told (Some t) new tables same is = (t, refl)
 -- ---- one event more
 
 links_events : (n : ℕ) (given l : Linked) (own : Event) (links : Links) → AreLinks n given links → AreLinks n (after_event given l own) links
-links_events n given l own links are = record {
-  up = are.up;
-  down = are.down;
-  ctl = are.ctl;
-  ctl_is = are.ctl_is;
-  ack = are.ack;
-  ack_is = are.ack_is;
-  few_up = are.few_up;
-  few_down = are.few_down;
-  few_ctl = are.few_ctl;
-  few_ack = are.few_ack;
-}
+links_events n given l own links are =
+    ways_on n n given (after_event given l own) links links.up links.down are (omega arith) refl refl are.up are.down are.few_up are.few_down
 
 -- what an event leaves of the links
 abbrev pub noted_on : Linked → Course → Course → Event → Event → Linked
@@ -129,7 +120,8 @@ world_on x schedule event own links next c after old new stepped linking turned 
     let st' = step setup (answered x calls) st own in
     let replay = a_replay_goes_on x l.events own linking.calls t.one st old new linking.going.prepared.ready linking.replay t.asks t.called in
     let before : length c.up.items ≡ length st.up = map_length _ c.up.items st.up linking.shown.up in
-    let given = has_given setup (answered x calls) l st event own (no_stages x linking.plain) is may in
+    let kind = is_as l st event own is in
+    let given = has_given setup (answered x calls) l st kind (no_stages x linking.plain) may in
     let long = length_push schedule (InWorld event) in
     let leads : (w : World) → w.at l.events ≡ st → w.at events ≡ st' → HasFrames w st' after
     → linked_step setup w l (InWorld event) ≡ noted_on l c after event own =
@@ -145,20 +137,18 @@ world_on x schedule event own links next c after old new stepped linking turned 
     ∙ (ap (λ (m : Linked). linked_step setup (world_by x (calls ++ more)) m (InWorld event))
     (ap (λ (cs : List Call). linked_by x cs schedule) (append_assoc linking.calls t.one more) ∙ linking.stands (t.one ++ more))
     ∙ leads (world_by x (calls ++ more)) (at_now more) (stays_at x events calls more st' new replay) (shows more)) in
-    let g : GoesOn x l l.events linking.calls t.one st event own (length c.up.items) after = record {
+    let g : TakesEvent x l.events linking.calls t.one st own (length c.up.items) after = record {
       plain = no_stages x linking.plain;
       by_calls = linking.replay.answered;
       before_is = before;
       sent_within = sent_there x linking.calls st c linking.shown;
-      lets = is;
       may = may;
-      asks = t.asks;
+      questions = t.asks ∙ cond-true (applies setup st own) (asks setup (whole x) x.packets calls st own) [] may;
       frames = subst (λ (cs : List Call). HasFrames (world_by x cs) st' after) (append-nil calls) (shows []);
     } in
-    let p : IsPerformed setup (answered x calls) l st event own = record {
+    let p : IsPerformed setup (answered x calls) l st own = record {
       pre = no_stages x linking.plain;
       post = ap (λ b. cond b (whole x).post_stages 0) linking.plain;
-      lets = is;
       may = may;
       links = links;
       most = length schedule;
@@ -176,20 +166,20 @@ world_on x schedule event own links next c after old new stepped linking turned 
           (λ more.
           let w = world_by x (calls ++ more) in
           let noted_so = noted_is w l after event st st' (length c.up.items) before (shows more) given in
-          let stay = frames_stay setup (answered x calls) l st event own p w (λ over n. (whole x).serve_down over (frame_in (up_answer (calls ++ more) n))) (λ s n. refl) was now in
+          let stay = frames_stay setup (answered x calls) l st event own kind p w (λ over n. (whole x).serve_down over (frame_in (up_answer (calls ++ more) n))) (λ s n. refl) was now in
           let placed : ArePlaced w l =
           subst (λ (cs : List Call). ArePlaced (world_by x cs) l) (sym (append_assoc linking.calls t.one more))
           (placed_now x schedule links c old linking (t.one ++ more)) in
           subst (λ (m : Linked). ArePlaced w m) (sym (stands more))
           (subst (λ (g : Linked). ArePlaced w (after_event g l own)) noted_so
-          (placed_on setup (answered x calls) l st w event own p (at_now more) (stays_at x events calls more st' new replay) stay
+          (placed_on setup (answered x calls) l st w event own kind p (at_now more) (stays_at x events calls more st' new replay) stay
           (length schedule + 1) next (subst (λ (g : Linked). AreLinks (length schedule + 1) g next) (sym noted_so) are) placed)));
       replay = replay;
       shown = t.shown;
       going = turned.going;
       counted = turned.counted ∙ (ap (λ (n : ℕ). n + 1) linking.counted ∙ sym (length_push l.events own));
       few = omega (arith, linking.few, long, length_push l.events own);
-      items = items_on x l l.events linking.calls t.one st (length c.up.items) after event own g linking.items
+      items = items_on x l l.events linking.calls t.one st (length c.up.items) after kind g linking.items
           (subst (HasSentDown x calls) (ap (λ (cs : List Call). linked_by x cs (schedule ++ InWorld event ∷ [])) (sym (append-nil calls)) ∙ stands [])
           (all_sent_down x calls (schedule ++ InWorld event ∷ [])));
       links_are = subst (λ (n : ℕ). AreLinks n (noted_on l c after event own) next) (sym long)
@@ -205,7 +195,7 @@ world_on x schedule event own links next c after old new stepped linking turned 
 
 -- ---- an event that isn't performed
 
-not_on : (x : Inputs) (schedule : List LinkEvent) (event : Event) (links : Links) (c : Course) (port : PortState)
+pub not_on : (x : Inputs) (schedule : List LinkEvent) (event : Event) (links : Links) (c : Course) (port : PortState)
     (linking : IsLinking x schedule links c port)
     → ((w : World) → w.at linking.linked.events ≡ linking.st → linked_step (setup_for x) w linking.linked (InWorld event) ≡ linking.linked)
     → IsLinking x (schedule ++ InWorld event ∷ []) links c port
@@ -213,18 +203,6 @@ not_on x schedule event links c port linking stays =
     let l = linking.linked in
     stays_in_world x schedule (InWorld event) links links c port linking l stays refl linking.items
     (links_stay (length schedule) l links linking.links_are) (λ w placed. placed)
-
-pub not_let_on : (x : Inputs) (schedule : List LinkEvent) (event : Event) (links : Links) (c : Course) (port : PortState)
-    (linking : IsLinking x schedule links c port) → let_by linking.linked linking.st event ≡ None
-    → IsLinking x (schedule ++ InWorld event ∷ []) links c port
-not_let_on x schedule event links c port linking is =
-    not_on x schedule event links c port linking (λ w now. not_let (setup_for x) w linking.linked event linking.st now is)
-
-pub not_applied_on : (x : Inputs) (schedule : List LinkEvent) (event own : Event) (links : Links) (c : Course) (port : PortState)
-    (linking : IsLinking x schedule links c port) → let_by linking.linked linking.st event ≡ Some own
-    → applies (setup_for x) linking.st own ≡ false → IsLinking x (schedule ++ InWorld event ∷ []) links c port
-not_applied_on x schedule event own links c port linking is fails =
-    not_on x schedule event links c port linking (λ w now. not_applied (setup_for x) w linking.linked event own linking.st now is fails)
 
 -- ---- the calls
 

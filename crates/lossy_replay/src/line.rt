@@ -37,7 +37,7 @@ impl Line {
     /// One more item is to be delivered. The answer is its number.
     pub fn give(&mut self, item: Bytes) -> Result<u32, NoMemory>
         requires at_work { IsAtWork self.old }
-        requires few { length self.old.sender.items < 2 ^ 32 - 1 }
+        requires few_items { length self.old.sender.items < 2 ^ 32 - 1 }
         ensures number { IfOk result (λ number. number ≡ length self.old.sender.items) }
         ensures link { OnOk result (link_of self.new ≡ link_step (link_of self.old) (give item)) }
         ensures at_work { OnOk result (IsAtWork self.new) }
@@ -110,7 +110,7 @@ impl Line {
     /// The ends, with how far they have come.
     pub fn into_ends(self) -> Ends
         requires at_work { IsAtWork self }
-        requires few { length self.sender.items < 2 ^ 32 }
+        requires few_items { length self.sender.items < 2 ^ 32 }
         requires few_sent { length self.sent.items < 2 ^ 32 }
         requires few_delivered { length self.receiver.pairs < 2 ^ 32 }
         ensures { IsEnd (link_of self) result }

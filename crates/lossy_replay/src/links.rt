@@ -49,7 +49,7 @@ fn give_last(
     way: &mut Way,
 ) -> Result<(), NoMemory>
     requires way { (l : LinkState) × (gone : List ℕ) × IsWay l gone way.old }
-    requires few { length way.old.line.sender.items < 2 ^ 32 - 1 }
+    requires few_items { length way.old.line.sender.items < 2 ^ 32 - 1 }
     ensures { OnOk result ((l : LinkState) (gone : List ℕ) → IsWay l gone way.old
         → IsWay (given_all l (newest before frames.now.items)) gone way.new) }
 {
@@ -65,7 +65,7 @@ fn give_last(
 // Gives the last command that was sent to the link of commands.
 fn give_command(alloc: Global, commit: &Commit, ctl: &mut Line) -> Result<(), NoMemory>
     requires at_work { IsAtWork ctl.old }
-    requires few { length ctl.old.sender.items < 2 ^ 32 - 1 }
+    requires few_items { length ctl.old.sender.items < 2 ^ 32 - 1 }
     requires small { IfSome (last_sent commit.now) (NamesBelow 64) }
     ensures link { OnOk result
         (link_of ctl.new ≡ given_all (link_of ctl.old) (map bytes_of (one_or_none (last_sent commit.now)))) }

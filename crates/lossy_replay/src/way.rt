@@ -34,7 +34,7 @@ impl Way {
     /// One more frame is to be delivered.
     pub fn give(&mut self, frame: Bytes) -> Result<(), NoMemory>
         requires way { (l : Link) × (gone : List ℕ) × IsWay l gone self.old }
-        requires few { length self.old.line.sender.items < 2 ^ 32 - 1 }
+        requires few_items { length self.old.line.sender.items < 2 ^ 32 - 1 }
         ensures { OnOk result ((l : Link) (gone : List ℕ) → IsWay l gone self.old
             → IsWay (link_step l (give frame)) gone self.new) }
     {

@@ -9,12 +9,12 @@ use Rattle.output_commit.specs.Batches.{commands_in, fits, merged}
 use Rattle.output_commit.specs.Commit.{AreHeld, Commit, IsInOrder, first, batch_of, commands, visible, acknowledged, with_output, after_release}
 use Rattle.output_commit.specs.Laws.{Call, HoldsFitting, after_call, after_calls, changes_in, changes_of, one_if_any, versions_in, versions_of, IsKeptInOrder, IsSeenFromThenOn, StaysSent}
 use Rattle.output_commit.specs.Laws.Call.{hold, send, apply, acknowledge, release}
-use Rattle.output_commit.proofs.Merging.{is_merged, merged_held, push_changes, push_commands, push_held, push_take, push_versions}
-use Rattle.output_commit.proofs.Seeing.{visible_front, visible_more}
+use Rattle.output_commit.proofs.MergedBatches.{is_merged, merged_held, push_changes, push_commands, push_held, push_take, push_versions}
+use Rattle.output_commit.proofs.VisibleVersions.{visible_front, visible_more}
 use Rattle.std.proofs.lemmas.List.{length-append}
 
 -- the counts stay in order, what is seen only rises, what was sent stays, and these changes come in
-record GoesOn (c c' : Commit) (added : List Update) (outputs : ℕ) : Type 0 where
+record Advances (c c' : Commit) (added : List Update) (outputs : ℕ) : Type 0 where
   in_order : IsInOrder c'
   rises : visible c ≤ visible c'
   sent : c.sent ≤ c'.sent
@@ -24,7 +24,7 @@ record GoesOn (c c' : Commit) (added : List Update) (outputs : ℕ) : Type 0 whe
 
 -- more commands are applied or acknowledged, or other outputs wait
 counts_on : (c : Commit) (done acked : ℕ) (held : List Output) → IsInOrder c → c.done ≤ done → done ≤ c.sent → acked ≤ done
-    → GoesOn c (record c { done = done; acked = acked; held = held }) [] 0
+    → Advances c (record c { done = done; acked = acked; held = held }) [] 0
 counts_on c done acked held i later within known = record {
   in_order = record { acked_within = known; done_within = within; sent_within = i.sent_within };
   rises = visible_more c.batches c.done done later;
@@ -34,7 +34,7 @@ counts_on c done acked held i later within known = record {
   versions = omega arith;
 }
 
-stays_so : (c : Commit) → IsInOrder c → GoesOn c c [] 0
+stays_so : (c : Commit) → IsInOrder c → Advances c c [] 0
 stays_so c i = counts_on c c.done c.acked c.held i (omega arith) i.done_within i.acked_within
 
 pub changes_one : (us : List Update) → changes_in (batch_of us) ≡ us
@@ -45,7 +45,7 @@ versions_one : (us : List Update) → versions_in (batch_of us) ≡ one_if_any u
 versions_one [] = refl
 versions_one (u ∷ us) = omega arith
 
-held_on : (c : Commit) (output : Output) (us : List Update) → IsInOrder c → GoesOn c (with_output c output us) us (one_if_any us)
+held_on : (c : Commit) (output : Output) (us : List Update) → IsInOrder c → Advances c (with_output c output us) us (one_if_any us)
 held_on c output us i =
     let within = i.sent_within in let less = i.done_within in
     let longer = ap length (push_commands c.batches (batch_of us)) in
@@ -61,7 +61,7 @@ held_on c output us i =
     }
 
 sent_on : (c : Commit) (b : Bool) → nat_lt c.sent (length (commands c)) ≡ b → IsInOrder c
-    → GoesOn c (cond b (record c { batches = merged (fits c.writeback) c.sent c.batches; sent = c.sent + 1 }) c) [] 0
+    → Advances c (cond b (record c { batches = merged (fits c.writeback) c.sent c.batches; sent = c.sent + 1 }) c) [] 0
 sent_on c true e i =
     let m = is_merged (fits c.writeback) c.sent c.batches in
     let goes = m.goes_on (ltb-true c.sent (length (commands c)) e) in
@@ -77,27 +77,27 @@ sent_on c true e i =
     }
 sent_on c false e i = stays_so c i
 
-applied_on : (c : Commit) (b : Bool) → nat_lt c.done c.sent ≡ b → IsInOrder c → GoesOn c (cond b (record c { done = c.done + 1 }) c) [] 0
+applied_on : (c : Commit) (b : Bool) → nat_lt c.done c.sent ≡ b → IsInOrder c → Advances c (cond b (record c { done = c.done + 1 }) c) [] 0
 applied_on c true e i =
     let there = ltb-true c.done c.sent e in let less = i.acked_within in
     counts_on c (c.done + 1) c.acked c.held i (omega arith) (omega arith) (omega arith)
 applied_on c false e i = stays_so c i
 
-acknowledged_on : (c : Commit) (b : Bool) → nat_lt c.acked c.done ≡ b → IsInOrder c → GoesOn c (cond b (record c { acked = c.acked + 1 }) c) [] 0
+acknowledged_on : (c : Commit) (b : Bool) → nat_lt c.acked c.done ≡ b → IsInOrder c → Advances c (cond b (record c { acked = c.acked + 1 }) c) [] 0
 acknowledged_on c true e i =
     let there = ltb-true c.acked c.done e in
     counts_on c c.done (c.acked + 1) c.held i (omega arith) i.done_within (omega arith)
 acknowledged_on c false e i = stays_so c i
 
-released_on : (c : Commit) (j : ℕ) (output : Option Output) → IsInOrder c → GoesOn c (after_release c j output) [] 0
+released_on : (c : Commit) (j : ℕ) (output : Option Output) → IsInOrder c → Advances c (after_release c j output) [] 0
 released_on c j None i = stays_so c i
 released_on c j (Some output) i = waits_or_goes (nat_lt (acknowledged c) output.need)
   where
-    waits_or_goes : (b : Bool) → GoesOn c (cond b c (record c { held = remove c.held j })) [] 0
+    waits_or_goes : (b : Bool) → Advances c (cond b c (record c { held = remove c.held j })) [] 0
     waits_or_goes true = stays_so c i
     waits_or_goes false = counts_on c c.done c.acked (remove c.held j) i (omega arith) i.done_within i.acked_within
 
-one_call : (c : Commit) (call : Call) → IsInOrder c → GoesOn c (after_call c call) (changes_of (call ∷ [])) (versions_of (call ∷ []))
+one_call : (c : Commit) (call : Call) → IsInOrder c → Advances c (after_call c call) (changes_of (call ∷ [])) (versions_of (call ∷ []))
 one_call c (hold output us) i = let h = held_on c output us i in record {
   in_order = h.in_order;
   rises = h.rises;
@@ -119,7 +119,7 @@ versions_by : (call : Call) (calls : List Call) → versions_of (call ∷ calls)
 versions_by (hold output us) calls = omega arith
 versions_by _ calls = omega arith
 
-all_calls : (c : Commit) (calls : List Call) → IsInOrder c → GoesOn c (after_calls c calls) (changes_of calls) (versions_of calls)
+all_calls : (c : Commit) (calls : List Call) → IsInOrder c → Advances c (after_calls c calls) (changes_of calls) (versions_of calls)
 all_calls c [] i = stays_so c i
 all_calls c (call ∷ calls) i =
     let one = one_call c call i in

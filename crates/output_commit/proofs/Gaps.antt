@@ -4,7 +4,7 @@ use Rattle.std.proofs.lemmas.List.{take-append-le}
 use Rattle.writeback_table.specs.declared.command.Update.{Update}
 use Rattle.output_commit.specs.declared.span.Span.{Span}
 use Rattle.output_commit.specs.Spans.{AreJoined, batch_in}
-use Rattle.output_commit.proofs.Spanning.{joined_upto}
+use Rattle.output_commit.proofs.SpannedBatches.{joined_upto}
 use Rattle.lemmas.proofs.Lists.{take_whole}
 
 pub drop_more : {X : Type 0} (l : List X) (m n : ℕ) → drop n (drop m l) ≡ drop (m + n) l

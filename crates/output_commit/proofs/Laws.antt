@@ -3,8 +3,8 @@ use Rattle.std.specs.Prelude.{Bool, List, true, ℕ, ◌↔◌, ◌≡◌, ◌�
 use Rattle.writeback_table.specs.Batches.{count_of}
 use Rattle.writeback_table.specs.declared.command.Update.{Update}
 use Rattle.output_commit.proofs.Calls.{each_held, kept_in_order, seen_from_then_on, stays_sent}
-use Rattle.output_commit.proofs.Fitting.{exactly}
-use Rattle.output_commit.proofs.Merging.{is_merged}
+use Rattle.output_commit.proofs.FitsByCount.{exactly}
+use Rattle.output_commit.proofs.MergedBatches.{is_merged}
 use Rattle.output_commit.specs.Batches.{Batch, fits, merged}
 use Rattle.output_commit.specs.Commit.{AreHeld, first}
 use Rattle.output_commit.specs.Laws.{Call, HoldsFitting, IsKeptInOrder, IsMerged, IsSeenFromThenOn, StaysSent, after_calls}

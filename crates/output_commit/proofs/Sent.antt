@@ -11,9 +11,9 @@ use Rattle.output_commit.specs.declared.span.Span.{Span}
 use Rattle.output_commit.specs.Commit.{Commit, commands, last_sent}
 use Rattle.output_commit.specs.Kept.{IsCounted, begun_in, spans_in}
 use Rattle.output_commit.specs.Spans.{span_len, stands, total}
-use Rattle.output_commit.proofs.Keeping.{begun_few}
-use Rattle.output_commit.proofs.Placing.{one_within, stands_here, total_next}
-use Rattle.output_commit.proofs.Spanning.{stands_front}
+use Rattle.output_commit.proofs.KeptCommit.{begun_few}
+use Rattle.output_commit.proofs.NextPlace.{one_within, stands_here, total_next}
+use Rattle.output_commit.proofs.SpannedBatches.{stands_front}
 
 front_of : {X : Type 0} (k n : ℕ) (xs : List X) → k ≤ n → take k (take n xs) ≡ take k xs
 front_of zero n xs h = refl

@@ -22,7 +22,7 @@ pub struct Batches {
     pub tally: Tally,
 }
 
-/// Those that a batch takes up: the span of all, and how many spans these are.
+/// The batches that one takes up: the span of all of them, and how many spans these are.
 #[derive(Clone, Copy, Debug)]
 pub struct Taken {
     pub span: Span,
@@ -31,8 +31,8 @@ pub struct Taken {
 
 // The first batch takes up those behind it, while no object has more than `most` changes.
 fn take_up(spans: &[Span], updates: &[Update], tally: &mut Tally, most: u32) -> Taken
-    requires some { 0 < length spans.now }
-    requires few { total spans.now < 2 ^ 32 }
+    requires nonempty { 0 < length spans.now }
+    requires few_commands { total spans.now < 2 ^ 32 }
     requires joined { AreJoined (first_of spans.now) spans.now (length updates.now) }
     requires tallied { AreTallied tally.old updates.now }
     ensures takes { Takes most updates.now spans.now result.span result.count }
@@ -84,7 +84,7 @@ impl Batches {
     /// Puts a batch of these changes behind the others, where there are any. After want of memory all is as before.
     pub fn push(&mut self, updates: &[Update]) -> Result<(), NoMemory>
         requires kept { AreKept self.old }
-        requires few { total (spans_in self.old) + batch_len (length updates.now) < 2 ^ 32 }
+        requires few_commands { total (spans_in self.old) + batch_len (length updates.now) < 2 ^ 32 }
         ensures ok { OnOk result (IsPushed self.old self.new (batch_of updates.now)) }
         ensures err { OnErr result (IsPushed self.old self.new []) }
     {

@@ -112,7 +112,7 @@ impl Commit {
         frame: Bytes,
         updates: &Updates,
     ) -> Result<(), NoMemory>
-        requires few { length (spec.commands self.old) + length (commands_in (spec.batch_of updates.now)) < 2 ^ 32 }
+        requires few_commands { length (spec.commands self.old) + length (commands_in (spec.batch_of updates.now)) < 2 ^ 32 }
         ensures ok { OnOk result (self.new
             ≡ spec.with_output self.old (record { number = number; need = need; frame = frame }) updates.now) }
         ensures err { OnErr result (self.new ≡ self.old) }
@@ -284,7 +284,7 @@ impl Commit {
 
     /// Lets the output at place `j` go, counted from 0 in the order in which they came, where its version is
     /// acknowledged. Those behind it close up.
-    #[tactic(auto, using(crate::proofs::Keeping::answer_goes, crate::proofs::Keeping::after_goes))]
+    #[tactic(auto, using(crate::proofs::KeptCommit::answer_goes, crate::proofs::KeptCommit::after_goes))]
     pub fn release(&mut self, j: usize) -> Release
         ensures answer { result ≡ spec.answer self.old (slice_get self.old.held j) }
         ensures after { self.new ≡ spec.after_release self.old j (slice_get self.old.held j) }

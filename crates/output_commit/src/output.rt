@@ -13,9 +13,9 @@ pub struct Output {
 /// What is answered where an output is to go.
 #[derive(Debug, Drop)]
 pub enum Release {
-    /// It goes, and waits no longer.
+    /// The number and the frame of the output, which goes and waits no longer.
     Frame { number: u32, frame: Bytes },
-    /// It must wait, since the version that it needs is above the one that is acknowledged.
+    /// The output must wait, since the version that it needs is above the one that is acknowledged.
     NotYet { need: u32, acknowledged: u32 },
     /// No output waits at this place; so many do.
     NoSuch(usize),

@@ -24,7 +24,7 @@ impl Place {
     /// the same batch.
     pub fn bit(&self, spans: &[Span]) -> bool
         requires at { IsIn spans.now self.now }
-        requires few { total spans.now < 2 ^ 32 }
+        requires few_commands { total spans.now < 2 ^ 32 }
         ensures { result ≡ bit_at spans.now self.now }
     {
         match spans.get(self.batch) {
@@ -37,7 +37,7 @@ impl Place {
     pub fn pass(&mut self, spans: &[Span]) -> (Span, u32)
         requires at { IsIn spans.now self.old }
         requires within { passed spans.now self.old < total spans.now }
-        requires few { total spans.now < 2 ^ 32 }
+        requires few_commands { total spans.now < 2 ^ 32 }
         ensures at { IsIn spans.now self.new }
         ensures passed { passed spans.now self.new ≡ passed spans.now self.old + 1 }
         ensures stands { stands spans.now (passed spans.now self.old) ≡ Some result }

@@ -30,7 +30,7 @@ impl Span {
         self.changes < step && step < 2 * self.changes + 2
     }
 
-    /// Its changes, of all.
+    /// The changes of the batch, out of those of all batches.
     pub fn of<'a>(&self, updates: &'a [Update]) -> &'a [Update]
         requires { self.now.first + self.now.changes ≤ length updates.now }
         ensures { result.now ≡ (batch_in updates.now self.now).updates }
@@ -55,7 +55,7 @@ impl Span {
 /// The command at a place among those for these changes: all changes are staged, the bit is set, all are made, the bit
 /// is cleared, and all staged keys are cleared.
 pub fn command_at(changes: &[Update], place: usize) -> Command
-    requires few { 3 * length changes.now + 2 < 2 ^ 64 }
+    requires few_changes { 3 * length changes.now + 2 < 2 ^ 64 }
     requires within { place < 3 * length changes.now + 2 }
     ensures { Some result ≡ slice_get (commands_of changes.now) place }
 {

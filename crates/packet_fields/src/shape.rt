@@ -97,7 +97,7 @@ impl Shape {
 fn in_header(packet: &[u8], start: usize, field: Field) -> u64
     requires near { start ≤ 18 }
     requires inside { 8 * start + (row field).at + (row field).width ≤ 8 * length packet.now }
-    requires low { (row field).at ≤ 160 }
+    requires bounded_place { (row field).at ≤ 160 }
     requires narrow { (row field).width ≤ 48 }
     ensures value { result ≡ in_header packet.now start field }
     ensures fits { result < 2 ^ (row field).width }

@@ -20,11 +20,11 @@ use Rattle.split_model.specs.Split.{part_at, pre_stage, post_stage, is_pre, is_c
 use Rattle.split_model.specs.Counts.{stage_or_zero}
 use Rattle.split_model.specs.Legal.{IsLegal, rules, breaks, rule_1, rule_2, rule_3, rule_4, rule_5, rule_6, rule_7, rule_8, rule_9, is_post_condition, is_not_lower, is_misplaced}
 use Rattle.split_model.specs.Greatest.{pre_marks, carried_marks, post_marks, pre_stages, post_stages, IsPostSet, IsGreatestSplit}
-use Rattle.dependence.proofs.Marking.{unset_marked}
-use Rattle.dependence.proofs.Placing.{step_there}
+use Rattle.dependence.proofs.MarkedPlaces.{unset_marked}
+use Rattle.dependence.proofs.PlacedCode.{step_there}
 use Rattle.dependence.proofs.Present.{at_here}
 use Rattle.flat_ir.proofs.Exact.{same_itself}
-use Rattle.flat_ir.proofs.Passing.{any_passes}
+use Rattle.flat_ir.proofs.AnyBelow.{any_passes}
 use Rattle.lemmas.proofs.Tests.{and_second}
 use Rattle.dependence.proofs.Laws.{depths_are_least-staged}
 

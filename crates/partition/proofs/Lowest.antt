@@ -20,7 +20,7 @@ use Rattle.resource_limits.specs.Counts.{greatest}
 use Rattle.partition.specs.Choice.{IsChosen}
 use Rattle.partition.proofs.Lawful.{pre_at, post_at, pre_stage_at, post_stage_at}
 use Rattle.partition.proofs.Chosen.{chosen_is_kept}
-use Rattle.dependence.proofs.Placing.{step_there}
+use Rattle.dependence.proofs.PlacedCode.{step_there}
 use Rattle.flat_ir.proofs.Exact.{same_itself}
 use Rattle.dependence.proofs.Laws.{depths_are_least-least}
 

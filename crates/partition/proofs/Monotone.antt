@@ -25,7 +25,7 @@ use Rattle.resource_limits.specs.Kept.{Keeps, KeepsLimits, first_excess, of_obje
 use Rattle.partition.specs.Choice.{IsKept}
 use Rattle.partition.specs.Tried.{IsTooMuch}
 use Rattle.partition.proofs.Lawful.{pre_at, post_at, pre_stage_at, post_stage_at}
-use Rattle.dependence.proofs.Marking.{unset_marked}
+use Rattle.dependence.proofs.MarkedPlaces.{unset_marked}
 use Rattle.dependence.proofs.Laws.{depths_are_least-least, depths_are_least-staged}
 use Rattle.resource_limits.proofs.Laws.{kept_limits_are_not_exceeded}
 

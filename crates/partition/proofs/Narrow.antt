@@ -13,8 +13,8 @@ use Rattle.flat_ir.specs.Sets.{IsMarked, IsAt, Reads, IsPreClosed, IsCarriedClos
 use Rattle.flat_ir.specs.Stages.{IsDepths, deepest, depth_of}
 use Rattle.split_model.specs.declared.split.Part.{Part}
 use Rattle.split_model.specs.Greatest.{pre_marks, IsGreatestSplit}
-use Rattle.dependence.proofs.Placing.{each_read, step_there}
-use Rattle.dependence.proofs.Rising.{needs_operand}
+use Rattle.dependence.proofs.PlacedCode.{each_read, step_there}
+use Rattle.dependence.proofs.PreSets.{needs_operand}
 use Rattle.lemmas.proofs.Lists.{length_slice_set}
 
 -- ## One mark less

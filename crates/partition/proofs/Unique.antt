@@ -17,8 +17,8 @@ use Rattle.split_model.specs.Counts.{stage_or_zero}
 use Rattle.split_model.specs.Legal.{IsLegal}
 use Rattle.split_model.specs.Greatest.{pre_marks, carried_marks, post_marks, pre_stages, post_stages, IsPostSet, IsGreatestSplit}
 use Rattle.partition.proofs.Lawful.{pre_at}
-use Rattle.dependence.proofs.Marking.{marked_inside}
-use Rattle.dependence.proofs.Placing.{step_there}
+use Rattle.dependence.proofs.MarkedPlaces.{marked_inside}
+use Rattle.dependence.proofs.PlacedCode.{step_there}
 use Rattle.dependence.proofs.Present.{at_here}
 use Rattle.lemmas.proofs.Tests.{same_tests, true_of_and_not}
 use Rattle.dependence.proofs.Laws.{depths_are_least-least, depths_are_least-staged}

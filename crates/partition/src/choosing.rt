@@ -122,7 +122,7 @@ fn left_after(
 ) -> Result<usize, NoMemory>
     requires bounded { IsBounded (program_of f.now) }
     requires basis { IsBasis f.now basis.now }
-    requires some { 0 < count }
+    requires nonempty { 0 < count }
     requires neither { (all : Bool) (other : List Part) → IsKept (program_of f.now) limits.now count all other → ⊥ }
     requires exceeded { IsExceeded (program_of f.now) limits.now count false over }
     ensures { IfOk result (λ left. IsLeft (program_of f.now) limits.now count left) }
@@ -146,7 +146,7 @@ fn try_two(
     requires basis { IsBasis f.now basis.now }
     requires in_range { AreInRange limits.now }
     requires front { IsFront (program_of f.now) front.now }
-    requires some { 0 < front.now.count }
+    requires nonempty { 0 < front.now.count }
     ensures { IfOk result (λ outcome. IsStep (program_of f.now) limits.now front.now.count outcome) }
 {
     if let Some(split) = find(alloc, f, basis, limits, front, true)? {
@@ -174,7 +174,7 @@ fn step(
     requires basis { IsBasis f.now basis.now }
     requires in_range { AreInRange limits.now }
     requires front { IsFront (program_of f.now) front.now }
-    requires some { 0 < front.now.count }
+    requires nonempty { 0 < front.now.count }
     ensures { IfOk result (λ outcome. IsStep (program_of f.now) limits.now front.now.count outcome) }
 {
     if front.has_last() {
@@ -219,7 +219,7 @@ pub fn partition(
     ensures refused { IfErr result (λ error. IsCause (program_of f.now) limits.now shrink error) }
     ensures legal { IfOk result (λ split. IsLegal (program_of f.now) split) }
     ensures keeps { IfOk result (λ split. KeepsLimits (program_of f.now) split limits.now) }
-    ensures low { IfOk result HasFewStages }
+    ensures few_stages { IfOk result HasFewStages }
     ensures not_refused { (split : List Part) → IsChosen (program_of f.now) limits.now shrink split
         → IfErr result (λ error. error ≡ without_memory) }
     ensures not_chosen { (over : Over) → IsRefused (program_of f.now) limits.now shrink over

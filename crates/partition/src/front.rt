@@ -52,7 +52,7 @@ impl Front {
 
     /// Leaves out the last of the first instructions: what is left of the sets are the sets among the others.
     pub(crate) fn narrow(&mut self)
-        requires some { 0 < self.old.count }
+        requires nonempty { 0 < self.old.count }
         requires pre { self.old.count - 1 < length self.old.pre }
         requires carried { self.old.count - 1 < length self.old.carried }
         requires depths { self.old.count - 1 < length self.old.depths }

@@ -84,7 +84,7 @@ pub(crate) fn most_left(
 ) -> Result<usize, NoMemory>
     requires bounded { IsBounded (program_of f.now) }
     requires basis { IsBasis f.now basis.now }
-    requires some { 0 < count }
+    requires nonempty { 0 < count }
     requires much { IsTooMuch (program_of f.now) limits.now count }
     ensures { IfOk result (λ left. IsMostLeft (program_of f.now) limits.now count left) }
 {

@@ -22,7 +22,7 @@ fn packet_of(alloc: Global, item: &Record, port: u8) -> Result<Packet, NoMemory>
 /// The packets of a capture, each of which arrives by this port.
 pub fn packets_of(alloc: Global, p: &Pcap, port: u8) -> Result<Packets, NoMemory>
     ensures packets { IfOk result (λ packets. packets ≡ packets_of p.now port) }
-    ensures few { IfOk result (λ packets. length packets ≤ most_records) }
+    ensures bounded { IfOk result (λ packets. length packets ≤ most_records) }
 {
     let mut packets = Packets::new(alloc);
     for item in p.records.as_slice() {
@@ -47,7 +47,7 @@ fn record_at(alloc: Global, second: u32, bytes: &[u8]) -> Result<Record, NoMemor
 
 // A record for each of these packets.
 fn records_of(alloc: Global, packets: &[Packet]) -> Result<Records, NoMemory>
-    requires few { length packets.now ≤ most_records }
+    requires few_records { length packets.now ≤ most_records }
     requires arrivals { AreArrivals packets.now }
     ensures { IfOk result (λ records. records ≡ records_from 0 packets.now) }
 {

@@ -36,7 +36,7 @@ use Rattle.replay_contracts.specs.Inputs.{Inputs, IsReady, code_for, setup_for, 
 use Rattle.replay_contracts.proofs.Asked.{asked_stage_up, asked_stage_down}
 use Rattle.replay_contracts.proofs.OnSwitch.{OnList}
 use Rattle.replay_contracts.proofs.PassingOn.{Kept, Rests, around}
-use Rattle.replay_contracts.proofs.Turns.{Around, Enters, less}
+use Rattle.replay_contracts.proofs.PassMoves.{Around, Enters, less}
 use Rattle.run_model.proofs.Members.{get_member}
 use Rattle.replay_state.proofs.Answered.{up_stays}
 use Rattle.replay_state.proofs.Laws.{a_run_is_answered_by_its_calls-fresh_down, a_run_is_answered_by_its_calls-fresh_up}

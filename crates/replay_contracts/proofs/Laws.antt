@@ -33,14 +33,14 @@ use Rattle.run_model.specs.Serialises.{is_fast, is_passing}
 use Rattle.replay_state.specs.Program.{packet_at}
 use Rattle.replay_contracts.proofs.Determined.{numbered_each, same_calls, same_head}
 use Rattle.replay_contracts.proofs.Formed.{FormedFrame, frames_are}
-use Rattle.replay_contracts.proofs.Going.{few_calls, more_calls, next_told}
+use Rattle.replay_contracts.proofs.CallsOfEvent.{few_calls, more_calls, next_told}
 use Rattle.replay_contracts.proofs.KnowingOn.{K, asked_at_stage, comes, last_right, moves, stays}
 use Rattle.replay_contracts.proofs.OnSwitch.{none_on, of_state, to_state}
-use Rattle.replay_contracts.proofs.Passing.{one_formed}
+use Rattle.replay_contracts.proofs.PassesOfCall.{one_formed}
 use Rattle.replay_contracts.proofs.PassingOn.{Free, Kept, around, rests_step, turn_step}
-use Rattle.replay_contracts.proofs.Picking.{picks_next, some_too, state_append}
-use Rattle.replay_contracts.proofs.Reporting.{parts_same, seen_of, some_where}
-use Rattle.replay_contracts.proofs.Turns.{turn_all, turn_on}
+use Rattle.replay_contracts.proofs.DrainPicks.{picks_next, some_too, state_append}
+use Rattle.replay_contracts.proofs.SeenStore.{parts_same, seen_of, some_where}
+use Rattle.replay_contracts.proofs.PassMoves.{turn_all, turn_on}
 use Rattle.replay_contracts.specs.Called.{IsFormed, WasCalled, journal_of}
 use Rattle.replay_contracts.specs.Inputs.{Inputs, IsReady, code_for, setup_for, whole, whole_runs}
 use Rattle.replay_contracts.specs.Promise.{Promises, Reports, state_for}

@@ -1,13 +1,13 @@
-pub mod Going
-mod Picking
-mod Reporting
+pub mod CallsOfEvent
+mod DrainPicks
+mod SeenStore
 mod Determined
 mod Formed
 pub mod Calls
 pub mod Asked
 mod OnSwitch
-mod Passing
+mod PassesOfCall
 mod PassingOn
-mod Turns
+mod PassMoves
 pub mod KnowingOn
 pub mod Laws

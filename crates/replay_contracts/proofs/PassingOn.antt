@@ -34,7 +34,7 @@ use Rattle.replay_contracts.proofs.Asked.{asked_up, asked_stage_up, asked_down, 
 use Rattle.replay_state.proofs.AtOnce.{ended_passes, go_passes, served_passes}
 use Rattle.transfer_header.proofs.Laws.{frames_are_told_by_place-parts}
 use Rattle.replay_contracts.proofs.OnSwitch.{OnList, Others, all_same, get_push_old}
-use Rattle.replay_contracts.proofs.Turns.{Around, Enters, Turn, Stay, Come, Move, End, less}
+use Rattle.replay_contracts.proofs.PassMoves.{Around, Enters, PassMove, Stay, Come, Move, End, less}
 use Rattle.lemmas.proofs.Lists.{get_set_other, get_within}
 
 -- ## What the calls leave
@@ -151,7 +151,7 @@ module _ (g : Around) where
   -- a pass enters
   enters : (free : ℕ → Type 0) (Q : Pass → Type 0) (xs : List Pass) (p : Pass) (u w : UnderWay) (IsNew : PassState → Type 0) → ((i : ℕ) (r : Pass) → slice_get xs i ≡ Some r → free i)
       → Left p.pre p.number u w (eqb p.left 0) IsNew → passes_of p.pre u p.number ≡ None → p.left ≡ highest_of p.pre g.setup → p.bit ≡ g.bit → p.version ≡ g.version → (eqb p.left 0 ≡ false → Q p)
-      → ((own : PassState) → 0 < p.left → IsNew own → Enters g p own) → Turn g free Q xs (if p.left == 0 then xs else xs ++ p ∷ []) u w
+      → ((own : PassState) → 0 < p.left → IsNew own → Enters g p own) → PassMove g free Q xs (if p.left == 0 then xs else xs ++ p ∷ []) u w
   enters free Q xs p u w IsNew all left none full bit version q news = elim (cases_Bool (eqb p.left 0)) [
     | inl t ↦ rw t (Stay all refl (all_same g.setup g.packets p.pre p.number u w left.others (left.gone t ∙ sym none)))
     | inr t ↦ let found = left.new t in
@@ -164,7 +164,7 @@ module _ (g : Around) where
 
   -- the pass at place j takes a stage
   goes_on : (Q : Pass → Type 0) (xs : List Pass) (j : ℕ) (p : Pass) (u w : UnderWay) (own : PassState) → slice_get xs j ≡ Some p → passes_of p.pre u p.number ≡ Some own → (leb p.left 1 ≡ false → Q p)
-      → Left p.pre p.number u w (leb p.left 1) (HasGoneOn (staging p.pre g.code) g.tables own) → Turn g (λ i. i ≡ j → ⊥) Q xs (if nat_le p.left 1 then remove xs j else set xs j (less p)) u w
+      → Left p.pre p.number u w (leb p.left 1) (HasGoneOn (staging p.pre g.code) g.tables own) → PassMove g (λ i. i ≡ j → ⊥) Q xs (if nat_le p.left 1 then remove xs j else set xs j (less p)) u w
   goes_on Q xs j p u w own here there q left = elim (cases_Bool (leb p.left 1)) [
     | inl t ↦ rw t (End j (λ i d. d) p here refl left.others (left.gone t))
     | inr t ↦ let found = left.new t in
@@ -183,8 +183,8 @@ abbrev pub around : Setup → SplitProgram → List Packet → List Call → Cod
 around setup s packets calls code st old =
     record { setup = setup; packets = packets; code = code; tables = old.told; frame = down_frame s calls st; bit = bit_behind st.batches st.done; version = seen st }
 
-abbrev pub Turns : Around → State → PortState → PortState → Event → State → Type 0
-Turns g st old new event next = Turn g (Free event) (Kept st next) st.passes next.passes old.passes new.passes
+abbrev pub EventMoves : Around → State → PortState → PortState → Event → State → Type 0
+EventMoves g st old new event next = PassMove g (Free event) (Kept st next) st.passes next.passes old.passes new.passes
 
 module _ (setup : Setup) (s : SplitProgram) (packets : List Packet) (calls one : List Call) (a : Answers) (code : Code) (st : State) (old new : PortState)
     (plain : setup.fine ≡ false → (setup.pre_stages ≡ 0) × (setup.post_stages ≡ 0))
@@ -195,26 +195,26 @@ module _ (setup : Setup) (s : SplitProgram) (packets : List Packet) (calls one :
   abbrev g : Around
   g = around setup s packets calls code st old
 
-  abbrev Does : Event → State → Type 0
-  Does event next = Turns g st old new event next
+  abbrev MovesTo : Event → State → Type 0
+  MovesTo event next = EventMoves g st old new event next
 
-  kept_so : (free : ℕ → Type 0) (Q : Pass → Type 0) (mid : PortState) (ys : List Pass) → KeepsCalls mid new → Turn g free Q st.passes ys old.passes mid.passes → Turn g free Q st.passes ys old.passes new.passes
-  kept_so free Q mid ys kept h = subst (Turn g free Q st.passes ys old.passes) (sym kept.passes) h
+  kept_so : (free : ℕ → Type 0) (Q : Pass → Type 0) (mid : PortState) (ys : List Pass) → KeepsCalls mid new → PassMove g free Q st.passes ys old.passes mid.passes → PassMove g free Q st.passes ys old.passes new.passes
+  kept_so free Q mid ys kept h = subst (PassMove g free Q st.passes ys old.passes) (sym kept.passes) h
 
   -- a call that leaves all passes
-  left_all : (free : ℕ → Type 0) (Q : Pass → Type 0) (mid : PortState) → ((i : ℕ) (r : Pass) → slice_get st.passes i ≡ Some r → free i) → mid.passes ≡ old.passes → Turn g free Q st.passes st.passes old.passes mid.passes
+  left_all : (free : ℕ → Type 0) (Q : Pass → Type 0) (mid : PortState) → ((i : ℕ) (r : Pass) → slice_get st.passes i ≡ Some r → free i) → mid.passes ≡ old.passes → PassMove g free Q st.passes st.passes old.passes mid.passes
   left_all free Q mid all same = Stay all refl (λ k m. ap (λ (u : UnderWay). passes_of k u m) same)
 
   -- a pass that ends at its entry
-  at_once : (free : ℕ → Type 0) (Q : Pass → Type 0) (mid : PortState) (left : ℕ) (ys : List Pass) → left ≡ 0 → Turn g free Q st.passes st.passes old.passes mid.passes
-      → Turn g free Q st.passes (if left == 0 then st.passes else ys) old.passes mid.passes
-  at_once free Q mid left ys none h = subst (λ k. Turn g free Q st.passes (if k == 0 then st.passes else ys) old.passes mid.passes) (sym none) h
+  at_once : (free : ℕ → Type 0) (Q : Pass → Type 0) (mid : PortState) (left : ℕ) (ys : List Pass) → left ≡ 0 → PassMove g free Q st.passes st.passes old.passes mid.passes
+      → PassMove g free Q st.passes (if left == 0 then st.passes else ys) old.passes mid.passes
+  at_once free Q mid left ys none h = subst (λ k. PassMove g free Q st.passes (if k == 0 then st.passes else ys) old.passes mid.passes) (sym none) h
 
   -- no call
-  no_call : (free : ℕ → Type 0) (Q : Pass → Type 0) → ((i : ℕ) (r : Pass) → slice_get st.passes i ≡ Some r → free i) → one ≡ [] → Turn g free Q st.passes st.passes old.passes new.passes
+  no_call : (free : ℕ → Type 0) (Q : Pass → Type 0) → ((i : ℕ) (r : Pass) → slice_get st.passes i ≡ Some r → free i) → one ≡ [] → PassMove g free Q st.passes st.passes old.passes new.passes
   no_call free Q all e = left_all free Q new all (subst (λ cs. WasCalled code cs old new) e called).passes
 
-  turn_admit : map question_of one ≡ asks setup s packets calls st Admit → Does Admit (happens setup a w Admit)
+  turn_admit : map question_of one ≡ asks setup s packets calls st Admit → MovesTo Admit (happens setup a w Admit)
   turn_admit e =
       let n = length st.progress in
       let packet = packet_at packets n in
@@ -227,7 +227,7 @@ module _ (setup : Setup) (s : SplitProgram) (packets : List Packet) (calls one :
       let xs = if setup.pre_stages == 0 then st.passes else st.passes ++ p ∷ [] in
       let Q : Pass → Type 0 = Kept st next in
       let q : Q p = (same.stores, λ behind. absurd (true≢false behind)) in
-      subst (λ l. Turn g (Free Admit) Q st.passes l old.passes new.passes) (sym (passes_entered setup a (came w) p))
+      subst (λ l. PassMove g (Free Admit) Q st.passes l old.passes new.passes) (sym (passes_entered setup a (came w) p))
       (kept_so (Free Admit) Q mid xs made.3 (elim (cases_Bool setup.fine) [
         | inl t ↦ let begun = subst (λ b. WasMade (CalledUp b n packet u.answer) old mid) t made.2 in
             let IsNew : PassState → Type 0 = HasEntered (pre_staging code) IsNothing packet old.told in
@@ -238,7 +238,7 @@ module _ (setup : Setup) (s : SplitProgram) (packets : List Packet) (calls one :
             at_once (Free Admit) Q mid setup.pre_stages (st.passes ++ p ∷ []) (plain t).0 (left_all (Free Admit) Q mid (λ i r at. tt) passed.kept.passes)
       ]))
 
-  turn_stage : (j : ℕ) (p : Pass) → slice_get st.passes j ≡ Some p → map question_of one ≡ asks_stage (slice_get st.passes j) → Does (Stage j) (happens setup a w (Stage j))
+  turn_stage : (j : ℕ) (p : Pass) → slice_get st.passes j ≡ Some p → map question_of one ≡ asks_stage (slice_get st.passes j) → MovesTo (Stage j) (happens setup a w (Stage j))
   turn_stage j p here e =
       let xs = if nat_le p.left 1 then remove st.passes j else set st.passes j (less p) in
       let asked_so = e ∙ ap asks_stage here in
@@ -251,7 +251,7 @@ module _ (setup : Setup) (s : SplitProgram) (packets : List Packet) (calls one :
         ap (λ (v : State). v.stores) is_next ∙ same.stores,
         λ behind. ap (λ (v : State). slice_get v.progress p.number) is_next ∙ same.progress p.number (λ t d. true≢false (sym t ∙ more)),
       ) in
-      subst (λ l. Turn g (Free (Stage j)) Q st.passes l old.passes new.passes) (sym (ap (λ (v : State). v.passes) is_next ∙ passes_staged setup a w j p))
+      subst (λ l. PassMove g (Free (Stage j)) Q st.passes l old.passes new.passes) (sym (ap (λ (v : State). v.passes) is_next ∙ passes_staged setup a w j p))
       (elim (cases_Bool p.pre) [
         | inl t ↦ let call = asked_stage_up one p.number (leb p.left 1) (rw t at asked_so) in
             let made = subst (λ cs. WasCalled code cs old new) call.is called in
@@ -267,7 +267,7 @@ module _ (setup : Setup) (s : SplitProgram) (packets : List Packet) (calls one :
             kept_so (Free (Stage j)) Q made.0 xs made.3 (goes_on g Q st.passes j p old.passes made.0.passes is.own here is.there q left)
       ])
 
-  turn_down : (j n : ℕ) → slice_get st.down j ≡ Some n → map question_of one ≡ asks_down setup s calls st (slice_get st.down j) → Does (Down j) (happens setup a w (Down j))
+  turn_down : (j n : ℕ) → slice_get st.down j ≡ Some n → map question_of one ≡ asks_down setup s calls st (slice_get st.down j) → MovesTo (Down j) (happens setup a w (Down j))
   turn_down j n here e =
       let frame = down_frame s calls st n in
       let p = pass_of w false n setup.post_stages in
@@ -285,7 +285,7 @@ module _ (setup : Setup) (s : SplitProgram) (packets : List Packet) (calls one :
         ap (λ (v : State). v.stores) is_next ∙ same.stores,
         λ behind. ap (λ (v : State). slice_get v.progress n) is_next ∙ same.progress n (λ t d. true≢false (sym t ∙ more)),
       ) in
-      subst (λ l. Turn g (Free (Down j)) Q st.passes l old.passes new.passes)
+      subst (λ l. PassMove g (Free (Down j)) Q st.passes l old.passes new.passes)
       (sym (ap (λ (v : State). v.passes) is_next ∙ passes_entered setup a (record w { down = remove w.down j }) p))
       (kept_so (Free (Down j)) Q mid xs made.3 (elim (cases_Bool setup.fine) [
         | inl t ↦ let begun = subst (λ b. WasMade (CalledDown b n frame call.answer) old mid) t made.2 in
@@ -301,19 +301,19 @@ module _ (setup : Setup) (s : SplitProgram) (packets : List Packet) (calls one :
             at_once (Free (Down j)) Q mid setup.post_stages (st.passes ++ p ∷ []) (plain t).1 (left_all (Free (Down j)) Q mid (λ i r at. tt) passed.kept.passes)
       ]))
 
-  turn_apply : map question_of one ≡ asks_command (slice_get (commands_in st.batches) st.done) → Does Apply (happens setup a w Apply)
+  turn_apply : map question_of one ≡ asks_command (slice_get (commands_in st.batches) st.done) → MovesTo Apply (happens setup a w Apply)
   turn_apply e = by_command (slice_get (commands_in st.batches) st.done) e
     where
-      by_command : (o : Option Command) → map question_of one ≡ asks_command o → Does Apply (happens setup a w Apply)
+      by_command : (o : Option Command) → map question_of one ≡ asks_command o → MovesTo Apply (happens setup a w Apply)
       by_command None e = no_call (Free Apply) (Kept st (happens setup a w Apply)) (λ i r at. tt) (none_asked one e)
       by_command (Some c) e =
           let made = subst (λ cs. WasCalled code cs old new) (asked_command one c e) called in
           kept_so (Free Apply) (Kept st (happens setup a w Apply)) made.0 st.passes made.3 (left_all (Free Apply) (Kept st (happens setup a w Apply)) made.0 (λ i r at. tt) made.2.passes)
 
-  alone : (event : Event) (next : State) → ((i : ℕ) (r : Pass) → slice_get st.passes i ≡ Some r → Free event i) → next.passes ≡ st.passes → one ≡ [] → Does event next
-  alone event next all same e = subst (λ l. Turn g (Free event) (Kept st next) st.passes l old.passes new.passes) (sym same) (no_call (Free event) (Kept st next) all e)
+  alone : (event : Event) (next : State) → ((i : ℕ) (r : Pass) → slice_get st.passes i ≡ Some r → Free event i) → next.passes ≡ st.passes → one ≡ [] → MovesTo event next
+  alone event next all same e = subst (λ l. PassMove g (Free event) (Kept st next) st.passes l old.passes new.passes) (sym same) (no_call (Free event) (Kept st next) all e)
 
-  turn_happens : (event : Event) → applies setup st event ≡ true → map question_of one ≡ asks setup s packets calls st event → Does event (happens setup a w event)
+  turn_happens : (event : Event) → applies setup st event ≡ true → map question_of one ≡ asks setup s packets calls st event → MovesTo event (happens setup a w event)
   turn_happens Admit t e = turn_admit e
   turn_happens (Stage j) t e = let p = get_within st.passes j (ltb-true j (length st.passes) t) in turn_stage j p.0 p.1 e
   turn_happens (Serve j) t e = alone (Serve j) (happens setup a w (Serve j)) (λ i r at. tt) (served_passes setup a w j (slice_get st.up j)) (none_asked one e)
@@ -328,9 +328,9 @@ module _ (setup : Setup) (s : SplitProgram) (packets : List Packet) (calls one :
   all_free (Stage j) t i r at = λ e. let past = ltb-false j (length st.passes) t in let within = slice_get_within st.passes i r at in omega arith
   all_free event t i r at = tt
 
-  pub turn_step : (event : Event) → map question_of one ≡ asked setup s packets calls st event → Does event (step setup a st event)
+  pub turn_step : (event : Event) → map question_of one ≡ asked setup s packets calls st event → MovesTo event (step setup a st event)
   turn_step event e = elim (cases_Bool (applies setup st event)) [
-    | inl t ↦ let is : happens setup a w event ≡ step setup a st event = rw t refl in subst (Does event) is (turn_happens event t (rw t at e))
+    | inl t ↦ let is : happens setup a w event ≡ step setup a st event = rw t refl in subst (MovesTo event) is (turn_happens event t (rw t at e))
     | inr t ↦ alone event (step setup a st event) (all_free event t) (rw t refl) (none_asked one (rw t at e))
   ]
 

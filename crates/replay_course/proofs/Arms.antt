@@ -39,18 +39,18 @@ use Rattle.replay_course.specs.declared.course.Course.{Course}
 use Rattle.replay_course.specs.Going.{FitsDown, FitsUp, HasAdvanced, CanGoOn, IsSound, IsUpPassOf, IsDownPassOf, TakesDown, TakesOneMore, TakesUp, came_to, less_one, pass_for, unapplied}
 use Rattle.replay_course.specs.Idle.{finds_nothing}
 use Rattle.replay_course.specs.Shown.{IsShown}
-use Rattle.replay_course.proofs.Calling.{keeps_all}
-use Rattle.replay_course.proofs.Counting.{before_server, each_set, remove_at_most, remove_before, set_count}
+use Rattle.replay_course.proofs.ToldByCalls.{keeps_all}
+use Rattle.replay_course.proofs.PassCounts.{before_server, each_set, remove_at_most, remove_before, set_count}
 use Rattle.replay_course.proofs.Lists.{each_remove, get_member, get_removed}
-use Rattle.replay_course.proofs.Showing.{down_at, moved_shown, number_of}
-use Rattle.replay_course.proofs.Sounding.{FramedDown, HasLeft, makes_room, taken_sound}
+use Rattle.replay_course.proofs.ShownOutputs.{down_at, moved_shown, number_of}
+use Rattle.replay_course.proofs.SoundCourse.{FramedDown, HasLeft, makes_room, taken_sound}
 use Rattle.replay_course.proofs.Costs.{one_less_undecided}
-use Rattle.replay_course.proofs.Travelling.{pass_is, passes_shown}
-use Rattle.replay_course.proofs.Turning.{answers_down, answers_up, call_turned, came_is, carried_down, carried_passes, down_call, fates_count, have_gone, have_places, idle_turned, placed_after, quiet_turned, stage_down_call, stage_up_call, up_call}
+use Rattle.replay_course.proofs.ShownPasses.{pass_is, passes_shown}
+use Rattle.replay_course.proofs.EventsTaken.{answers_down, answers_up, call_turned, came_is, carried_down, carried_passes, down_call, fates_count, have_gone, have_places, idle_turned, placed_after, quiet_turned, stage_down_call, stage_up_call, up_call}
 use Rattle.lemmas.proofs.Lists.{each_got, get_past, get_pushed, map_remove}
 use Rattle.lemmas.proofs.Numbers.{le_trans, same_within}
 use Rattle.replay_contracts.proofs.KnowingOn.{answer_stays}
-use Rattle.replay_course.proofs.Draining.{map_length}
+use Rattle.replay_course.proofs.DrainEvents.{map_length}
 
 -- ## Events that can't apply
 

@@ -5,7 +5,7 @@ use Rattle.split_model.specs.Split.{post_stage, pre_stage}
 use Rattle.replay_contracts.specs.Inputs.{Inputs, setup_for}
 use Rattle.replay_course.specs.Going.{IsPrepared}
 use Rattle.lemmas.proofs.Tests.{if_within}
-use Rattle.switch_ir.proofs.Planning.{low_highest}
+use Rattle.switch_ir.proofs.PlannedPasses.{low_highest}
 
 pub commands_by : (n w : ℕ) → n ≤ 16384 → w ≤ 4096 → n * (3 * w + 2) < 2 ^ 32
 commands_by n w packets writes =

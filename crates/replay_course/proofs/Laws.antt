@@ -13,7 +13,7 @@ use Rattle.run_model.specs.Sizes.{most_packets}
 use Rattle.run_model.specs.declared.event.Event.{Event}
 use Rattle.split_answers.specs.Whole.{IsSplit}
 use Rattle.switch_ir.specs.Port.{PortState}
-use Rattle.replay_course.proofs.Draining.{left_is}
+use Rattle.replay_course.proofs.DrainEvents.{left_is}
 use Rattle.replay_course.proofs.Few.{commands_by, events_by, few_post, few_pre}
 use Rattle.replay_course.proofs.Room.{is_split_program, may_call}
 use Rattle.replay_course.proofs.Serves.{few_writes}

@@ -32,8 +32,8 @@ use Rattle.replay_course.specs.declared.course.Course.{Course}
 use Rattle.replay_course.specs.Going.{CanGoOn, MayCall, ready_next, unless_waits}
 use Rattle.replay_course.specs.Shown.{IsShown}
 use Rattle.replay_course.proofs.Lists.{get_member}
-use Rattle.replay_course.proofs.Showing.{down_at}
-use Rattle.replay_course.proofs.Turning.{have_gone, have_places, next_at, next_named}
+use Rattle.replay_course.proofs.ShownOutputs.{down_at}
+use Rattle.replay_course.proofs.EventsTaken.{have_gone, have_places, next_at, next_named}
 use Rattle.lemmas.proofs.Lists.{get_past}
 
 pub is_split_program : (x : Inputs) → IsReady x → IsSplitProgram (whole x) x.packets

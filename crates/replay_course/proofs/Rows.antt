@@ -16,7 +16,7 @@ use Rattle.replay_contracts.specs.Called.{KeepsCalls, calls_in, is_of_replay}
 use Rattle.replay_contracts.specs.Inputs.{Inputs, code_for}
 use Rattle.replay_contracts.specs.Promise.{told_parts}
 use Rattle.replay_course.specs.Telling.{ShowsParts}
-use Rattle.replay_course.proofs.Failing.{keeps_more}
+use Rattle.replay_course.proofs.LeftByErrors.{keeps_more}
 
 -- the rows of the objects below a number were found, and those behind it are to come
 pub record IsShowing (x : Inputs) (n : ℕ) (parts : List ObjectRows) (first port : PortState) : Type 0 where

@@ -30,9 +30,9 @@ use Rattle.replay_course.specs.Going.{HasAdvanced, CanGoOn, IsSound, MadeRoom, m
 use Rattle.std.proofs.lemmas.List.Edits.{length-remove}
 use Rattle.replay_course.proofs.Lists.{each_remove}
 use Rattle.replay_course.proofs.Costs.{commands_served, one_more_times, spare_served, still_within, undecided_served}
-use Rattle.replay_course.proofs.Sounding.{FramedHeld, FramedUp, Needs}
-use Rattle.replay_course.proofs.Travelling.{HasRun, serve_shown}
-use Rattle.replay_course.proofs.Turning.{have_places, quiet_turned}
+use Rattle.replay_course.proofs.SoundCourse.{FramedHeld, FramedUp, Needs}
+use Rattle.replay_course.proofs.ShownPasses.{HasRun, serve_shown}
+use Rattle.replay_course.proofs.EventsTaken.{have_places, quiet_turned}
 use Rattle.replay_course.proofs.Versions.{batch_count, before_next, changes_more, length_more, version_more, version_next}
 use Rattle.split_answers.proofs.Laws.{replicated_objects_are_declared-updates}
 use Rattle.lemmas.proofs.Lists.{each_append, each_got, each_pushed, each_weaker, length_slice_set}

@@ -12,8 +12,8 @@ use Rattle.replay_course.specs.declared.course.Course.{Course}
 use Rattle.replay_state.specs.declared.pass.Pass.{Pass}
 use Rattle.replay_course.specs.Going.{IsSound, unless_waits}
 use Rattle.output_commit.proofs.Laws.{a_batch_takes_up_others}
-use Rattle.replay_course.proofs.Showing.{goes, next_goes}
-use Rattle.replay_course.proofs.Sounding.{hold_sound}
+use Rattle.replay_course.proofs.ShownOutputs.{goes, next_goes}
+use Rattle.replay_course.proofs.SoundCourse.{hold_sound}
 
 abbrev pub left_of : Commit → ℕ
 left_of k = length (commands k) - k.done

@@ -10,8 +10,8 @@ use Rattle.output_commit.specs.Laws.{changes_in, versions_in}
 use Rattle.std.proofs.lemmas.List.{length-map}
 use Rattle.lemmas.proofs.Lists.{take_past}
 use Rattle.output_commit.proofs.Calls.{changes_one}
-use Rattle.output_commit.proofs.Merging.{push_changes, push_commands, push_versions}
-use Rattle.output_commit.proofs.Seeing.{versions_from}
+use Rattle.output_commit.proofs.MergedBatches.{push_changes, push_commands, push_versions}
+use Rattle.output_commit.proofs.VisibleVersions.{versions_from}
 use Rattle.writeback_table.proofs.Histories.{batch_ons, ons_append}
 
 -- ---- each batch makes one version

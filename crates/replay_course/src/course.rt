@@ -125,7 +125,7 @@ impl Course {
     /// The next packet is admitted. The answer is the pass with which it enters.
     pub fn admit_next(&mut self) -> Result<Pass, NoMemory>
         requires events { self.old.events < 2 ^ 32 - 1 }
-        requires few { length self.old.fates.items < 2 ^ 32 }
+        requires few_fates { length self.old.fates.items < 2 ^ 32 }
         ensures pass { IfOk result (λ pass. pass ≡ pass_for self.old true (length self.old.fates.items)) }
         ensures shown { OnOk result ((s : SplitProgram) (calls : List Call) (st : State)
             → IsShown s calls st self.old → IsShown s calls (came (tick st)) self.new) }
@@ -292,7 +292,7 @@ impl Course {
     }
 
     /// The output at place `j` of those that wait goes, if its version is known to be visible.
-    pub fn hold(&mut self, j: u32) -> Result<Stepped, NoMemory>
+    pub fn release(&mut self, j: u32) -> Result<Stepped, NoMemory>
         requires events { self.old.events < 2 ^ 32 - 1 }
         requires idle { self.old.idle ≤ self.old.events }
         ensures stepped { IfOk result (λ stepped. (s : SplitProgram) (setup : Setup) (calls : List Call) (st : State)

@@ -60,7 +60,7 @@ impl Course {
         job: &Job,
         port: &mut S,
     ) -> Result<(), ReplayError>
-        requires few { length job.now.events < 2 ^ 32 - 1 }
+        requires few_events { length job.now.events < 2 ^ 32 - 1 }
         requires started { HasReplayed (inputs_of job.now) [] self.old (S.seen port.old) }
         ensures gone { OnOk result
             (HasReplayedFrom (inputs_of job.now) job.now.events self.new (S.seen port.old) (S.seen port.new)) }
@@ -81,7 +81,7 @@ impl Course {
         port: &mut S,
     ) -> Result<u32, ReplayError>
         requires on_its_way { HasReplayedSome (inputs_of job.now) self.old (S.seen port.old) }
-        requires few { self.old.events + course_left (inputs_of job.now) self.old < 2 ^ 32 - 1 }
+        requires few_events { self.old.events + course_left (inputs_of job.now) self.old < 2 ^ 32 - 1 }
         ensures drained { IfOk result (λ count.
             Drains (inputs_of job.now) count self.old (S.seen port.old) self.new (S.seen port.new)) }
         ensures left { IfOk result (λ count.

@@ -67,7 +67,7 @@ impl PassQueue {
     }
 
     /// One more pass, behind the others.
-    #[tactic(auto, using(crate::proofs::Counting::push_bit, crate::proofs::Counting::with_bit_within))]
+    #[tactic(auto, using(crate::proofs::PassCounts::push_bit, crate::proofs::PassCounts::with_bit_within))]
     pub fn push(&mut self, pass: Pass) -> Result<(), NoMemory>
         ensures ok { OnOk result (self.new ≡ self.old ++ pass ∷ []) }
         ensures err { OnErr result (self.new ≡ self.old) }
@@ -78,7 +78,7 @@ impl PassQueue {
     }
 
     /// The pass at place `j` goes, if there is one. The others keep their order.
-    #[tactic(auto, using(crate::proofs::Counting::remove_bit, crate::proofs::Lists::remove_past))]
+    #[tactic(auto, using(crate::proofs::PassCounts::remove_bit, crate::proofs::Lists::remove_past))]
     pub fn remove(&mut self, j: usize) -> Option<Pass>
         ensures pass { result ≡ slice_get self.old j }
         ensures others { self.new ≡ remove self.old j }
@@ -89,10 +89,10 @@ impl PassQueue {
     }
 
     /// The pass at place `j`, which is this one, has one stage less left.
-    #[tactic(auto, using(crate::proofs::Counting::set_bit, std::proofs::lemmas::Option::slice_get_within))]
+    #[tactic(auto, using(crate::proofs::PassCounts::set_bit, std::proofs::lemmas::Option::slice_get_within))]
     pub fn take_stage(&mut self, j: usize, pass: Pass)
-        requires there { slice_get self.old j ≡ Some pass }
-        requires some { 0 < pass.left }
+        requires has_pass { slice_get self.old j ≡ Some pass }
+        requires stages_left { 0 < pass.left }
         ensures { self.new ≡ slice_set self.old j (less_one pass) }
     {
         let mut less = pass;

@@ -60,7 +60,7 @@ impl Course {
     fn run(&self, alloc: Global, job: &Job, switch: StoreRows) -> Result<Run, NoMemory>
         requires split { IsSplit (program_of job.now.flat) job.now.split job.now.writeback }
         requires few_packets { length job.now.packets < 2 ^ 32 }
-        requires few { length self.now.fates.items < 2 ^ 32 }
+        requires few_fates { length self.now.fates.items < 2 ^ 32 }
         ensures { IfOk result (λ run. run ≡ told_run (inputs_of job.now) self.now switch) }
     {
         let objects = StoreRows::of(alloc, job.flat.objects.as_slice(), self.server.store())?;
@@ -86,7 +86,7 @@ impl Course {
     fn into_run(self, alloc: Global, job: &Job, switch: StoreRows) -> Result<Run, NoMemory>
         requires split { IsSplit (program_of job.now.flat) job.now.split job.now.writeback }
         requires few_packets { length job.now.packets < 2 ^ 32 }
-        requires few { length self.fates.items < 2 ^ 32 }
+        requires few_fates { length self.fates.items < 2 ^ 32 }
         ensures { IfOk result (λ run. run ≡ told_run (inputs_of job.now) self switch) }
     {
         let objects = StoreRows::of(alloc, job.flat.objects.as_slice(), self.server.store())?;

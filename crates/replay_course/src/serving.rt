@@ -42,7 +42,7 @@ fn reserve<S: SwitchPort>(
     port: &mut S,
 ) -> Result<(), ReplayError>
     requires loaded { IsLoaded (S.seen port.old) }
-    requires few { length updates.now ≤ 4096 }
+    requires few_updates { length updates.now ≤ 4096 }
     requires spare { length (commands commit.now) - commit.now.done ≤ (S.seen port.old).spare }
     ensures room { OnOk result (MadeRoom (length (commands commit.now) - commit.now.done + length (commands_in (batch_of updates.now)))
         (S.seen port.old) (S.seen port.new)) }

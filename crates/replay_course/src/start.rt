@@ -40,7 +40,7 @@ impl Course {
         requires split { IsSplit (program_of job.now.flat) job.now.split job.now.writeback }
         requires stages { HasFewStages job.now.split }
         requires writeback { job.now.writeback ≤ 65536 }
-        requires few { length job.now.packets * most_commands (inputs_of job.now) < 2 ^ 32 }
+        requires few_commands { length job.now.packets * most_commands (inputs_of job.now) < 2 ^ 32 }
         ensures started { IfOk result (λ course.
             HasReplayedFrom (inputs_of job.now) [] course (S.seen port.old) (S.seen port.new)) }
         ensures loads { OnOk result
@@ -49,6 +49,7 @@ impl Course {
         ensures fault { IfErr result (λ e. CountsFault e (S.seen port.old) (S.seen port.new)) }
         ensures fails { IfErr result (λ e. HasBroken (inputs_of job.now) e (S.seen port.old) (S.seen port.new)) }
     {
+        // The list tells the proof that each of its packets may arrive.
         let _ = job.packets.as_slice();
         let code = emit(alloc, &job.flat, &job.split, job.writeback)?;
         port.load(alloc, &code)?;

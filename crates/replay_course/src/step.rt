@@ -51,7 +51,7 @@ impl Course {
             Event::Send => Ok(self.send()),
             Event::Apply => self.apply(job, port),
             Event::Ack => Ok(self.acknowledge()),
-            Event::Hold(j) => Ok(self.hold(j)?),
+            Event::Hold(j) => Ok(self.release(j)?),
             Event::Down(j) => self.down(alloc, job, port, j),
         }
     }

@@ -5,7 +5,7 @@ use Rattle.std.specs.Prelude.{◌==◌, nat_le, if◌then◌else◌}
 use Rattle.writeback_table.specs.declared.command.Update.{Update}
 use Rattle.writeback_table.specs.Commands.{commands_of, ons, versions}
 use Rattle.output_commit.specs.Batches.{Batch, commands_in, merged, take_up, versions_at, visible}
-use Rattle.output_commit.proofs.Seeing.{versions_from, versions_none}
+use Rattle.output_commit.proofs.VisibleVersions.{versions_from, versions_none}
 
 -- how many versions batches make
 abbrev pub total : List Batch → ℕ

@@ -23,9 +23,9 @@ use Rattle.replay_state.specs.Journal.{HasGoneUp, Question, AsksUp, AsksStageUp,
 use Rattle.replay_state.proofs.Order.{member_left, member_right}
 use Rattle.replay_state.specs.Carried.{Carried}
 use Rattle.replay_state.proofs.Carried.{EndsWell, carried_step, carried_first}
-use Rattle.replay_state.proofs.Asking.{KnownDown, KnownUp, ending, known_down, known_up}
+use Rattle.replay_state.proofs.EndedPasses.{KnownDown, KnownUp, ending, known_down, known_up}
 use Rattle.replay_state.proofs.Gone.{sent_up}
-use Rattle.replay_state.proofs.Agreeing.{step_alike}
+use Rattle.replay_state.proofs.AlikeAnswers.{step_alike}
 use Rattle.replay_state.proofs.Steps.{steps_append}
 
 -- ---- answers stay where more calls come

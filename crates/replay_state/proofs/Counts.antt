@@ -5,7 +5,7 @@ use Rattle.state_store.specs.Store.{Store}
 use Rattle.writeback_table.specs.Commands.{commands_of}
 use Rattle.output_commit.specs.Batches.{Batch, commands_in}
 use Rattle.output_commit.specs.Laws.{versions_in}
-use Rattle.output_commit.proofs.Merging.{push_commands}
+use Rattle.output_commit.proofs.MergedBatches.{push_commands}
 use Rattle.writeback_table.proofs.Ons.{length_batch}
 use Rattle.replay_state.specs.State.{State}
 

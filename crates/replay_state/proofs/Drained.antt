@@ -19,7 +19,7 @@ use Rattle.replay_state.proofs.Fates.{held_fate, in_held}
 use Rattle.replay_state.proofs.Effects.{Consistent}
 use Rattle.replay_state.proofs.EveryState.{EveryState, every_first, every_step}
 use Rattle.replay_state.proofs.Serialised.{quiet_parts}
-use Rattle.replay_state.proofs.Draining.{lowers, cost_steps}
+use Rattle.replay_state.proofs.DrainBound.{lowers, cost_steps}
 use Rattle.lemmas.proofs.Lists.{get_within}
 use Rattle.lemmas.proofs.Tests.{true_not_false}
 use Rattle.std.proofs.lemmas.List.{nil_from_length}

@@ -19,8 +19,8 @@ use Rattle.replay_state.proofs.Fates.{pass_mark, up_mark, held_mark, in_first, i
 use Rattle.replay_state.proofs.Steps.{let_in, let_down, finished_at, up_at, out_at, moved_at, run_at, go_at, sent_one, applied_one, acked_one, counts_sent}
 use Rattle.lemmas.proofs.Lists.{get_before_pushed, get_past, get_set_same}
 use Rattle.lemmas.proofs.Tests.{true_not_false}
-use Rattle.output_commit.proofs.Merging.{is_merged}
-use Rattle.output_commit.proofs.Seeing.{visible_more}
+use Rattle.output_commit.proofs.MergedBatches.{is_merged}
+use Rattle.output_commit.proofs.VisibleVersions.{visible_more}
 
 pub record Consistent (w : State) : Type 0 where
   pub counts : AreCounted w

@@ -10,7 +10,7 @@ use Rattle.output_commit.specs.Batches.{Batch}
 use Rattle.replay_state.specs.State.{State, Progress, Entered, seen, first_state}
 use Rattle.replay_state.specs.Step.{idled, state_of, step, steps, tick}
 use Rattle.replay_state.specs.Step.{finished, went_up, released, decided}
-use Rattle.output_commit.proofs.Seeing.{visible_front}
+use Rattle.output_commit.proofs.VisibleVersions.{visible_front}
 use Rattle.replay_state.proofs.Effects.{Consistent, consistent_tick, consistent_idled, consistent_sent, consistent_applied, consistent_acked, consistent_moved, consistent_let_in, consistent_finished, consistent_sent_up, consistent_came_down, consistent_let_go, consistent_let_down, consistent_run}
 use Rattle.replay_state.proofs.Walk.{Closed, closed_step, ends_any, leads_steps}
 use Rattle.replay_state.proofs.Steps.{counts_seen}

@@ -16,11 +16,11 @@ use Rattle.writeback_table.specs.Batches.{count_of}
 use Rattle.writeback_table.specs.Commands.{ons}
 use Rattle.writeback_table.specs.declared.command.Update.{Update}
 use Rattle.replay_state.proofs.Applied.{counted_so}
-use Rattle.replay_state.proofs.Applying.{applied_step}
+use Rattle.replay_state.proofs.CommandsInOrder.{applied_step}
 use Rattle.replay_state.proofs.Drained.{cost_now, drained_has_none, none_is_drained, picked_are, picked_few, picks_all, picks_first, picks_within}
-use Rattle.replay_state.proofs.Draining.{cost_step, lowers}
+use Rattle.replay_state.proofs.DrainBound.{cost_step, lowers}
 use Rattle.replay_state.proofs.Effects.{shown_le}
-use Rattle.replay_state.proofs.Keeping.{kept_of}
+use Rattle.replay_state.proofs.InvariantKept.{kept_of}
 use Rattle.replay_state.proofs.Plain.{plain_sound}
 use Rattle.replay_state.proofs.Runs.{store_kept}
 use Rattle.replay_state.proofs.EveryState.{every_of, every_steps}
@@ -29,14 +29,14 @@ use Rattle.replay_state.proofs.Serialised.{complete_from, newest_from, quiet_par
 use Rattle.replay_state.proofs.Views.{keep_views}
 use Rattle.std.proofs.lemmas.Bool.{and_from, and_parts, cases_Bool, eqb-true, cases_eq}
 use Rattle.std.proofs.lemmas.List.{length-map}
-use Rattle.output_commit.proofs.Fitting.{few as fits_each, held_by}
+use Rattle.output_commit.proofs.FitsByCount.{few as fits_each, held_by}
 use Rattle.replay_state.proofs.Carried.{carried_first}
 use Rattle.replay_state.proofs.Fates.{at_first, at_last, at_up}
 use Rattle.run_model.proofs.Members.{get_member}
-use Rattle.replay_state.proofs.Agreeing.{step_alike}
+use Rattle.replay_state.proofs.AlikeAnswers.{step_alike}
 use Rattle.replay_state.proofs.Answered.{AllThere, all_asked, cover_steps, down_append, next_answered, picks_stay, questions_append, run_stays, there_parts, up_append}
 use Rattle.replay_state.proofs.AtOnce.{comes_out, fast_at_once, none_steps, slow_at_once}
-use Rattle.replay_state.proofs.Counting.{bit_counts, by_counts}
+use Rattle.replay_state.proofs.BitCounts.{bit_counts, by_counts}
 use Rattle.replay_state.proofs.Gone.{none_down, none_up, or_found}
 use Rattle.replay_state.proofs.Numbered.{down_numbered}
 use Rattle.replay_state.proofs.Once.{end_once}
@@ -44,7 +44,7 @@ use Rattle.replay_state.proofs.Placed.{comes_once, down_there, held_there, passe
 use Rattle.replay_state.proofs.Settled.{fast_by_seen, settled_at_once}
 use Rattle.replay_state.proofs.History.{updates_in}
 use Rattle.replay_state.proofs.Steady.{turn_all}
-use Rattle.replay_state.proofs.Tying.{next_tied}
+use Rattle.replay_state.proofs.WholePackets.{next_tied}
 use Rattle.replay_state.specs.Agree.{Agree, AgreeOn}
 use Rattle.replay_state.specs.Answers.{Answers, Setup, meaning_of}
 use Rattle.replay_state.specs.Carried.{Carried}

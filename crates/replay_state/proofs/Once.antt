@@ -24,7 +24,7 @@ use Rattle.replay_state.proofs.Fates.{at_first, at_last, at_up}
 use Rattle.replay_state.proofs.Effects.{Consistent, consistent_let_down, consistent_let_in, consistent_tick}
 use Rattle.replay_state.proofs.EveryState.{EveryState, every_step, every_first}
 use Rattle.replay_state.proofs.Steps.{out_at}
-use Rattle.replay_state.proofs.Asking.{calls_down, calls_up, down_of, ending, mark, marks, marks_append, up_of}
+use Rattle.replay_state.proofs.EndedPasses.{calls_down, calls_up, down_of, ending, mark, marks, marks_append, up_of}
 use Rattle.lemmas.proofs.Lists.{get_pushed, get_set_other, get_set_same}
 
 -- ---- packets whose passes end

@@ -5,7 +5,7 @@ use Rattle.std.proofs.lemmas.Bool.{cases_lt}
 use Rattle.std.proofs.lemmas.Bool.Decides.{nat_tests}
 use Rattle.run_model.specs.declared.serial.Decided.{Decided}
 use Rattle.run_model.specs.Members.{Member}
-use Rattle.run_model.proofs.Rising.{Before, Rising}
+use Rattle.run_model.proofs.RisingEntries.{Before, Rising}
 use Rattle.replay_state.proofs.Words.{upto, beyond}
 
 pub member_left : {X : Type 0} (x : X) (l r : List X) → Member x l → Member x (l ++ r)

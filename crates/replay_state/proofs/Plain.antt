@@ -9,7 +9,7 @@ use Rattle.output_commit.specs.Batches.{fits}
 use Rattle.replay_state.specs.SoundAnswers.{AreSound, IsAlike}
 use Rattle.run_model.specs.Meaning.{packet_at}
 use Rattle.replay_state.specs.Program.{IsSplitProgram, Manner, SplitProgram, plain, setup_of}
-use Rattle.output_commit.proofs.Fitting.{few as fits_each}
+use Rattle.output_commit.proofs.FitsByCount.{few as fits_each}
 
 chosen : (b : Bool) (x y : Verdict) → cond b (Some x) None ≡ Some y → (b ≡ true) × (x ≡ y)
 chosen true x y h = (refl, same_Some _ _ h)

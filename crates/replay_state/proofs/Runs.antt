@@ -17,12 +17,12 @@ use Rattle.replay_state.specs.SoundAnswers.{IsAlike, IsSoundAt, AreSound}
 use Rattle.run_model.specs.declared.serial.Decided.{Decided}
 use Rattle.replay_state.proofs.Words.{entry_of, verdict_at}
 use Rattle.run_model.specs.Members.{Member}
-use Rattle.run_model.proofs.Rising.{Before}
+use Rattle.run_model.proofs.RisingEntries.{Before}
 use Rattle.run_model.proofs.Members.{get_member}
 use Rattle.replay_state.proofs.Words.{upto, beyond}
 use Rattle.replay_state.proofs.Lists.{map_agree, member_push}
 use Rattle.replay_state.proofs.Order.{rising_mid, rising_split, member_mid, member_mid_is, member_mid_old, member_left, member_filter, upto_all}
-use Rattle.replay_state.proofs.Sorting.{IsOrder}
+use Rattle.replay_state.proofs.SortedFates.{IsOrder}
 use Rattle.replay_state.proofs.Serial.{left_by, said_by, told_by, left_by_push, left_by_mid, said_by_mid, said_by_push, upto_mid}
 use Rattle.replay_state.proofs.Fates.{FateOk, at_first, at_up}
 use Rattle.replay_state.proofs.Effects.{Consistent, shown_le}

@@ -21,19 +21,19 @@ use Rattle.output_commit.specs.Batches.{commands_in, visible}
 use Rattle.replay_state.specs.State.{State, Progress, Entered, Up, Held, Slow, Fast, fate_of, seen}
 use Rattle.replay_state.specs.Drain.{is_quiet}
 use Rattle.replay_state.specs.Run.{run_of, seen_store}
-use Rattle.run_model.proofs.Rising.{rising_places, times_none, times_once, Before, Rising, before_self, before_not_back}
+use Rattle.run_model.proofs.RisingEntries.{rising_places, times_none, times_once, Before, Rising, before_self, before_not_back}
 use Rattle.run_model.proofs.Members.{member_get, get_member}
 use Rattle.run_model.proofs.SerialSort.{order_unique}
 use Rattle.replay_state.proofs.Words.{version_at, entry_of, admitted_at, released_at, verdict_at, is_decided, upto}
 use Rattle.replay_state.proofs.Order.{upto_all}
 use Rattle.replay_state.proofs.Lists.{weight}
-use Rattle.replay_state.proofs.Sorting.{IsOrder, entry_number, of_fates}
+use Rattle.replay_state.proofs.SortedFates.{IsOrder, entry_number, of_fates}
 use Rattle.replay_state.proofs.Visible.{visible_all}
 use Rattle.replay_state.proofs.Fates.{FateOk, Pair, pass_mark, up_mark, held_mark, in_first, in_last, in_up, in_held}
 use Rattle.replay_state.proofs.Serial.{left_by, numbers_of}
 use Rattle.replay_state.proofs.Effects.{Consistent}
 use Rattle.replay_state.proofs.Runs.{Apart, entry_fact, what_at}
-use Rattle.replay_state.proofs.Keeping.{Kept}
+use Rattle.replay_state.proofs.InvariantKept.{Kept}
 use Rattle.lemmas.proofs.Lists.{get_mapped, get_within, map_get}
 
 pub entry_version : (n : ℕ) (f : Option Progress) (e : Decided) → entry_of n f ≡ Some e → version_at f ≡ Some e.version

@@ -12,7 +12,7 @@ use Rattle.output_commit.specs.Batches.{Batch, commands_in, merged}
 use Rattle.replay_state.specs.State.{Entered, Pass, Progress, State, seen, store_at}
 use Rattle.replay_state.specs.Step.{came_in, decided, ended, finished, pass_of, released, step, steps, went_up}
 use Rattle.replay_state.proofs.Counts.{AreCounted, length_more}
-use Rattle.output_commit.proofs.Merging.{is_merged, push_versions}
+use Rattle.output_commit.proofs.MergedBatches.{is_merged, push_versions}
 
 -- the pass before the server enters, and the one behind it
 abbrev pub let_in : State → ℕ → State

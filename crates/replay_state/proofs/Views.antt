@@ -20,13 +20,13 @@ use Rattle.run_model.proofs.Members.{get_member}
 use Rattle.replay_state.proofs.Lists.{member_remove, member_push, member_set}
 use Rattle.replay_state.proofs.Effects.{shown_le}
 use Rattle.replay_state.proofs.History.{updates_in}
-use Rattle.replay_state.proofs.Keeping.{kept_of}
+use Rattle.replay_state.proofs.InvariantKept.{kept_of}
 use Rattle.replay_state.proofs.Seen.{begin, Stored, ready_from, seen_from, stored_closed, stored_first, stored_idle, stored_tick}
 use Rattle.replay_state.proofs.Steps.{applied_one, moved_at, run_at}
 use Rattle.replay_state.proofs.Walk.{Both, Leads, beside, leads_steps}
 use Rattle.replay_state.proofs.Steady.{stays_seen}
 use Rattle.lemmas.proofs.Lists.{get_within}
-use Rattle.output_commit.proofs.Merging.{is_merged, push_take}
+use Rattle.output_commit.proofs.MergedBatches.{is_merged, push_take}
 
 -- ---- a command that doesn't wait disturbs no pass
 

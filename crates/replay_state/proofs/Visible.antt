@@ -6,7 +6,7 @@ use Rattle.output_commit.specs.Batches.{Batch, commands_in, versions_at, visible
 use Rattle.output_commit.specs.Laws.{versions_in}
 use Rattle.replay_state.proofs.History.{updates_in, versions_first}
 use Rattle.lemmas.proofs.Lists.{take_whole}
-use Rattle.output_commit.proofs.Seeing.{versions_from, versions_none}
+use Rattle.output_commit.proofs.VisibleVersions.{versions_from, versions_none}
 use Rattle.writeback_table.proofs.Laws.{versions_count_the_bit-all}
 
 first_versions : (bs : List Batch) (k : ℕ) → versions_first bs k ≡ versions (versions_at bs) k

@@ -1,2 +1,2 @@
-mod Failing
+mod HadFailed
 mod Writes

@@ -108,7 +108,7 @@ pub(crate) fn of_bytes(alloc: Global, bytes: &[u8]) -> Result<Packets, Fail> {
 // A split that may be replayed: a write-back table has a row for each instruction that a program may have.
 fn job_of(alloc: Global, flat: Flat, packets: Packets) -> Result<Job, Fail>
     requires kept { IsKept (program_of flat).objects (start_store (program_of flat).objects) }
-    requires few { length packets ≤ most_packets }
+    requires few_packets { length packets ≤ most_packets }
     ensures { IfOk result IsReady }
 {
     if !is_bounded(&flat) {

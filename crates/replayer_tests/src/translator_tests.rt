@@ -28,7 +28,7 @@ fn begun<S: SwitchPort + Drop>(alloc: Global, job: &Job, port: S) -> Result<Repl
 
 // Performs an event, and answers whether it did something just where it should.
 fn steps_so<S: SwitchPort>(replayer: &mut Replayer<S>, event: &Event, expected: Stepped) -> bool
-    requires few { replayer.old.steps < most_events }
+    requires few_events { replayer.old.steps < most_events }
     ensures { replayer.new.steps ≤ replayer.old.steps + 1 }
 {
     replayer.stands();
@@ -41,7 +41,7 @@ fn steps_so<S: SwitchPort>(replayer: &mut Replayer<S>, event: &Event, expected: 
 // Performs the first events of a replay, and answers whether just those did something that should.
 fn all_step_so<S: SwitchPort>(replayer: &mut Replayer<S>, events: &[(Event, Stepped)]) -> bool
     requires unused { replayer.old.steps ≡ 0 }
-    requires few { length events.now ≤ 64 }
+    requires few_events { length events.now ≤ 64 }
 {
     let mut all = true;
     for planned in events {
@@ -89,7 +89,7 @@ fn performed_over(
     drains: bool,
 ) -> Result<Told, Fail>
     requires ready { IsReady job.now }
-    requires few { length events.now ≤ 64 }
+    requires few_events { length events.now ≤ 64 }
 {
     let mut replayer = begun(alloc, job, port)?;
     let as_planned = all_step_so(&mut replayer, events);

@@ -63,9 +63,9 @@ fn stages(f: &Flat, s: &Split) -> u32
 
 // For each object, how often the two passes look it up.
 fn sums(alloc: Global, before: &[u32], after: &[u32]) -> Result<Tally, NoMemory>
-    requires few { length before.now < 2 ^ 32 }
+    requires few_counts { length before.now < 2 ^ 32 }
     requires same { length before.now ≡ length after.now }
-    requires low { (o : ℕ) → slice_index before.now o + slice_index after.now o < 2 ^ 32 }
+    requires bounded_sums { (o : ℕ) → slice_index before.now o + slice_index after.now o < 2 ^ 32 }
     ensures { IfOk result (λ made. made
         ≡ first_numbers (length before.now) (λ o. slice_index before.now o + slice_index after.now o)) }
 {
@@ -94,7 +94,7 @@ fn told(
     before: &[u32],
     changes: &[u32],
 ) -> Result<Tally, NoMemory>
-    requires few { length objects.now < 2 ^ 32 }
+    requires few_objects { length objects.now < 2 ^ 32 }
     requires same { length before.now ≡ length objects.now }
     requires same_changes { length changes.now ≡ length objects.now }
     ensures { IfOk result (λ made. made
@@ -122,7 +122,7 @@ fn bits_of(widths: &Widths) -> u64
 // The bits of an object's tables on the switch, by whether preprocessing and postprocessing look it up.
 fn object_bits(d: &ObjectDecl, before: bool, after: bool, writeback: u32) -> u64
     requires { IsSmall d.now }
-    ensures low { result ≤ 2 ^ 48 }
+    ensures bounded { result ≤ 2 ^ 48 }
     ensures exact { TakesBits d.now before after writeback result }
 {
     let bits = bits_of(&d.keys) + bits_of(&d.values);
@@ -138,7 +138,7 @@ fn object_bits(d: &ObjectDecl, before: bool, after: bool, writeback: u32) -> u64
 
 // The bits of all tables on the switch.
 fn table_bits(objects: &[ObjectDecl], before: &[u32], after: &[u32], writeback: u32) -> u64
-    requires few { length objects.now ≤ 64 }
+    requires few_objects { length objects.now ≤ 64 }
     requires small { All IsSmall objects.now }
     requires same { length before.now ≡ length objects.now }
     requires same_after { length after.now ≡ length objects.now }

@@ -33,7 +33,7 @@ impl Tally {
 
     pub fn as_slice(&self) -> &[u32]
         ensures value { result.now ≡ self.now }
-        ensures few { length self.now < 2 ^ 32 }
+        ensures bounded { length self.now < 2 ^ 32 }
     {
         self.items.as_slice()
     }

@@ -76,7 +76,7 @@ pub fn tally(alloc: Global, f: &Flat, s: &Split, how: Use) -> Result<Vec<u32>, N
     ensures exact { IfOk result
         (λ tally. tally.items ≡ each_object (program_of f.now) (uses how (program_of f.now) s.now)) }
     ensures count { IfOk result (λ tally. length tally.items ≡ length f.now.objects) }
-    ensures low { IfOk result (λ tally. (o : ℕ) → slice_index tally.items o ≤ 4096) }
+    ensures bounded { IfOk result (λ tally. (o : ℕ) → slice_index tally.items o ≤ 4096) }
 {
     let mut tally = vec![in alloc; 0u32; f.objects.len()]?;
     for i in 0..f.code.len() {

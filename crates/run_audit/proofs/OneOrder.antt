@@ -10,7 +10,7 @@ use Rattle.run_model.specs.Serialises.{decided_at, times, IsEarlier}
 use Rattle.run_audit.specs.Order.{HaveOwnEvents}
 use Rattle.run_model.specs.Members.{Member}
 use Rattle.run_model.proofs.Members.{member_get}
-use Rattle.run_model.proofs.Rising.{Before, Rising}
+use Rattle.run_model.proofs.RisingEntries.{Before, Rising}
 use Rattle.run_model.proofs.SerialSort.{IsOrder, order_unique, entry_of}
 use Rattle.run_audit.proofs.Places.{decision, decided_entry, entry_decided}
 use Rattle.lemmas.proofs.Lists.{get_mapped}

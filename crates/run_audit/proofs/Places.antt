@@ -10,7 +10,7 @@ use Rattle.run_model.specs.Order.{sorted, decided_from, order_of}
 use Rattle.run_model.specs.Serialises.{decided_at, times, IsEarlier}
 use Rattle.run_audit.specs.Order.{HaveOwnEvents}
 use Rattle.run_model.proofs.Members.{get_member}
-use Rattle.run_model.proofs.Rising.{Before, rising_places, times_none, times_once}
+use Rattle.run_model.proofs.RisingEntries.{Before, rising_places, times_none, times_once}
 use Rattle.run_model.proofs.SerialSort.{IsOrder, is_order, entry_of}
 use Rattle.lemmas.proofs.Lists.{get_mapped}
 

@@ -21,7 +21,7 @@ fn released_count(fates: &[Fate]) -> usize
 /// Whether the counts of a report are those of the trace and of the fates that it tells.
 pub(crate) fn counts_agree(packets: &Packets, run: &Run) -> bool
     ensures agree { IsTrue result ↔ CountsAgree packets.now run.now }
-    ensures few { IsTrue result → length run.now.fates < 2 ^ 32 }
+    ensures bounded { IsTrue result → length run.now.fates < 2 ^ 32 }
 {
     let fates = run.fates.as_slice();
     run.total as usize == packets.len()

@@ -1,5 +1,5 @@
 -- What holds of serial runs.
-use Rattle.run_model.proofs.Agreeing.{same_drained, same_released, same_serialises}
+use Rattle.run_model.proofs.AlikeMeanings.{same_drained, same_released, same_serialises}
 use Rattle.run_model.specs.Meaning.{AreAlike, Meaning}
 use Rattle.run_model.specs.Serialises.{AllReleased, IsDrained, Serialises}
 use Rattle.run_model.specs.declared.run.Run.{Run}

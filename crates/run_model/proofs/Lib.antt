@@ -1,7 +1,7 @@
-mod Agreeing
+mod AlikeMeanings
 pub mod SerialOrder
 pub mod Members
-pub mod Rising
+pub mod RisingEntries
 pub mod SerialSort
 mod PartLaws
 pub mod Laws

@@ -14,7 +14,7 @@ use Rattle.run_model.specs.declared.serial.Decided.{Decided}
 use Rattle.run_model.specs.Members.{Member}
 use Rattle.run_model.specs.Order.{decided_from, sorted}
 use Rattle.run_model.proofs.Members.{get_member, member_get}
-use Rattle.run_model.proofs.Rising.{Rising}
+use Rattle.run_model.proofs.RisingEntries.{Rising}
 use Rattle.run_model.proofs.SerialSort.{Apart, AtOrBefore, entries_apart, is_order, member_sorted, order_unique, sorted_member, strictly, through}
 
 -- ---- what a list has in another order

@@ -9,7 +9,7 @@ use Rattle.run_model.specs.declared.fate.Fate.TheVariants.{Pass, Up}
 use Rattle.run_model.specs.declared.serial.Decided.{Decided}
 use Rattle.run_model.specs.Members.{Member}
 use Rattle.run_model.specs.Order.{stands_before, put_in, sorted, with_decided, decided_of, decided_from}
-use Rattle.run_model.proofs.Rising.{Before, Rising, same_rising}
+use Rattle.run_model.proofs.RisingEntries.{Before, Rising, same_rising}
 
 -- x stands before y, where their numbers differ
 pub record AtOrBefore (x y : Decided) : Type 0 where

@@ -1,7 +1,7 @@
 pub mod Bodies
 pub mod LineSteps
 pub mod AllValues
-pub mod Arriving
+pub mod Arrivals
 pub mod PrintedLines
 pub mod PrintedBack
 pub mod LinkSchedules

@@ -106,7 +106,7 @@ pub(crate) fn read_values<V: LineValue>(
     before: usize,
     most: usize,
 ) -> Result<LineValues<V>, LinesError>
-    requires few { before + length text.now < 2 ^ 64 }
+    requires bounded_text { before + length text.now < 2 ^ 64 }
     ensures ok { IfOk result (λ values.
         at_most most (values_until V.line_ends V.line_gives (before + 1) (lines text.now)) ≡ Ok values.items.items) }
     ensures ended { IfOk result (λ values. values.ended ≡ list_any V.line_ends (lines text.now)) }

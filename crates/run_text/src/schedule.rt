@@ -112,7 +112,7 @@ impl LineValue for Event {
 fn split_fine(text: &[u8]) -> Option<(usize, &[u8])>
     ensures parts { MatchOption result (behind_fine 0 (lines text.now) ≡ None)
         (λ parts. behind_fine 0 (lines text.now) ≡ Some (parts.0, lines parts.1.now)) }
-    ensures few { IfSome result (λ parts. parts.0 + length parts.1.now ≤ length text.now) }
+    ensures bounded { IfSome result (λ parts. parts.0 + length parts.1.now ≤ length text.now) }
 {
     let mut number: usize = 0;
     let mut ahead = text;
@@ -132,10 +132,10 @@ fn split_fine(text: &[u8]) -> Option<(usize, &[u8])>
 
 // The plan that a text spells in front of which so many lines stand.
 fn read_plan(alloc: Global, fine: bool, before: usize, text: &[u8]) -> Result<Plan, LinesError>
-    requires few { before + length text.now < 2 ^ 64 }
+    requires bounded_text { before + length text.now < 2 ^ 64 }
     ensures ok { IfOk result (λ plan. plan_behind fine before (lines text.now) ≡ Ok plan) }
     ensures err { IfErr result (λ e. (e ≡ LinesError.NoMemory) ⊎ (plan_behind fine before (lines text.now) ≡ Err e)) }
-    ensures few { IfOk result (λ plan. length plan.events ≤ most_events) }
+    ensures bounded { IfOk result (λ plan. length plan.events ≤ most_events) }
 {
     let lines = read_values(alloc, text, before, MAX_EVENTS)?;
     Ok(Plan {
@@ -151,7 +151,7 @@ fn read_plan(alloc: Global, fine: bool, before: usize, text: &[u8]) -> Result<Pl
 pub fn read_schedule(alloc: Global, text: &[u8]) -> Result<Plan, LinesError>
     ensures ok { IfOk result (λ plan. schedule_of text.now ≡ Ok plan) }
     ensures err { IfErr result (λ e. (e ≡ LinesError.NoMemory) ⊎ (schedule_of text.now ≡ Err e)) }
-    ensures few { IfOk result (λ plan. length plan.events ≤ most_events) }
+    ensures bounded { IfOk result (λ plan. length plan.events ≤ most_events) }
 {
     match split_fine(text) {
         Some((before, behind)) => read_plan(alloc, true, before, behind),

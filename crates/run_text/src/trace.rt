@@ -59,7 +59,7 @@ impl LineValue for Packet {
 pub fn read_trace(alloc: Global, text: &[u8]) -> Result<Packets, LinesError>
     ensures ok { IfOk result (λ packets. trace_of text.now ≡ Ok packets) }
     ensures err { IfErr result (λ e. (e ≡ LinesError.NoMemory) ⊎ (trace_of text.now ≡ Err e)) }
-    ensures few { IfOk result (λ packets. length packets ≤ most_packets) }
+    ensures bounded { IfOk result (λ packets. length packets ≤ most_packets) }
     ensures arrivals { IfOk result AreArrivals }
 {
     let lines = read_values(alloc, text, 0, MAX_PACKETS)?;

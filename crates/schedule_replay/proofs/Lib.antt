@@ -1,3 +1,3 @@
-mod Concluding
-mod Playing
+mod WholeReplay
+mod ReplayerStates
 mod Framed

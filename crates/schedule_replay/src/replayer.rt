@@ -147,7 +147,7 @@ impl<S: SwitchPort> Replayer<S> {
 
     /// One event. It is idle exactly where it can't apply.
     pub fn step(&mut self, event: &Event) -> Result<Stepped, ReplayError>
-        requires few { self.old.steps < most_events }
+        requires few_events { self.old.steps < most_events }
         ensures stepped { IfOk result (λ stepped. (events : List Event) → HasPerformed S.seen events self.old
             → HasStepped (seen_as S.seen events self.old) event.now stepped
             (seen_as S.seen (events ++ event.now ∷ []) self.new)) }

@@ -7,7 +7,7 @@ use Rattle.split_model.specs.Crossing.{crosses_up}
 use Rattle.split_model.specs.Layouts.{number_of, up_values, values_below, values_of}
 use Rattle.server_runtime.specs.Spans.{is_taken, numbers_of, span_from, spans_below, values_at, writes_at}
 use Rattle.server_runtime.proofs.Numbers.{below_suc, count_at}
-use Rattle.split_model.proofs.Numbering.{count_results, few_pass}
+use Rattle.split_model.proofs.ValueLists.{count_results, few_pass}
 
 writes_few : (f : Program) (i : ℕ) (b : Bool) → length (cond b (numbers_of f (values_at f i)) []) ≤ count_at f i
 writes_few f i true = omega (arith, length-map (values_at f i) (number_of f), count_results i (count_at f i))

@@ -32,7 +32,7 @@ use Rattle.server_runtime.proofs.Handed.{is_read}
 use Rattle.server_runtime.proofs.Needed.{down_needed, up_needed}
 use Rattle.server_runtime.proofs.Lengths.{length_with_writes}
 use Rattle.server_runtime.proofs.Outcomes.{handed_on, sets_fields}
-use Rattle.server_runtime.proofs.Running.{done_alike, have_registers, room_for_turn, serving_more}
+use Rattle.server_runtime.proofs.NextTurn.{done_alike, have_registers, room_for_turn, serving_more}
 use Rattle.server_runtime.proofs.Spanned.{are_spans, values_differ, written_first}
 use Rattle.server_runtime.proofs.Told.{all_told_fit, told_few}
 use Rattle.server_runtime.proofs.Walked.{serving_later}

@@ -14,7 +14,7 @@ pub mod Outcomes
 pub mod ByPlaces
 pub mod Rows
 pub mod Seats
-pub mod Running
+pub mod NextTurn
 pub mod Spanned
 pub mod Steps
 pub mod Told

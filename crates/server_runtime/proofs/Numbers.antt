@@ -8,7 +8,7 @@ use Rattle.flat_ir.specs.declared.program.ValueId.{ValueId}
 use Rattle.flat_ir.specs.Program.{is_named, result_count, step_at, Program}
 use Rattle.split_model.specs.Layouts.{first_results, number_of, values_below, values_of}
 use Rattle.lemmas.proofs.Lists.{each_append}
-use Rattle.split_model.proofs.Numbering.{count_results}
+use Rattle.split_model.proofs.ValueLists.{count_results}
 
 abbrev pub count_at : Program → ℕ → ℕ
 count_at f i = result_count f.objects (step_at f i).work

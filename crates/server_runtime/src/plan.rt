@@ -113,7 +113,7 @@ impl Lists {
         requires code { length f.now.code ≤ 4096 }
         requires objects { length f.now.objects ≤ 64 }
         ensures firsts { IfOk result (λ made. AreFirsts (program_of f.now) made.firsts.items) }
-        ensures few { IfOk result (λ made. length (values_of (program_of f.now)) ≤ 36864) }
+        ensures bounded { IfOk result (λ made. length (values_of (program_of f.now)) ≤ 36864) }
         ensures fields { IfOk result (λ made. made.fields.items ≡ server_fields (program_of f.now) s.now) }
         ensures followed { IfOk result (λ made. AreReplicated (program_of f.now) s.now made.followed.items) }
     {
@@ -129,7 +129,7 @@ impl Lists {
 fn firsts_of(alloc: Global, f: &Flat) -> Result<Vec<u32>, NoMemory>
     requires { length f.now.code ≤ 4096 }
     ensures firsts { IfOk result (λ firsts. AreFirsts (program_of f.now) firsts.items) }
-    ensures few { IfOk result (λ firsts. length (values_of (program_of f.now)) ≤ 36864) }
+    ensures bounded { IfOk result (λ firsts. length (values_of (program_of f.now)) ≤ 36864) }
 {
     let mut firsts = Vec::with_capacity(alloc, f.code.len() + 1)?;
     let mut next = 0;

@@ -4,7 +4,7 @@ use Rattle.std.proofs.Common.{if◌then◌else◌}
 use Rattle.state_store.specs.Store.{Object}
 use Rattle.writeback_table.specs.declared.command.Update.{Update}
 use Rattle.writeback_table.specs.Batches.{changed_at, changed_by, takes_at, count_of, TakesAll}
-use Rattle.output_commit.proofs.Fitting.{count_append}
+use Rattle.output_commit.proofs.FitsByCount.{count_append}
 use Rattle.replay_state.proofs.History.{changed_append, takes_append}
 
 -- the updates turn one object into the other, each finds room there in turn, and at most so many are of this object

@@ -53,8 +53,8 @@ use Rattle.split_answers.proofs.Few.{run_few}
 use Rattle.switch_ir.proofs.InStages.{ends_down, ends_up}
 use Rattle.std.proofs.lemmas.Bool.{cond-false}
 use Rattle.split_answers.proofs.Commanded.{as_many, bit_more, one_more, pair_goes, unnamed}
-use Rattle.split_answers.proofs.Knowing.{ends_alike, enters, goes_on, over_up}
-use Rattle.switch_ir.proofs.Lacking.{down_given_none}
+use Rattle.split_answers.proofs.KnownByPass.{ends_alike, enters, goes_on, over_up}
+use Rattle.switch_ir.proofs.ZeroValues.{down_given_none}
 use Rattle.split_answers.proofs.Passed.{own_frame, passes_down, passes_up, reads, verdict_down}
 use Rattle.split_answers.proofs.Seen.{contents_seen, is_declared, is_replicated_there, pair_is, room_found}
 use Rattle.split_answers.proofs.Tells.{asked_where, tells}

@@ -7,5 +7,5 @@ mod Commanded
 mod Seen
 mod Passed
 pub mod Tells
-mod Knowing
+mod KnownByPass
 pub mod Laws

@@ -24,7 +24,7 @@ use Rattle.split_model.specs.Laws.{IsExact}
 use Rattle.split_model.proofs.Rules.{pre_kind, pre_rises, writes_not_pre}
 use Rattle.split_model.proofs.Sights.{named_within, none_below, any_same, inside, SameSight, seen_same, no_change, sent_same, writes_same}
 use Rattle.split_model.proofs.Stages.{staged_value}
-use Rattle.flat_ir.proofs.Passing.{any_passes}
+use Rattle.flat_ir.proofs.AnyBelow.{any_passes}
 use Rattle.flat_ir.proofs.Laws.{a_run_is_its_values, lines_of_blocks-arm, lines_of_blocks-line, lines_of_blocks-live, lines_of_blocks-seen, readings_that_agree-results}
 use Rattle.lemmas.proofs.Lists.{each_weaker}
 

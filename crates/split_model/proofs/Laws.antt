@@ -15,17 +15,17 @@ use Rattle.flat_ir.specs.declared.program.ValueId.{ValueId}
 use Rattle.packet_fields.specs.declared.packet.Packet.{Packet}
 use Rattle.state_store.specs.Kept.{IsKept}
 use Rattle.state_store.specs.Store.{Store}
-use Rattle.split_model.proofs.Carrying.{carried_stand, kept_has_tables, replicated_show}
+use Rattle.split_model.proofs.CarriedValues.{carried_stand, kept_has_tables, replicated_show}
 use Rattle.split_model.proofs.Crossings.{carried_up}
 use Rattle.split_model.proofs.Descents.{comes_down}
 use Rattle.split_model.proofs.Exactness.{is_exact}
 use Rattle.split_model.proofs.Example.{every_part, legal, parts, program, well}
 use Rattle.split_model.proofs.Fitness.{alone_fits, alone_handed, crossing_alone, done_fits, given_fits, pass_fits, post_within, pre_within, served_within}
-use Rattle.split_model.proofs.Posting.{sent_alike}
+use Rattle.split_model.proofs.PostAlike.{sent_alike}
 use Rattle.split_model.proofs.Rules.{by_stages, ninth}
 use Rattle.split_model.proofs.Served.{served_alike}
-use Rattle.split_model.proofs.Serving.{claim, server_does, whole_does}
-use Rattle.split_model.proofs.Showing.{leaves}
+use Rattle.split_model.proofs.ServerAlike.{claim, server_does, whole_does}
+use Rattle.split_model.proofs.PreAlike.{leaves}
 use Rattle.split_model.proofs.Stages.{done_by}
 use Rattle.split_model.proofs.Tabled.{posted_alike}
 use Rattle.split_model.proofs.Wholes.{verdict_same}

@@ -1,17 +1,17 @@
-mod Carrying
+mod CarriedValues
 pub mod Crossings
 mod Descents
 mod Exactness
 mod Example
 pub mod Fitness
-mod Marking
-pub mod Numbering
-mod Passing
-mod Posting
+mod ValueMarks
+pub mod ValueLists
+mod AnyBelow
+mod PostAlike
 mod Rules
 mod Served
-mod Serving
-mod Showing
+mod ServerAlike
+mod PreAlike
 pub mod Sights
 mod Stages
 pub mod Steps

@@ -15,7 +15,7 @@ use Rattle.split_model.specs.Legal.{IsLegal}
 use Rattle.split_model.specs.Passes.{IsHanded, served, server_run}
 use Rattle.split_model.specs.Split.{is_post}
 use Rattle.split_model.proofs.Crossings.{down_parts, written_parts}
-use Rattle.split_model.proofs.Serving.{server_does, claim, knows_all}
+use Rattle.split_model.proofs.ServerAlike.{server_does, claim, knows_all}
 use Rattle.split_model.proofs.Sights.{named_within}
 
 module _ (f : Program) (split : List Part) (st : Store) (packet : Packet) (up other : Reading) (well : IsWellFormed f) (legal : IsLegal f split) (handed : IsHanded (crosses_up f split) up other) where

@@ -15,7 +15,7 @@ use Rattle.split_model.specs.Legal.{IsLegal}
 use Rattle.split_model.specs.Passes.{given_down, post_values, post_fields}
 use Rattle.split_model.specs.Shown.{looks_at}
 use Rattle.split_model.specs.Split.{post_stage, is_post}
-use Rattle.split_model.proofs.Carrying.{declared_at, constant_sight, post_shown}
+use Rattle.split_model.proofs.CarriedValues.{declared_at, constant_sight, post_shown}
 use Rattle.split_model.proofs.Descents.{post_inside}
 use Rattle.split_model.proofs.Rules.{post_kind, post_look}
 use Rattle.split_model.proofs.Sights.{seen_same, sent_same, writes_same}

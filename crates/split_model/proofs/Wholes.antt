@@ -19,13 +19,13 @@ use Rattle.split_model.specs.Laws.{HasDeclaredTables}
 use Rattle.split_model.specs.Legal.{IsLegal}
 use Rattle.split_model.specs.Passes.{IsHanded, served, server_run, given_down, post_values, leaving, post_verdict}
 use Rattle.split_model.specs.Split.{post_stage, is_post}
-use Rattle.split_model.proofs.Carrying.{constants, constant_sight, post_shown}
+use Rattle.split_model.proofs.CarriedValues.{constants, constant_sight, post_shown}
 use Rattle.split_model.proofs.Crossings.{each_written, input_from}
 use Rattle.split_model.proofs.Rules.{post_kind, post_look, post_rises}
-use Rattle.split_model.proofs.Serving.{server_does, whole_does, knows_all}
+use Rattle.split_model.proofs.ServerAlike.{server_does, whole_does, knows_all}
 use Rattle.split_model.proofs.Sights.{each_among, named_within, seen_same, input_same, sent_same, writes_same}
 use Rattle.split_model.proofs.Stages.{staged_value, given_value}
-use Rattle.flat_ir.proofs.Passing.{any_passes}
+use Rattle.flat_ir.proofs.AnyBelow.{any_passes}
 use Rattle.flat_ir.proofs.Laws.{a_run_is_its_values, readings_that_agree-operands, readings_that_agree-results}
 use Rattle.lemmas.proofs.Lists.{each_both, each_weaker}
 

@@ -14,7 +14,7 @@ use std::alloc::Global;
 /// block, and hangs on no split.
 pub fn guard_values(alloc: Global, f: &Flat) -> Result<ValueSet, NoMemory>
     requires formed { IsWellFormed (program_of f.now) }
-    requires few { length f.now.code < 2 ^ 32 }
+    requires few_instructions { length f.now.code < 2 ^ 32 }
     ensures { IfOk result (λ set. AreMarked (length f.now.code) (guards_write (program_of f.now)) set) }
 {
     let found = write_guards(alloc, f)?;

@@ -19,7 +19,7 @@ fn width_of(bits: u64) -> Width
 /// The width of a result.
 pub(crate) fn result_width(objects: &[ObjectDecl], kind: &InstrKind, place: u32) -> Width
     requires small { All IsSmall objects.now }
-    requires there { place < result_count objects.now (work_of kind.now) }
+    requires place_in_range { place < result_count objects.now (work_of kind.now) }
     ensures { result ≡ slice_index (result_widths objects.now (work_of kind.now)) place }
 {
     if place == 0 {

@@ -55,9 +55,9 @@ impl Layout {
 
     /// How many bytes hold the values, one after the other and each in as many bits as its width.
     pub fn bytes(&self) -> usize
-        requires few { length self.now < 2 ^ 32 }
+        requires few_values { length self.now < 2 ^ 32 }
         ensures exact { result ≡ layout_bytes self.now }
-        ensures low { result ≤ 8 * length self.now }
+        ensures bounded { result ≤ 8 * length self.now }
     {
         let mut bits = 7usize;
         for crossing in &self.items {

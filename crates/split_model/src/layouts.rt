@@ -62,7 +62,7 @@ pub fn is_at_hand(f: &Flat, s: &Split, kind: &InstrKind) -> bool
 impl Crossings {
     // Looks for them in a program, but for what decides on writes, which is known.
     fn find(alloc: Global, f: &Flat, s: &Split, guards: ValueSet) -> Result<Crossings, NoMemory>
-        requires few { length f.now.code < 2 ^ 32 }
+        requires few_instructions { length f.now.code < 2 ^ 32 }
         requires guards { AreMarked (length f.now.code) (guards_write (program_of f.now)) guards }
         ensures { IfOk result (λ found. AreFound (program_of f.now) s.now found) }
     {
@@ -78,7 +78,7 @@ impl Crossings {
     fn go_down(&self, f: &Flat, s: &Split, value: ValueId) -> bool
         requires found { AreFound (program_of f.now) s.now self.now }
         requires named { IsTrue (is_named (program_of f.now) value) }
-        requires low { value.result < 9 }
+        requires bounded_result { value.result < 9 }
         ensures { result ≡ crosses_down (program_of f.now) s.now value }
     {
         let instruction = value.instruction as usize;
@@ -93,7 +93,7 @@ impl Crossings {
     fn go_up(&self, f: &Flat, s: &Split, value: ValueId) -> bool
         requires found { AreFound (program_of f.now) s.now self.now }
         requires named { IsTrue (is_named (program_of f.now) value) }
-        requires low { value.result < 9 }
+        requires bounded_result { value.result < 9 }
         ensures { result ≡ crosses_up (program_of f.now) s.now value }
     {
         let instruction = value.instruction as usize;
@@ -109,7 +109,7 @@ impl Crossings {
     fn cross(&self, f: &Flat, s: &Split, way: Way, value: ValueId) -> bool
         requires found { AreFound (program_of f.now) s.now self.now }
         requires named { IsTrue (is_named (program_of f.now) value) }
-        requires low { value.result < 9 }
+        requires bounded_result { value.result < 9 }
         ensures { result ≡ crosses way (program_of f.now) s.now value }
     {
         match way {
@@ -131,7 +131,7 @@ impl Crossings {
         requires bounded { IsBounded (program_of f.now) }
         requires found { AreFound (program_of f.now) s.now self.now }
         requires named { IsTrue (is_named (program_of f.now) value) }
-        requires low { value.result < 9 }
+        requires bounded_result { value.result < 9 }
         requires numbered { number ≡ number_of (program_of f.now) value }
         ensures { OnOk result (
             layout.new ≡ layout.old ++ crossings_of way (program_of f.now) s.now (value ∷ [])) }
@@ -163,8 +163,8 @@ impl Crossings {
         requires found { AreFound (program_of f.now) s.now self.now }
         requires inside { i < length f.now.code }
         requires numbered { first ≡ length (values_below (program_of f.now) i) }
-        requires low { first ≤ 9 * i }
-        ensures few { IfOk result (λ count. count ≤ 9) }
+        requires bounded_first { first ≤ 9 * i }
+        ensures bounded { IfOk result (λ count. count ≤ 9) }
         ensures count { IfOk result (λ count.
             count ≡ result_count f.now.objects (step_at (program_of f.now) i).work) }
         ensures all { IfOk result (λ count.
@@ -189,7 +189,7 @@ impl Crossings {
         requires found { AreFound (program_of f.now) s.now self.now }
         ensures exact { IfOk result (λ layout.
             layout ≡ crossings_of way (program_of f.now) s.now (values_of (program_of f.now))) }
-        ensures few { IfOk result (λ layout. length layout < 2 ^ 26) }
+        ensures bounded { IfOk result (λ layout. length layout < 2 ^ 26) }
     {
         let mut layout = Layout::new(alloc);
         let mut number = 0;

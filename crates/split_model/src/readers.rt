@@ -41,7 +41,7 @@ fn mark_operands(f: &Flat, s: &Split, reader: Reader, i: usize, set: &mut ValueS
 
 /// The values that the instructions of a reader read.
 pub fn read_by(alloc: Global, f: &Flat, s: &Split, reader: Reader) -> Result<ValueSet, NoMemory>
-    requires few { length f.now.code < 2 ^ 32 }
+    requires few_instructions { length f.now.code < 2 ^ 32 }
     ensures { IfOk result (λ set.
         AreMarked (length f.now.code) (is_read_by (program_of f.now) (is_of reader s.now)) set) }
 {
@@ -63,7 +63,7 @@ fn mark_written(s: &Split, written: FieldValue, set: &mut ValueSet)
 
 /// The values that the server sets fields to.
 pub(crate) fn written_values(alloc: Global, f: &Flat, s: &Split) -> Result<ValueSet, NoMemory>
-    requires few { length f.now.code < 2 ^ 32 }
+    requires few_instructions { length f.now.code < 2 ^ 32 }
     ensures { IfOk result (λ set. AreMarked (length f.now.code) (is_written_value (program_of f.now) s.now) set) }
 {
     let mut set = ValueSet::new(alloc, f.code.len())?;

@@ -33,7 +33,7 @@ impl Model for ValueSet {
 impl ValueSet {
     /// The empty set, with room for the values of so many instructions.
     pub(crate) fn new(alloc: Global, instructions: usize) -> Result<ValueSet, NoMemory>
-        requires few { instructions < 2 ^ 32 }
+        requires few_instructions { instructions < 2 ^ 32 }
         ensures { IfOk result (λ set. AreMarked instructions (λ v. false) set) }
     {
         let marks = vec![in alloc; false; 9 * instructions]?;

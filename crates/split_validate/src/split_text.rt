@@ -51,7 +51,7 @@ fn put_parts(alloc: Global, parts: &[Part], text: &mut Text) -> Result<(), NoMem
 // The whole text.
 fn whole_text(alloc: Global, s: &Split) -> Result<Text, NoMemory>
     ensures text { IfOk result (λ text. text ≡ split_text s.now) }
-    ensures few { length s.now < 2 ^ 64 }
+    ensures bounded { length s.now < 2 ^ 64 }
 {
     let parts = s.as_slice();
     let number = parts.len();

@@ -204,7 +204,7 @@ fn del_packed(packed: &mut Option<FittedRows>, key: &Values) -> Option<bool>
     ensures was { IfSome result (λ was. IfSome packed.old (λ rows. was ≡ map.contains_key rows.contents key.now)) }
     ensures after { IsSome result → packed.new ≡ packed_without packed.old key.now }
     ensures stays { result ≡ None → packed.new ≡ packed.old }
-    ensures some { IsSome result → IsSome packed.old }
+    ensures was_packed { IsSome result → IsSome packed.old }
 {
     match packed {
         Some(rows) => rows.del(key),

@@ -69,7 +69,7 @@ pub fn packed(bits: u64, widths: &[u64], numbers: &[u64]) -> Option<u128>
 // The numbers again, for at most 8 widths.
 fn parts_of(bits: u64, widths: &[u64], whole: u128) -> Values
     requires bits { bits ≤ 128 }
-    requires few { length widths.now ≤ 8 }
+    requires few_widths { length widths.now ≤ 8 }
     requires room { IsTrue (rule.have_room bits widths.now) }
     requires below { whole < 2 ^ bits }
     ensures { result ≡ rule.parts bits widths.now whole }

@@ -178,7 +178,7 @@ fn count_in(form: &Form) -> usize
 
 // The row whose key has so many numbers, of the numbers of both.
 fn row_of(keys: usize, numbers: &[u64]) -> Row
-    requires few { keys ≤ 8 }
+    requires few_keys { keys ≤ 8 }
     requires within { keys ≤ length numbers.now }
     requires most { length numbers.now ≤ keys + 8 }
     ensures { result ≡ row_of_list keys numbers.now }

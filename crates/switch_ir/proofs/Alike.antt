@@ -20,7 +20,7 @@ use Rattle.split_model.specs.Legal.{IsLegal, is_misplaced, is_not_lower}
 use Rattle.split_model.specs.Passes.{is_stage, done_below, pass, post_fields, value_from}
 use Rattle.split_model.specs.Split.{is_post, pre_stage, post_stage}
 use Rattle.switch_ir.specs.Emitted.{is_read_after, is_used_after}
-use Rattle.switch_ir.proofs.Handing.{value_same}
+use Rattle.switch_ir.proofs.PostStart.{value_same}
 use Rattle.switch_ir.proofs.Places.{any_at}
 use Rattle.flat_ir.proofs.Exact.{value_same as same_value}
 use Rattle.flat_ir.proofs.Laws.{readings_that_agree-operands, readings_that_agree-results}

@@ -17,7 +17,7 @@ use Rattle.split_model.specs.Split.{is_post, is_pre}
 use Rattle.switch_ir.specs.declared.code.Table.{Table}
 use Rattle.switch_ir.specs.Emitted.{is_looked_up, tables_from}
 use Rattle.switch_ir.specs.Tables.{declared_at}
-use Rattle.flat_ir.proofs.Passing.{passes_any}
+use Rattle.flat_ir.proofs.AnyBelow.{passes_any}
 use Rattle.lemmas.proofs.Lists.{get_within}
 use Rattle.state_store.proofs.Constants.{constant_at}
 

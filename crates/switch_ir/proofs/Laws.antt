@@ -12,11 +12,11 @@ use Rattle.transfer_header.proofs.Laws.{layouts_fit-rising}
 use Rattle.switch_ir.specs.Code.{Code}
 use Rattle.switch_ir.specs.Emitted.{emitted, given_stage, IsEmitted}
 use Rattle.switch_ir.specs.Sound.{IsWritable, IsSound, CanBeRun}
-use Rattle.switch_ir.proofs.Needing.{down_needed, up_needed}
+use Rattle.switch_ir.proofs.NeededValues.{down_needed, up_needed}
 use Rattle.switch_ir.proofs.Soundness.{all_at, declared_among, rest_there, starts, steps_can, tables_rise, IsPlaced}
 use Rattle.lemmas.proofs.Lists.{each_filter, each_weaker}
-pub use Rattle.switch_ir.proofs.Computing.{what_is_emitted_computes_the_split}
-pub use Rattle.switch_ir.proofs.Going.{what_is_emitted_goes_by_stages}
+pub use Rattle.switch_ir.proofs.ComputedPasses.{what_is_emitted_computes_the_split}
+pub use Rattle.switch_ir.proofs.PassesByStages.{what_is_emitted_goes_by_stages}
 pub use Rattle.switch_ir.proofs.Spanned.{passes_have_spans}
 
 -- What a switch can rely on holds of the code of every legally split program.

@@ -3,21 +3,21 @@ pub mod Soundness
 mod Passes
 mod Rests
 pub mod Givens
-pub mod Handing
-pub mod Computing
+pub mod PostStart
+pub mod ComputedPasses
 pub mod Places
 mod Marks
 mod Codes
-mod Noting
+mod NotedSteps
 mod Tested
 pub mod Spanned
-pub mod Staging
-pub mod Going
+pub mod ApartValues
+pub mod PassesByStages
 pub mod Declared
 pub mod InStages
-pub mod Lacking
-mod Needing
-pub mod Planning
-mod Listing
+pub mod ZeroValues
+mod NeededValues
+pub mod PlannedPasses
+mod PassSteps
 pub mod Journals
 pub mod Laws

@@ -16,7 +16,7 @@ use Rattle.flat_ir.specs.WellFormed.{IsWellFormed}
 use Rattle.split_model.specs.declared.split.Part.{Part}
 use Rattle.split_model.specs.Layouts.{first_results, values_below}
 use Rattle.split_model.specs.Split.{is_post, any_below}
-use Rattle.split_model.proofs.Numbering.{count_results}
+use Rattle.split_model.proofs.ValueLists.{count_results}
 use Rattle.split_model.proofs.Steps.{step_is}
 
 -- ## Instructions that can be run

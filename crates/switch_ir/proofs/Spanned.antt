@@ -16,7 +16,7 @@ use Rattle.transfer_header.specs.Steps.{Steps, Contents, is_among, IsSpanOf, Are
 use Rattle.switch_ir.specs.declared.code.Table.{Table}
 use Rattle.switch_ir.specs.Passes.{Step, PassCode}
 use Rattle.switch_ir.specs.Spans.{Written, results_in, results_of, written_by, handed_in, written_in, is_read_last, last_stage, last_read, span_of, pass_spans, is_read_at, reads_at, writes_at, steps_of, GoesByStages}
-use Rattle.switch_ir.proofs.Staging.{AreApart}
+use Rattle.switch_ir.proofs.ApartValues.{AreApart}
 use Rattle.lemmas.proofs.Lists.{each_append, each_or, each_weaker}
 
 -- ---- elements

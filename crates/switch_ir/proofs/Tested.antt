@@ -6,7 +6,7 @@ use Rattle.split_model.specs.Crossing.{is_value}
 use Rattle.transfer_header.specs.BlockSteps.{greatest_below, step_if}
 use Rattle.switch_ir.specs.LastReads.{Adds}
 use Rattle.switch_ir.specs.Spans.{is_condition}
-use Rattle.switch_ir.proofs.Noting.{adds_none, adds_as, adds_then}
+use Rattle.switch_ir.proofs.NotedSteps.{adds_none, adds_as, adds_then}
 
 pub conditions_none : (blocks : List Block) (steps last : List ℕ) → Adds (λ v. greatest_below 1 (is_condition blocks v) steps) last last
 conditions_none blocks steps last = adds_as (λ v. 0) (λ v. greatest_below 1 (is_condition blocks v) steps) last last (λ v. omega arith) (adds_none last)

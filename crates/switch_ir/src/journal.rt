@@ -109,7 +109,7 @@ impl<'a> Call<'a> {
         ensures entry { entry_in result.0 (result.1.now ++ result.2.now) (result.3.now ++ result.4.now)
             ≡ entry_of self.now }
         ensures count { number_count result.0 ≡ length result.1.now + length result.2.now }
-        ensures few { length result.1.now + length result.2.now ≤ 16 }
+        ensures bounded { length result.1.now + length result.2.now ≤ 16 }
         ensures short { IsShort result.0 }
     {
         match *self {
@@ -266,7 +266,7 @@ const MOST_NUMBERS: usize = 16;
 // The numbers of a list.
 fn few(values: &Values) -> &[u64]
     ensures numbers { result.now ≡ values.now }
-    ensures few { length result.now ≤ 8 }
+    ensures bounded { length result.now ≤ 8 }
 {
     let _count = values.len();
     values.as_slice()
@@ -300,7 +300,7 @@ fn form_parts(command: &Command) -> (Form, u32, &[u64], &[u64])
 fn command_parts(command: &Command, end: Result<(), PortError>) -> (Outline, &[u64], &[u64])
     ensures entry { entry_in result.0 (result.1.now ++ result.2.now) [] ≡ entry.Command command.now end }
     ensures count { number_count result.0 ≡ length result.1.now + length result.2.now }
-    ensures few { length result.1.now + length result.2.now ≤ 16 }
+    ensures bounded { length result.1.now + length result.2.now ≤ 16 }
     ensures short { IsShort result.0 }
 {
     let (form, object, key, values) = form_parts(command);

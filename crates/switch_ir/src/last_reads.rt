@@ -27,7 +27,7 @@ impl Model for LastReads {
 impl LastReads {
     /// No value is read, of so many instructions.
     pub fn new(alloc: Global, instructions: usize) -> Result<LastReads, NoMemory>
-        requires few { instructions < 2 ^ 32 }
+        requires few_instructions { instructions < 2 ^ 32 }
         ensures { IfOk result (λ last. AreNoted instructions (λ v. 0) last) }
     {
         let steps = vec![in alloc; 0u32; 9 * instructions]?;

@@ -43,8 +43,8 @@ fn note_layout(layout: &Layout, step: u32, last: &mut LastReads)
 
 // The blocks in which a pass leaves work, and those above them, with a step.
 fn tested_blocks(alloc: Global, pass: &Pass, step: u32) -> Result<BlockSteps, NoMemory>
-    requires low { HasLowParents (pass_of pass.now).blocks }
-    requires there { Each (λ b. b ≤ length (pass_of pass.now).blocks) (pass_of pass.now).rest }
+    requires parents { HasLowParents (pass_of pass.now).blocks }
+    requires blocks_in_range { Each (λ b. b ≤ length (pass_of pass.now).blocks) (pass_of pass.now).rest }
     ensures count { IfOk result (λ steps. length steps ≡ suc (length (pass_of pass.now).blocks)) }
     ensures steps { IfOk result (λ steps. (test : ℕ → Bool) → greatest test steps
         ≡ step_if (list_any (λ b. list_any test (line (pass_of pass.now).blocks b)) (pass_of pass.now).rest) step) }
@@ -69,8 +69,8 @@ fn note_conditions(blocks: &Blocks, steps: &BlockSteps, last: &mut LastReads)
 
 // Notes what decides whether a packet goes up.
 fn note_tested(alloc: Global, pass: &Pass, step: u32, last: &mut LastReads) -> Result<(), NoMemory>
-    requires low { HasLowParents (pass_of pass.now).blocks }
-    requires there { Each (λ b. b ≤ length (pass_of pass.now).blocks) (pass_of pass.now).rest }
+    requires parents { HasLowParents (pass_of pass.now).blocks }
+    requires blocks_in_range { Each (λ b. b ≤ length (pass_of pass.now).blocks) (pass_of pass.now).rest }
     ensures { OnOk result (Raises (is_tested (pass_of pass.now)) step last.old last.new) }
 {
     let steps = tested_blocks(alloc, pass, step)?;
@@ -96,9 +96,9 @@ fn last_reads(
     up: &Layout,
     instructions: usize,
 ) -> Result<LastReads, NoMemory>
-    requires low { HasLowParents (pass_of pass.now).blocks }
-    requires there { Each (λ b. b ≤ length (pass_of pass.now).blocks) (pass_of pass.now).rest }
-    requires few { (instructions < 2 ^ 32) × (pass.now.highest + 1 < 2 ^ 32) }
+    requires parents { HasLowParents (pass_of pass.now).blocks }
+    requires blocks_in_range { Each (λ b. b ≤ length (pass_of pass.now).blocks) (pass_of pass.now).rest }
+    requires few_instructions { (instructions < 2 ^ 32) × (pass.now.highest + 1 < 2 ^ 32) }
     ensures { IfOk result (AreNoted instructions (last_read up.now (pass_of pass.now))) }
 {
     let mut last = LastReads::new(alloc, instructions)?;
@@ -125,7 +125,7 @@ fn span(value: ValueId, number: u32, stage: u32, last: &LastReads) -> Span
 fn row_values(tables: &Tables, object: u32) -> u32
     ensures value { result
         ≡ length (unwrap_or (option_map (λ (d : ObjectDecl). d.values) (declared_at tables.now object)) []) }
-    ensures few { result ≤ 8 }
+    ensures bounded { result ≤ 8 }
 {
     for table in tables.as_slice() {
         if table.number == object {
@@ -138,7 +138,7 @@ fn row_values(tables: &Tables, object: u32) -> u32
 // How many results an instruction has.
 fn results(tables: &Tables, kind: &InstrKind) -> u32
     ensures value { result ≡ results_in tables.now (work_of kind.now) }
-    ensures few { result ≤ 9 }
+    ensures bounded { result ≤ 9 }
 {
     match kind {
         InstrKind::Look { object, .. } => 1 + row_values(tables, *object),
@@ -153,7 +153,7 @@ fn push_results(
     count: u32,
     last: &LastReads,
 ) -> Result<(), NoMemory>
-    requires few { count ≤ 9 }
+    requires few_results { count ≤ 9 }
     requires numbers { AreNumbered (2 ^ 32) (results_of (pass_step_of step.now) count) }
     ensures { OnOk result (spans.new
         ≡ spans.old ++ map (span_of (noted last.now)) (results_of (pass_step_of step.now) count)) }

@@ -46,7 +46,7 @@ fn is_send_or_port(f: &Flat, value: ValueId) -> bool
 // it and doesn't compute it.
 fn is_given(f: &Flat, s: &Split, read: &ValueSet, i: usize) -> bool
     requires within { i < length f.now.code }
-    requires few { length f.now.code ≤ 4096 }
+    requires few_instructions { length f.now.code ≤ 4096 }
     ensures { result ≡ (is_at_hand (program_of f.now) s.now (step_at (program_of f.now) i).work
         && (not (is_post s.now i)
         && (not (is_among (only_value i) ((program_of f.now).send ∷ (program_of f.now).port ∷ []))
@@ -65,7 +65,7 @@ fn is_given(f: &Flat, s: &Split, read: &ValueSet, i: usize) -> bool
 // Stage 0, where postprocessing is given an instruction's value from the code or the packet.
 fn given_stage(f: &Flat, s: &Split, read: &ValueSet, i: usize) -> Option<u32>
     requires within { i < length f.now.code }
-    requires few { length f.now.code ≤ 4096 }
+    requires few_instructions { length f.now.code ≤ 4096 }
     requires marked { AreMarked (length f.now.code) (is_read_by (program_of f.now) (is_post s.now)) read.now }
     ensures { result ≡ given_stage (program_of f.now) s.now i }
 {
@@ -79,11 +79,11 @@ fn given_stage(f: &Flat, s: &Split, read: &ValueSet, i: usize) -> Option<u32>
 // The number of the first value behind those of instruction `i`.
 fn number_behind(f: &Flat, i: usize, number: u32) -> u32
     requires within { i < length f.now.code }
-    requires few { length f.now.code ≤ 4096 }
+    requires few_instructions { length f.now.code ≤ 4096 }
     requires numbered { number ≡ length (values_below (program_of f.now) i) }
-    requires low { number ≤ 9 * i }
+    requires bounded_number { number ≤ 9 * i }
     ensures numbered { result ≡ length (values_below (program_of f.now) (i + 1)) }
-    ensures low { result ≤ 9 * (i + 1) }
+    ensures bounded { result ≤ 9 * (i + 1) }
 {
     number + f.code.as_slice()[i].kind.result_count(f.objects.as_slice())
 }
@@ -98,7 +98,7 @@ fn put_step(
     steps: &mut Steps,
 ) -> Result<(), NoMemory>
     requires within { i < length f.now.code }
-    requires few { length f.now.code ≤ 4096 }
+    requires few_instructions { length f.now.code ≤ 4096 }
     requires numbered { number ≡ length (values_below (program_of f.now) i) }
     ensures { OnOk result (map pass_step_of steps.new ≡ map pass_step_of steps.old ++ placed (program_of f.now) i stage) }
 {
@@ -116,7 +116,7 @@ fn put_step(
 
 /// The instructions of a role.
 pub(crate) fn steps(alloc: Global, f: &Flat, s: &Split, role: Role) -> Result<Steps, NoMemory>
-    requires few { length f.now.code ≤ 4096 }
+    requires few_instructions { length f.now.code ≤ 4096 }
     ensures { IfOk result (λ made. map pass_step_of made ≡ steps_of (program_of f.now) (stage_in role s.now)) }
 {
     let mut made = Steps::new(alloc);
@@ -130,7 +130,7 @@ pub(crate) fn steps(alloc: Global, f: &Flat, s: &Split, role: Role) -> Result<St
 
 /// The instructions whose values postprocessing is given from the code and the packet.
 pub(crate) fn given_steps(alloc: Global, f: &Flat, s: &Split) -> Result<Steps, NoMemory>
-    requires few { length f.now.code ≤ 4096 }
+    requires few_instructions { length f.now.code ≤ 4096 }
     ensures { IfOk result (λ made.
         map pass_step_of made ≡ steps_of (program_of f.now) (given_stage (program_of f.now) s.now)) }
 {
@@ -146,7 +146,7 @@ pub(crate) fn given_steps(alloc: Global, f: &Flat, s: &Split) -> Result<Steps, N
 
 /// How many values a program has.
 pub(crate) fn values(f: &Flat) -> u32
-    requires few { length f.now.code ≤ 4096 }
+    requires few_instructions { length f.now.code ≤ 4096 }
     ensures { result ≡ length (values_of (program_of f.now)) }
 {
     let mut number = 0;

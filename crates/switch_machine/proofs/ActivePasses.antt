@@ -20,7 +20,7 @@ use Rattle.switch_machine.specs.declared.numbering.ValueRange.{ValueRange}
 use Rattle.switch_machine.specs.ActivePasses.{active_in, numbers_in, packet_in, with_pass, AreActivePasses, IsBegun, IsActivePass, NumberedActivePasses}
 use Rattle.switch_machine.specs.Ready.{all_placed}
 use Rattle.switch_machine.specs.UnderWay.{held, passes_by, shown}
-use Rattle.switch_machine.proofs.Placing.{numbers_placed, plan_placed}
+use Rattle.switch_machine.proofs.PlacedSteps.{numbers_placed, plan_placed}
 
 -- ## The map
 

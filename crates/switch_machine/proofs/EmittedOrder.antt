@@ -18,12 +18,12 @@ use Rattle.switch_ir.specs.Spans.{handed_in, written_by, written_in, Written}
 use Rattle.switch_machine.specs.Ranges.{AreInOrder, AreOrdered}
 use Rattle.switch_machine.proofs.Numbered.{same_value}
 use Rattle.switch_machine.proofs.Members.{each_has, has_each, has_made, has_parts, of_contains, Has}
-use Rattle.switch_ir.proofs.Going.{given_at, only_one}
-use Rattle.switch_ir.proofs.Handing.{crossing_parts}
+use Rattle.switch_ir.proofs.PassesByStages.{given_at, only_one}
+use Rattle.switch_ir.proofs.PostStart.{crossing_parts}
 use Rattle.switch_ir.proofs.Soundness.{crossing_among}
-use Rattle.switch_ir.proofs.Staging.{steps_are, values_are, IsStepOf, IsValueOf}
+use Rattle.switch_ir.proofs.ApartValues.{steps_are, values_are, IsStepOf, IsValueOf}
 use Rattle.lemmas.proofs.Tests.{not_both}
-use Rattle.split_model.proofs.Numbering.{count_results}
+use Rattle.split_model.proofs.ValueLists.{count_results}
 
 -- ## Numbers of values
 

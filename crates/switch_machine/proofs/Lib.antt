@@ -1,7 +1,7 @@
-mod Beginning
+mod PostReads
 mod EmittedOrder
-mod Ending
-mod Fitting
+mod PassEnds
+mod ResultCounts
 mod ActivePasses
 mod InRegisters
 mod KeptTables
@@ -10,13 +10,13 @@ mod Members
 mod Numbered
 mod Ordered
 mod PassValues
-mod Placing
+mod PlacedSteps
 mod ReadyStages
 mod SettingUp
 mod StageByStage
 mod TableRows
-mod Telling
+mod LeftByCalls
 mod VisibleRows
-mod Waiting
+mod WaitingResults
 mod WrittenPlaces
 mod Laws

@@ -12,7 +12,7 @@ use Rattle.switch_machine.specs.declared.sides.Side.{Side}
 use Rattle.switch_machine.specs.declared.sides.Side.TheVariants.{Before, Behind}
 use Rattle.switch_machine.specs.Ranges.{entries, AreOrdered, AreRanges}
 use Rattle.switch_machine.specs.Sides.{staging, of_side}
-use Rattle.switch_machine.specs.Workplaces.{IsPassOf, StaysMade, IsMadeBy, IsPassAs}
+use Rattle.switch_machine.specs.LoadedPasses.{IsPassOf, StaysMade, IsMadeBy, IsPassAs}
 use Rattle.switch_machine.proofs.Members.{each_has, of_contains}
 use Rattle.switch_machine.proofs.PassValues.{its_spans, IsRanged}
 use Rattle.flat_ir.specs.Blocks.{nothing}

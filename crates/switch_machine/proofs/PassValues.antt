@@ -39,7 +39,7 @@ use Rattle.flat_ir.proofs.Exact.{value_same}
 use Rattle.lemmas.proofs.Lists.{each_append, each_map, range_pushed}
 use Rattle.switch_ir.proofs.Laws.{passes_have_spans}
 use Rattle.switch_ir.proofs.Spanned.{written_at}
-use Rattle.switch_ir.proofs.Staging.{written_append}
+use Rattle.switch_ir.proofs.ApartValues.{written_append}
 use Rattle.transfer_header.proofs.Members.{has_span, HasSpan}
 
 some_results : (tables : List Table) (work : Work) → 0 < results_in tables work

@@ -16,5 +16,5 @@ pub mod Staged
 pub mod Staging
 pub mod UnderWay
 pub mod Views
-pub mod Workplaces
+pub mod LoadedPasses
 pub mod Written

@@ -17,7 +17,7 @@ ghost use Rattle.switch_machine.specs.Staging.{CanTake, EntersDown, Takes};
 ghost use Rattle.switch_machine.specs.UnderWay.{passes_on, Enters, HasGoneOnAt, IsGiven, Puts, Stages, StaysLoaded, Steps};
 ghost use Rattle.switch_machine.specs.ActivePasses.{with_pass};
 ghost use Rattle.switch_machine.specs.Ready.{AreReady};
-ghost use Rattle.switch_machine.specs.Workplaces.{IsPassOf, StaysMade};
+ghost use Rattle.switch_machine.specs.LoadedPasses.{IsPassOf, StaysMade};
 ghost use Rattle.switch_machine.specs.declared.sides.Event.TheVariants as event;
 ghost use Rattle.switch_machine.specs.declared.sides.Side.TheVariants.{Before, Behind};
 
@@ -108,7 +108,7 @@ impl Loaded {
         number: u32,
     ) -> Result<UpEnd, NoMemory>
         requires safe { KeepsTables (code_of self.old.code) tables.now }
-        requires there { IsSome (passes_on side self.old number) }
+        requires has_pass { IsSome (passes_on side self.old number) }
         ensures stays { StaysLoaded side self.old self.new }
         ensures stages { IfOk result (λ end. Stages side (code_of self.old.code) tables.now number end
             (passes_on side self.old) (passes_on side self.new)) }
@@ -200,7 +200,7 @@ impl Loaded {
         number: u32,
     ) -> Result<UpEnd, NoMemory>
         requires safe { KeepsTables (code_of self.old.code) tables.now }
-        requires there { IsSome (passes_on side self.old number) }
+        requires has_pass { IsSome (passes_on side self.old number) }
         ensures stays { StaysLoaded side self.old self.new }
         ensures passes { passes_on side self.new ≡ passes_on side self.old }
         ensures steps { (before : PassState) → passes_on side self.old number ≡ Some before
@@ -215,7 +215,7 @@ impl Loaded {
     // The pass over the packet of this number at a side takes a stage that isn't its last. This takes no memory.
     fn go_on(&mut self, side: Side, tables: &SwitchTables, number: u32)
         requires safe { KeepsTables (code_of self.old.code) tables.now }
-        requires there { IsSome (passes_on side self.old number) }
+        requires has_pass { IsSome (passes_on side self.old number) }
         requires left { (before : PassState) → passes_on side self.old number ≡ Some before
             → nat_lt (suc before.stage) (staging side (code_of self.old.code)).code.highest ≡ true }
         ensures stays { StaysLoaded side self.old self.new }

@@ -17,7 +17,7 @@ ghost use Rattle.switch_machine.specs.Numbers.{reads_by, AreHeld};
 ghost use Rattle.switch_machine.specs.Sides.{of_side, staging, EndsOn};
 ghost use Rattle.switch_machine.specs.UnderWay.{leaves_on, numbers_at_last, passes_of, Entered, Enters, GoneOn};
 ghost use Rattle.switch_machine.specs.UnderWay.{HasEnd, HasStagesLeft, IsAtLast, IsGiven, Puts, Steps};
-ghost use Rattle.switch_machine.specs.Workplaces.{IsPassOf, StaysMade};
+ghost use Rattle.switch_machine.specs.LoadedPasses.{IsPassOf, StaysMade};
 
 use crate::active_pass::{ActivePass, active_pass_of, copy_numbers, put_in};
 use crate::live::leaves_work;
@@ -137,7 +137,7 @@ impl LoadedPass {
 
     /// The pass over the packet of this number takes a stage that isn't its last. This takes no memory.
     pub fn go_on(&mut self, tables: &SwitchTables, number: u32)
-        requires there { IsSome (active_in self.old.active number) }
+        requires has_pass { IsSome (active_in self.old.active number) }
         requires left { HasStagesLeft number self.old }
         ensures made { StaysMade self.old self.new }
         ensures goes_on { (code : Code) → IsPassOf code self.old → KeepsTables code tables.now
@@ -152,7 +152,7 @@ impl LoadedPass {
 
     // Computes the last stage of the pass over the packet of this number. The pass stays as it is.
     fn compute_last(&mut self, tables: &SwitchTables, number: u32)
-        requires there { IsSome (active_in self.old.active number) }
+        requires has_pass { IsSome (active_in self.old.active number) }
         requires last { IsAtLast number self.old }
         ensures made { StaysMade self.old self.new }
         ensures active { self.new.active ≡ self.old.active }
@@ -189,7 +189,7 @@ impl LoadedPass {
     ) -> Result<UpEnd, NoMemory>
         requires pass { IsPassOf (code_of code.now) self.old }
         requires safe { KeepsTables (code_of code.now) tables.now }
-        requires there { IsSome (active_in self.old.active number) }
+        requires has_pass { IsSome (active_in self.old.active number) }
         ensures made { StaysMade self.old self.new }
         ensures active { self.new.active ≡ self.old.active }
         ensures steps { (before : PassState) → passes_of (code_of code.now) self.old number ≡ Some before

@@ -28,7 +28,7 @@ fn is_live_below<R: Numbers>(marks: &[bool], block: &Block, numbers: &R) -> bool
 // Marks of the root, which is live, and of each block, in one walk: a block is live where its parent is live and its
 // condition has its polarity.
 fn mark_live<R: Numbers>(blocks: &[Block], numbers: &R, marks: &mut Vec<bool>)
-    requires low { HasLowParents blocks.now }
+    requires parents { HasLowParents blocks.now }
     requires room { length marks.old.items ≡ suc (length blocks.now) }
     ensures { AreLive blocks.now (R.reads numbers.now) marks.new.items }
 {
@@ -42,8 +42,8 @@ fn mark_live<R: Numbers>(blocks: &[Block], numbers: &R, marks: &mut Vec<bool>)
 /// Whether a block is live in which the pass leaves work to the server. It takes one step a block, and no memory:
 /// `marks` has one for the root and one for each block.
 pub(crate) fn leaves_work<R: Numbers>(pass: &Pass, numbers: &R, marks: &mut Vec<bool>) -> bool
-    requires low { HasLowParents (pass_of pass.now).blocks }
-    requires there { Each (λ b. b ≤ length (pass_of pass.now).blocks) (pass_of pass.now).rest }
+    requires parents { HasLowParents (pass_of pass.now).blocks }
+    requires blocks_in_range { Each (λ b. b ≤ length (pass_of pass.now).blocks) (pass_of pass.now).rest }
     requires room { length marks.old.items ≡ suc (length (pass_of pass.now).blocks) }
     ensures leaves { result
         ≡ list_any (is_live (pass_of pass.now).blocks (R.reads numbers.now)) (pass_of pass.now).rest }

@@ -6,7 +6,7 @@ ghost use Rattle.switch_ir.specs.Sound.{CanBeRun};
 ghost use Rattle.switch_ir.specs.UnderWay.{none_under_way};
 ghost use Rattle.switch_machine.specs.Ranges.{ordered_prop, AreOrdered};
 ghost use Rattle.switch_machine.specs.Ready.{ready_prop, AreReady};
-ghost use Rattle.switch_machine.specs.Workplaces.{made_prop, IsMadeBy};
+ghost use Rattle.switch_machine.specs.LoadedPasses.{made_prop, IsMadeBy};
 ghost use Rattle.switch_machine.specs.declared.sides.Side.TheVariants.{Before, Behind};
 
 use crate::loaded_pass::LoadedPass;

@@ -39,7 +39,7 @@ pub(crate) struct LoadedPass {
 }
 
 impl LoadedPass {
-    ghost use Rattle.switch_machine.specs.Workplaces.{IsMadeBy};
+    ghost use Rattle.switch_machine.specs.LoadedPasses.{IsMadeBy};
 
     /// The pass of a side of code, which looks up these tables. The values of a layout are handed to it.
     pub fn of(

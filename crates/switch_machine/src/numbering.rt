@@ -154,7 +154,7 @@ impl Numbering {
 fn row_values(tables: &[Table], object: u32) -> u32
     ensures exact { result
         ≡ length (unwrap_or (option_map (λ (d : Declared). d.values) (declared_at tables.now object)) []) }
-    ensures few { result ≤ 8 }
+    ensures bounded { result ≤ 8 }
 {
     for table in tables {
         if table.number == object {

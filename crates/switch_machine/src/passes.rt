@@ -50,7 +50,7 @@ impl Numbers for Placed<'_> {
 
 /// There are fewer than 2^32 registers, and each value that has one has a number.
 pub(crate) fn are_few(registers: &Regs)
-    ensures few { length registers.now.numbers < 2 ^ 32 }
+    ensures bounded { length registers.now.numbers < 2 ^ 32 }
     ensures placed { ArePlaced registers.now }
 {
     let _ = registers.as_slice();

@@ -111,7 +111,7 @@ impl Event<'_> {
     }
 
     /// Puts it last in a journal with its end, also where it failed, and gives the end back.
-    #[tactic(auto, using(crate::proofs::Telling::same_end))]
+    #[tactic(auto, using(crate::proofs::LeftByCalls::same_end))]
     pub fn note_end(
         &self,
         journal: &mut Journal,

@@ -5,7 +5,7 @@ use Rattle.std.proofs.lemmas.List.Kept.{AllPairs-cons}
 use Rattle.split_model.specs.declared.layout.Crossing.{Crossing}
 use Rattle.transfer_header.specs.Registers.{Registers, HasRegister, IsRising, FitsLayout}
 use Rattle.std.proofs.lemmas.List.Elements.{All-cons, All-nil}
-use Rattle.transfer_header.proofs.Fitting.{fits_own, own_place}
+use Rattle.transfer_header.proofs.LayoutInRegisters.{fits_own, own_place}
 
 pub has_own : (registers : Registers) (value : ℕ) → registers.plan ≡ None → value < length registers.numbers → HasRegister registers value
 has_own registers value none lt = subst (λ place. IsSome place) (sym (own_place registers none value lt)) refl

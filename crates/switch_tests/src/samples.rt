@@ -210,7 +210,7 @@ pub(crate) fn split_of(
     requires most { transfer_bytes ≤ 65535 }
     ensures bounded { IfOk result (λ _. IsBounded (program_of f.now)) }
     ensures legal { IfOk result (λ split. IsLegal (program_of f.now) split) }
-    ensures low { IfOk result HasFewStages }
+    ensures few_stages { IfOk result HasFewStages }
 {
     if !is_bounded(f) {
         return Err(Fail::from("not bounded"));

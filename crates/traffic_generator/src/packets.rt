@@ -18,7 +18,7 @@ const FIRST_FRAME: [u8; 54] = [
 // The flow of the packet of this number.
 fn flow_of(seed: u64, number: u32) -> u16
     ensures flow { result ≡ flow_of seed number }
-    ensures few { result < 1024 }
+    ensures bounded { result < 1024 }
 {
     let round = (seed % 128 + u64::from(number / 16)) % 128;
     (round * 8 + u64::from(number % 8)) as u16

@@ -44,7 +44,7 @@ fn put_round(events: &mut Events) -> Result<(), NoMemory>
 #[tactic(auto, using(crate::proofs::Copies::copies_more))]
 pub fn events_of(alloc: Global, count: Count) -> Result<Events, NoMemory>
     ensures events { IfOk result (λ events. events ≡ events_of count.packets) }
-    ensures few { IfOk result (λ events. length events ≤ most_events) }
+    ensures bounded { IfOk result (λ events. length events ≤ most_events) }
 {
     let mut events = Events::new(alloc);
     for round in 0..(count.packets + 15) / 16 {

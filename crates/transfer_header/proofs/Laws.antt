@@ -16,9 +16,9 @@ use Rattle.split_model.specs.declared.split.Part.{Part}
 use Rattle.transfer_header.proofs.ByPlace.{values_told}
 use Rattle.transfer_header.proofs.Numbers.{crossings_fit, crossings_rise, from_all, named_down, named_up, to_all}
 pub use Rattle.transfer_header.proofs.ByPlace.{frames_are_told_by_place-parts, frames_are_told_by_place-unpacked, frames_of_low_bits-bytes, frames_of_low_bits-narrow}
-pub use Rattle.transfer_header.proofs.Fitting.{needed_values_fit}
+pub use Rattle.transfer_header.proofs.LayoutInRegisters.{needed_values_fit}
 pub use Rattle.transfer_header.proofs.Numbers.{values_have_their_numbers}
-pub use Rattle.transfer_header.proofs.Passing.{a_list_is_written, a_pass_in_registers, a_plan_keeps_apart, a_step_in_registers}
+pub use Rattle.transfer_header.proofs.PassInRegisters.{a_list_is_written, a_pass_in_registers, a_plan_keeps_apart, a_step_in_registers}
 pub use Rattle.transfer_header.proofs.WholeFrames.{frames_of_equal_values, frames_tell_their_parts}
 pub use Rattle.transfer_header.proofs.Writes.{a_write_keeps_others}
 use Rattle.transfer_header.specs.Frames.{IsFrame, IsFrameOf, frame_of}

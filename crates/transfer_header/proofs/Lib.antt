@@ -1,14 +1,14 @@
 pub mod BitLists
-pub mod Sweeping
+pub mod SweptBlocks
 pub mod ByPlace
 mod Examples
 pub mod Elements
-pub mod Fitting
+pub mod LayoutInRegisters
 pub mod LayoutValues
 pub mod Members
 pub mod Numbers
 pub mod Parts
-pub mod Passing
+pub mod PassInRegisters
 pub mod PlacedNumbers
 pub mod WholeFrames
 pub mod Writes

@@ -17,8 +17,8 @@ use Rattle.split_model.specs.Crossing.{crosses_up, crosses_down}
 use Rattle.flat_ir.specs.Kinds.{is_input}
 use Rattle.transfer_header.specs.Registers.{Registers, IsRising, FitsLayout}
 use Rattle.transfer_header.proofs.Elements.{AllPairs-map}
-use Rattle.transfer_header.proofs.Fitting.{fits_own}
-use Rattle.split_model.proofs.Numbering.{count_results as length-first_results}
+use Rattle.transfer_header.proofs.LayoutInRegisters.{fits_own}
+use Rattle.split_model.proofs.ValueLists.{count_results as length-first_results}
 
 abbrev count_of : Program → ℕ → ℕ
 count_of f n = result_count f.objects (step_at f n).work

@@ -113,7 +113,7 @@ fn push_bytes(bytes: &mut Vec<u8>, number: u64, count: u32) -> u32
 
 // The number that bytes are, the highest first.
 fn number_in(bytes: &[u8]) -> u64
-    requires few { length bytes.now ≤ 8 }
+    requires few_bytes { length bytes.now ≤ 8 }
     ensures { bits_of (8 * length bytes.now) result ≡ bits_in bytes.now }
 {
     let mut number = 0;

@@ -54,7 +54,7 @@ impl BlockSteps {
 
     /// Notes the step of each block at all blocks above it. This takes one step a block.
     pub fn hand_up(&mut self, blocks: &Blocks)
-        requires low { HasLowParents blocks.now }
+        requires parents { HasLowParents blocks.now }
         requires count { length self.old ≡ suc (length blocks.now) }
         ensures count { length self.new ≡ length self.old }
         ensures greatest { (test : ℕ → Bool)

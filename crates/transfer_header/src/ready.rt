@@ -225,7 +225,7 @@ impl ReadyStep {
         requires { length keys.now ≤ 8 }
         ensures placed { registers.new ≡ all_placed registers.old (placed_gives (places_of self.now.places)
             (looked (L.seen tables.now) object (map (reads_at registers.old.numbers) keys.now))) }
-        ensures few { length registers.old.numbers < 2 ^ 32 }
+        ensures bounded { length registers.old.numbers < 2 ^ 32 }
     {
         let key = key_at(registers.as_slice(), keys);
         let found = tables.find(object, &key);
@@ -246,7 +246,7 @@ impl ReadyStep {
         ensures placed { registers.new ≡ all_placed registers.old (placed_gives (places_of self.now.places)
             (results (reads_at registers.old.numbers) false (L.seen tables.now) (packet_of arrival.now)
             (work_of kind.now))) }
-        ensures few { length registers.old.numbers < 2 ^ 32 }
+        ensures bounded { length registers.old.numbers < 2 ^ 32 }
     {
         match kind {
             InstrKind::Look { object, keys } => self.look(*object, keys, tables, registers),
@@ -267,7 +267,7 @@ impl ReadyStep {
         ensures placed { registers.new ≡ all_placed registers.old (placed_gives (places_of self.now.places)
             (results (reads_at registers.old.numbers) false (L.seen tables.now) (packet_of arrival.now)
             (ready_work self.now.kind))) }
-        ensures few { length registers.old.numbers < 2 ^ 32 }
+        ensures bounded { length registers.old.numbers < 2 ^ 32 }
     {
         match &self.kind {
             ReadyKind::Operator(operator) => {

@@ -64,7 +64,7 @@ impl Regs {
     /// The number at each place.
     pub fn as_slice(&self) -> &[u64]
         ensures numbers { result.now ≡ self.now.numbers }
-        ensures few { length self.now.numbers < 2 ^ 32 }
+        ensures bounded { length self.now.numbers < 2 ^ 32 }
     {
         self.items.as_slice()
     }

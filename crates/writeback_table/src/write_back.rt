@@ -125,7 +125,7 @@ fn stage_row(
     update: &Update,
 ) -> u32
     requires counted { IsCounted values.old gone.old count room }
-    requires few { map.contains_key (joined values.old.contents gone.old.contents) update.now.key ≡ false
+    requires not_joined { map.contains_key (joined values.old.contents gone.old.contents) update.now.key ≡ false
         → count < room }
     ensures rows { joined values.new.contents gone.new.contents
         ≡ map.insert (joined values.old.contents gone.old.contents) update.now.key (values_of update.now.to) }

@@ -18,7 +18,7 @@ returns-clause-fits c =
     let wires = c.args.chain.now.wires in
     let placed = c.in_ok-refuse_elements.ensures.ok in
     let inputs = subst (λ (ws : List Wire). All (λ (w : Wire). w.input < 2 ^ 8) ws) c.as_slice.ensures c.inputs_are_bytes.ensures in
-    fits ms wires c.requires.some c.requires.good placed.reads inputs c.requires.within c.requires.acyclic
+    fits ms wires c.requires.nonempty c.requires.good placed.reads inputs c.requires.within c.requires.acyclic
 
 pub returns-clause-rules : goal.returns-clause-rules
 returns-clause-rules c =
@@ -28,8 +28,8 @@ returns-clause-rules c =
     let m = c.in_ok-middlebox.middlebox in
     let inputs = subst (λ (ws : List Wire). All (λ (w : Wire). w.input < 2 ^ 8) ws) c.as_slice.ensures c.inputs_are_bytes.ensures in
     subst (λ (t : Tree). IsTrue (is_good t)) (sym c.in_ok-middlebox.ensures.made)
-    (composition_keeps_the_rules-rules (connected ms wires) (fits ms wires c.requires.some c.requires.good placed.reads inputs c.requires.within c.requires.acyclic) placed.repeats
-    (is_small ms wires m c.requires.few c.in_ok-middlebox.ensures.made c.in_ok-middlebox.ensures.small))
+    (composition_keeps_the_rules-rules (connected ms wires) (fits ms wires c.requires.nonempty c.requires.good placed.reads inputs c.requires.within c.requires.acyclic) placed.repeats
+    (is_small ms wires m c.requires.few_classes c.in_ok-middlebox.ensures.made c.in_ok-middlebox.ensures.small))
 
 pub returns-clause-names : goal.returns-clause-names
 returns-clause-names c =
@@ -37,4 +37,4 @@ returns-clause-names c =
     let wires = c.args.chain.now.wires in
     let m = c.in_ok-middlebox.middlebox in
     subst (λ (t : Tree). HasNames t) (sym c.in_ok-middlebox.ensures.made)
-    (composition_keeps_the_rules-names (connected ms wires) (is_small ms wires m c.requires.few c.in_ok-middlebox.ensures.made c.in_ok-middlebox.ensures.small) (at_each HasNames ms c.requires.names))
+    (composition_keeps_the_rules-names (connected ms wires) (is_small ms wires m c.requires.few_classes c.in_ok-middlebox.ensures.made c.in_ok-middlebox.ensures.small) (at_each HasNames ms c.requires.names))

@@ -2,7 +2,7 @@ use Rattle.std.proofs.Common.{◌≡◌, map, List, sym, ap, ◌∙◌}
 use Rattle.element_lang.specs.View.{expr_tree}
 use Rattle.element_lang.specs.declared.tree.Expr.{Expr}
 use Rattle.element_chain.specs.Compose.{renamed}
-use Rattle.chain_compose.proofs.Placing.{read_apply, apply_level}
+use Rattle.chain_compose.proofs.RenamedExprs.{read_apply, apply_level}
 use Rattle.chain_compose.proofs.expressions.+place_expr.Goals as goal
 
 pub place_expr-returns-in_ok-place_exprs-in-Apply : goal.place_expr-returns-in_ok-place_exprs-in-Apply

@@ -8,7 +8,7 @@ use Rattle.chain_text.specs.declared.shape.TheConstants.{DECLARATION, WIRE}
 use Rattle.chain_text.specs.Grammar.{declares, wires, statement_tokens, IsFirstWrong}
 use Rattle.chain_text.specs.Statements.{span_at, value_at}
 use Rattle.chain_text.specs.Shapes.{fit_of}
-use Rattle.chain_text.proofs.Fitting.{declaration_found, wire_found}
+use Rattle.chain_text.proofs.FitOfShapes.{declaration_found, wire_found}
 use Rattle.chain_text.proofs.FirstWrong.{first_wrong}
 use Rattle.chain_text.proofs.grammar.in_front.Goals as goal
 

@@ -2,7 +2,7 @@ use Rattle.std.proofs.Common.{◌≤◌, ◌+◌, [], length, drop, arith}
 use Rattle.chain_text.specs.Tokens.{tokens_of}
 use Rattle.chain_text.specs.Grammar.{statement_tokens}
 use Rattle.chain_text.specs.Statements.{statement_of}
-use Rattle.chain_text.proofs.Parsing.{left_at, one_more, wrong_at, wrong_fits, front_fits}
+use Rattle.chain_text.proofs.StatementsFound.{left_at, one_more, wrong_at, wrong_fits, front_fits}
 use Rattle.chain_text.proofs.grammar.parse.Goals as goal
 use Rattle.chain_text.proofs.grammar.parse.Goals.{In_ok-push-in-Ok}
 

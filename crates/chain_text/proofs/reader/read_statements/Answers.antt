@@ -5,7 +5,7 @@ use Rattle.element_chain.specs.Wiring.{Leads, HasNoCycle}
 use Rattle.chain_text.specs.Reads.{elements_of, most_elements, IsRefused}
 use Rattle.chain_text.specs.Statements.{statements_of}
 use Rattle.chain_text.proofs.Declared.{declared_count}
-use Rattle.chain_text.proofs.Reading.{many_elements, take_error, has_a_cycle, chain_text, composable}
+use Rattle.chain_text.proofs.ReaderAnswers.{many_elements, take_error, has_a_cycle, chain_text, composable}
 use Rattle.chain_text.proofs.reader.read_statements.Goals as goal
 use Rattle.chain_text.proofs.reader.read_statements.Goals.{Else-branch}
 
@@ -26,8 +26,8 @@ returns-in_err-chain-clause-err c =
     search (rules, refused)
 
 -- how many elements there are
-pub has_cycle-requires-clause-few : goal.has_cycle-requires-clause-few
-has_cycle-requires-clause-few c =
+pub has_cycle-requires-clause-few_elements : goal.has_cycle-requires-clause-few_elements
+has_cycle-requires-clause-few_elements c =
     omega (arith, c.declarations-count.ensures, declared_count c.args.text.now c.args.statements.now, ap length c.in_ok-chain.ensures.ok.elements)
 
 pub returns-then-branch-clause-err : goal.returns-then-branch-clause-err

@@ -5,7 +5,7 @@ use Rattle.chain_text.specs.Reads.{offset_at}
 use Rattle.chain_text.specs.Statements.{statements_of}
 use Rattle.chain_text.specs.Refused.{IsGrammarError}
 use Rattle.chain_text.specs.declared.grammar.GrammarError.{GrammarError}
-use Rattle.chain_text.proofs.Reading.{spelling_found, wrong_found}
+use Rattle.chain_text.proofs.ReaderAnswers.{spelling_found, wrong_found}
 use Rattle.chain_text.proofs.reader.read_tokens.Goals as goal
 
 pub read_statements-requires : goal.read_statements-requires

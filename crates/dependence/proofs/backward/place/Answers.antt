@@ -1,7 +1,7 @@
 use Rattle.std.proofs.Common.{◌≡◌, ◌<◌, ◌∙◌, ◌&&◌, false, length, subst, sym}
 use Rattle.flat_ir.specs.Program.{program_of, step_of}
-use Rattle.dependence.proofs.Placing.{placed, here}
-use Rattle.dependence.proofs.Falling.{may, enters, take_one, leave_out}
+use Rattle.dependence.proofs.PlacedCode.{placed, here}
+use Rattle.dependence.proofs.PostSets.{may, enters, take_one, leave_out}
 use Rattle.dependence.proofs.backward.place.Goals.{else-may-via-then-may+else-enters_post, else-may-via-else-may}
 use Rattle.std.proofs.lemmas.Bool.{and_left, and_right}
 use Rattle.dependence.proofs.backward.place.Goals as goal

@@ -1,8 +1,8 @@
 use Rattle.std.proofs.Common.{◌≡◌, ◌∙◌, false, refl, ap, arith, length, subst, replicate}
 use Rattle.flat_ir.specs.Program.{program_of}
 use Rattle.dependence.specs.Posted.{IsPostFrom}
-use Rattle.dependence.proofs.Placing.{as_many}
-use Rattle.dependence.proofs.Falling.{post_from_end, post_found}
+use Rattle.dependence.proofs.PlacedCode.{as_many}
+use Rattle.dependence.proofs.PostSets.{post_from_end, post_found}
 use Rattle.dependence.proofs.backward.post_closure_beside_guards.Goals as goal
 
 pub loop-i-init : goal.loop-i-init

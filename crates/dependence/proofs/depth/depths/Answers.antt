@@ -1,6 +1,6 @@
 use Rattle.std.proofs.Common.{◌≡◌, ◌+◌, ap, length, subst, sym, arith}
 use Rattle.flat_ir.specs.Program.{program_of, step_of}
-use Rattle.dependence.proofs.Placing.{placed, here, as_many}
+use Rattle.dependence.proofs.PlacedCode.{placed, here, as_many}
 use Rattle.dependence.proofs.Deep.{IsDepthsSoFar, depths_more, depths_done}
 use Rattle.dependence.proofs.depth.depths.Goals as goal
 
@@ -8,7 +8,7 @@ pub next_depth-depth-requires : goal.next_depth-depth-requires
 next_depth-depth-requires c =
     let n = c.loop-i-test.true in
     let m = ap length c.as_slice-code.ensures in
-    let few = c.requires.few in
+    let few = c.requires.few_instructions in
     λ j. let l = c.loop-i.invariant.low j in omega arith
 
 pub loop-i-preserved : goal.loop-i-preserved

@@ -1,5 +1,5 @@
 use Rattle.flat_ir.specs.Program.{program_of}
-use Rattle.dependence.proofs.Rising.{IsSoFar, CarriedMay, operands_of}
+use Rattle.dependence.proofs.PreSets.{IsSoFar, CarriedMay, operands_of}
 use Rattle.dependence.proofs.forward.carried_closure.Given as goal
 
 abbrev pub invariant-loop-i : goal.invariant-loop-i

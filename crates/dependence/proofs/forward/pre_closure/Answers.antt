@@ -1,7 +1,7 @@
 use Rattle.std.proofs.Common.{◌≡◌, ◌+◌, length, subst, sym, arith}
 use Rattle.flat_ir.specs.Program.{program_of, step_of}
-use Rattle.dependence.proofs.Placing.{placed, here, as_many}
-use Rattle.dependence.proofs.Rising.{IsSoFar, PreMay, needed_of, pre_more, pre_done}
+use Rattle.dependence.proofs.PlacedCode.{placed, here, as_many}
+use Rattle.dependence.proofs.PreSets.{IsSoFar, PreMay, needed_of, pre_more, pre_done}
 use Rattle.dependence.proofs.forward.pre_closure.Goals as goal
 
 pub loop-i-preserved : goal.loop-i-preserved

@@ -1,5 +1,5 @@
 use Rattle.flat_ir.specs.Program.{program_of}
-use Rattle.dependence.proofs.Rising.{IsSoFar, PreMay, needed_of}
+use Rattle.dependence.proofs.PreSets.{IsSoFar, PreMay, needed_of}
 use Rattle.dependence.proofs.forward.pre_closure.Given as goal
 
 abbrev pub invariant-loop-i : goal.invariant-loop-i

@@ -1,8 +1,8 @@
 use Rattle.std.proofs.Common.{◌≡◌, ◌∙◌, ◌+◌, ◌<◌, [], refl, ap, sym, subst, arith, true, false, length, get_or, take, replicate}
 use Rattle.flat_ir.specs.declared.program.ValueId.{ValueId}
 use Rattle.flat_ir.specs.Program.{program_of, is_among}
-use Rattle.dependence.proofs.Placing.{as_many}
-use Rattle.dependence.proofs.Guarding.{AreMarkedFor, none_marked, is_there, one_marked, all_marked}
+use Rattle.dependence.proofs.PlacedCode.{as_many}
+use Rattle.dependence.proofs.GuardMarks.{AreMarkedFor, none_marked, is_there, one_marked, all_marked}
 use Rattle.dependence.proofs.guard.guards.Goals as goal
 
 pub loop-value-init : goal.loop-value-init

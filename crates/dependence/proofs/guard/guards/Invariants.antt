@@ -1,6 +1,6 @@
 use Rattle.std.proofs.Common.{take}
 use Rattle.flat_ir.specs.Program.{program_of}
-use Rattle.dependence.proofs.Guarding.{AreMarkedFor}
+use Rattle.dependence.proofs.GuardMarks.{AreMarkedFor}
 use Rattle.dependence.proofs.guard.guards.Given as goal
 
 abbrev pub invariant-loop-value : goal.invariant-loop-value

@@ -1,5 +1,5 @@
 use Rattle.element_tokens.specs.Tokens.{token_of, tokens_of}
-use Rattle.element_grammar.proofs.Parsing.{only_tree, wrong_place, tree_found}
+use Rattle.element_grammar.proofs.OnlyTree.{only_tree, wrong_place, tree_found}
 use Rattle.element_grammar.proofs.parser.parse.Goals as goal
 
 pub returns-clause-only : goal.returns-clause-only

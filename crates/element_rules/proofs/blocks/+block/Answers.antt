@@ -3,7 +3,7 @@ use Rattle.element_lang.specs.declared.broken.Broken.{Broken}
 use Rattle.element_lang.specs.Broken as broken
 use Rattle.element_grammar.specs.Surface.{surface_body}
 use Rattle.element_rules.specs.declared.names.Sight.{Sight}
-use Rattle.element_rules.proofs.Walking.{own_found, inner_found, walking_more, walked_out, first_block, second_block, repeated_block, counting, repeated_out}
+use Rattle.element_rules.proofs.BlockFaults.{own_found, inner_found, walking_more, walked_out, first_block, second_block, repeated_block, counting, repeated_out}
 use Rattle.element_rules.proofs.blocks.+block.Goals as goal
 
 pub broken_in-returns-then-is_some-clause-found : goal.broken_in-returns-then-is_some-clause-found

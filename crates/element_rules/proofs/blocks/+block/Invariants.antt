@@ -1,5 +1,5 @@
 use Rattle.std.proofs.Common.{drop}
-use Rattle.element_rules.proofs.Walking.{Walking}
+use Rattle.element_rules.proofs.BlockFaults.{Walking}
 use Rattle.element_rules.proofs.blocks.+block.Given as goal
 
 abbrev pub invariant-broken_in-loop-next : goal.invariant-broken_in-loop-next

@@ -1,5 +1,5 @@
 use Rattle.std.proofs.Common.{sym, ◌∙◌}
-use Rattle.element_rules.proofs.Ending.{ends_last, second_ends, first_goes_on}
+use Rattle.element_rules.proofs.LastEnds.{ends_last, second_ends, first_goes_on}
 use Rattle.element_rules.proofs.ends.+ends.Goals as goal
 
 pub always_ends-returns-then-ends_always : goal.always_ends-returns-then-ends_always

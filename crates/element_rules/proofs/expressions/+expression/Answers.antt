@@ -3,7 +3,7 @@ use Rattle.element_lang.specs.Surface as surface
 use Rattle.element_grammar.specs.Surface.{surface_expr, surface_exprs}
 use Rattle.element_rules.specs.Seen.{local_of}
 use Rattle.element_rules.specs.Tested.{tested}
-use Rattle.element_rules.proofs.Testing.{testing_more}
+use Rattle.element_rules.proofs.ExprFaults.{testing_more}
 use Rattle.element_rules.proofs.Levels.{literal_level, field_level, apply_level}
 use Rattle.element_rules.proofs.expressions.+expression.Goals as goal
 

@@ -1,6 +1,6 @@
 use Rattle.std.proofs.Common.{map, drop}
 use Rattle.element_rules.specs.Seen.{local_of}
-use Rattle.element_rules.proofs.Testing.{Testing}
+use Rattle.element_rules.proofs.ExprFaults.{Testing}
 use Rattle.element_rules.proofs.expressions.+expression.Given as goal
 
 abbrev pub invariant-expressions-loop-next : goal.invariant-expressions-loop-next

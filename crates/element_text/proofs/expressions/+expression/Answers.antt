@@ -1,4 +1,4 @@
-use Rattle.element_text.proofs.Typing.{typing_more, typing_end}
+use Rattle.element_text.proofs.TypedExprs.{typing_more, typing_end}
 use Rattle.element_text.proofs.expressions.+expression.Goals as goal
 
 pub expressions-loop-next-preserved : goal.expressions-loop-next-preserved

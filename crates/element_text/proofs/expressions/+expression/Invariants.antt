@@ -1,6 +1,6 @@
 use Rattle.std.proofs.Common.{drop, map}
 use Rattle.element_text.specs.Scopes.{known_of}
-use Rattle.element_text.proofs.Typing.{Typing}
+use Rattle.element_text.proofs.TypedExprs.{Typing}
 use Rattle.element_text.proofs.expressions.+expression.Given as goal
 
 abbrev pub invariant-expressions-loop-next : goal.invariant-expressions-loop-next

@@ -6,11 +6,11 @@ use Rattle.element_grammar.specs.Surface.{surface_expr, surface_stmt, surface_bo
 use Rattle.element_tokens.specs.Tokens.{span_text}
 use Rattle.element_text.specs.Scopes.{env_of}
 use Rattle.element_text.specs.Resolve.{Env, Made, MadeBody, declared, with_locals, made_stmt}
-use Rattle.element_text.proofs.Scoping.{Within, within_to, within_locals}
+use Rattle.element_text.proofs.NamesInScope.{Within, within_to, within_locals}
 use Rattle.element_text.proofs.SoundStmts.{declared_within}
-use Rattle.element_text.proofs.Numbering.{numbering_more, numbering_end}
-use Rattle.element_text.proofs.Choosing.{choice_read, choice_made}
-use Rattle.element_text.proofs.Repeating.{cut_env, repeat_made}
+use Rattle.element_text.proofs.BodyNumbers.{numbering_more, numbering_end}
+use Rattle.element_text.proofs.ChoiceNumbers.{choice_read, choice_made}
+use Rattle.element_text.proofs.RepeatNumbers.{cut_env, repeat_made}
 use Rattle.element_text.proofs.rules.+statement.Goals as goal
 
 pub block-loop-next-preserved : goal.block-loop-next-preserved

@@ -1,6 +1,6 @@
 use Rattle.std.proofs.Common.{drop}
 use Rattle.element_text.specs.Scopes.{env_of}
-use Rattle.element_text.proofs.Numbering.{Numbering}
+use Rattle.element_text.proofs.BodyNumbers.{Numbering}
 use Rattle.element_text.proofs.rules.+statement.Given as goal
 
 abbrev pub invariant-block-loop-next : goal.invariant-block-loop-next

@@ -1,5 +1,5 @@
 use Rattle.lexer.specs.declared.token.Span.{Span}
-use Rattle.element_text.proofs.Declaring.{width_within, declaring_wide}
+use Rattle.element_text.proofs.DeclaredLocals.{width_within, declaring_wide}
 use Rattle.element_text.proofs.rules.declare_all.Goals as goal
 
 none : Span

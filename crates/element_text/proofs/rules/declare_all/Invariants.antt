@@ -1,6 +1,6 @@
 use Rattle.std.proofs.Common.{drop}
 use Rattle.element_text.specs.Scopes.{env_of}
-use Rattle.element_text.proofs.Declaring.{Declaring}
+use Rattle.element_text.proofs.DeclaredLocals.{Declaring}
 use Rattle.element_text.proofs.rules.declare_all.Given as goal
 
 abbrev pub invariant-loop-i : goal.invariant-loop-i

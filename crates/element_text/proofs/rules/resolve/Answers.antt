@@ -10,7 +10,7 @@ use Rattle.element_text.specs.Resolve.{made_body, is_good_decl, are_good_decls, 
 use Rattle.element_text.proofs.Links.{first_link, test_holds, test_there}
 use Rattle.element_text.proofs.Agree.{unbroken}
 use Rattle.element_text.proofs.Declarations.{one_by_one}
-use Rattle.element_text.proofs.Answering.{first_env, first_is, resolved_made, only_one}
+use Rattle.element_text.proofs.OnlyMiddlebox.{first_env, first_is, resolved_made, only_one}
 use Rattle.element_text.proofs.Sound.{resolved_named, resolved_good, resolved_names}
 use Rattle.element_text.proofs.rules.resolve.Goals as goal
 use Rattle.element_text.proofs.rules.resolve.Goals.{After-drop-scope-5}

@@ -11,7 +11,7 @@ loop-number-preserved g c =
     let d : Block = record { parent = 0; cond = record { instruction = 0; result = 0 }; polarity = false } in
     let n = c.loop-number.number in
     let up = get_or blocks (n - 1) d in
-    let below = parent_below blocks c.requires.low n d c.loop-number-test.true c.loop-number.invariant.1 in (
-      sym (live_at blocks c.requires.low reads n d c.loop-number-test.true c.loop-number.invariant.1 ∙ ap (λ b. b && is_live blocks reads up.parent) (sym c.holds.ensures ∙ c.if-not-holds.false)) ∙ c.loop-number.invariant.0,
+    let below = parent_below blocks c.requires.parents n d c.loop-number-test.true c.loop-number.invariant.1 in (
+      sym (live_at blocks c.requires.parents reads n d c.loop-number-test.true c.loop-number.invariant.1 ∙ ap (λ b. b && is_live blocks reads up.parent) (sym c.holds.ensures ∙ c.if-not-holds.false)) ∙ c.loop-number.invariant.0,
       omega (arith, below, c.loop-number.invariant.1),
     )

@@ -5,8 +5,8 @@ use Rattle.flat_ir.specs.Registers.{packet_of}
 use Rattle.flat_ir.proofs.Steps.{step_is, turn_taken, within_code}
 use Rattle.flat_ir.proofs.eval.take_turn.Goals as goal
 
-pub compute-requires-clause-there : goal.compute-requires-clause-there
-compute-requires-clause-there c =
+pub compute-requires-clause-block_in_range : goal.compute-requires-clause-block_in_range
+compute-requires-clause-block_in_range c =
     let instr = c.index-as_slice-i.result in
     subst (λ (s : Step). s.block ≤ length c.args.f.now.blocks) (sym (step_is c.args.f.now c.args.i instr c.as_slice.result.now c.as_slice.ensures c.requires.within c.index-as_slice-i.is)) (c.requires.well.blocks c.args.i (within_code c.args.f.now c.args.i c.requires.within))
 

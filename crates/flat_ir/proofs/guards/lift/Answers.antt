@@ -4,7 +4,7 @@ use Rattle.std.proofs.lemmas.List.{get_or_default}
 use Rattle.flat_ir.specs.declared.program.Block.{Block}
 use Rattle.flat_ir.specs.Program.{program_of}
 use Rattle.flat_ir.specs.Guarding.{AreGuardsFrom}
-use Rattle.flat_ir.proofs.Guarding.{lifted, passed}
+use Rattle.flat_ir.proofs.GuardValues.{lifted, passed}
 use Rattle.flat_ir.proofs.guards.lift.Goals as goal
 
 abbrev none : Block

@@ -2,7 +2,7 @@ use Rattle.std.proofs.Common.{◌≡◌, [], sym, subst, arith, length}
 use Rattle.std.proofs.lemmas.List.{length-map}
 use Rattle.flat_ir.specs.Program.{program_of, step_of}
 use Rattle.flat_ir.specs.Guarding.{AreWriteBlocks, AreGuardsFrom}
-use Rattle.flat_ir.proofs.Guarding.{from_last, all_found}
+use Rattle.flat_ir.proofs.GuardValues.{from_last, all_found}
 use Rattle.flat_ir.proofs.guards.write_guards.Goals as goal
 
 pub loop-b-init : goal.loop-b-init

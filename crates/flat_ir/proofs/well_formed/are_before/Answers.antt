@@ -12,7 +12,7 @@ loop-number-preserved c =
     let d : Block = record { parent = 0; cond = record { instruction = 0; result = 0 }; polarity = false } in
     let n = c.loop-number.number in
     let up = get_or blocks (n - 1) d in
-    let below = parent_below blocks c.requires.low n d c.loop-number-test.true c.loop-number.invariant.1 in (
-      sym (before_at blocks c.requires.low c.args.i n d c.loop-number-test.true c.loop-number.invariant.1 ∙ ap (λ b. b && are_before blocks c.args.i up.parent) (lt-ltb up.cond.instruction c.args.i c.if-at-i.false)) ∙ c.loop-number.invariant.0,
+    let below = parent_below blocks c.requires.parents n d c.loop-number-test.true c.loop-number.invariant.1 in (
+      sym (before_at blocks c.requires.parents c.args.i n d c.loop-number-test.true c.loop-number.invariant.1 ∙ ap (λ b. b && are_before blocks c.args.i up.parent) (lt-ltb up.cond.instruction c.args.i c.if-at-i.false)) ∙ c.loop-number.invariant.0,
       omega (arith, below, c.loop-number.invariant.1),
     )

@@ -2,7 +2,7 @@ use Rattle.std.proofs.Common.{sym, ap, ◌∙◌, get_or}
 use Rattle.std.proofs.lemmas.List.{length-map}
 use Rattle.flat_ir.specs.Program.{program_of, width_of_value}
 use Rattle.flat_ir.specs.Fits.{widths_of}
-use Rattle.flat_ir.proofs.Fitting.{keys_count}
+use Rattle.flat_ir.proofs.FitParts.{keys_count}
 use Rattle.flat_ir.proofs.work.are_few.Goals as goal
 
 pub prove-unreachable-requires : goal.prove-unreachable-requires

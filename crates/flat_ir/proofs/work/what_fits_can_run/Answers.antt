@@ -1,5 +1,5 @@
 use Rattle.flat_ir.specs.Program.{program_of, work_of}
-use Rattle.flat_ir.proofs.Fitting.{can_run}
+use Rattle.flat_ir.proofs.FitParts.{can_run}
 use Rattle.flat_ir.proofs.work.what_fits_can_run.Goals as goal
 
 pub returns : goal.returns

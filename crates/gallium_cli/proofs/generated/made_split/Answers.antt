@@ -18,5 +18,5 @@ returns-clause-runnable c =
     let found = c.in_ok-flattened.ensures in
     let parts = c.in_ok-parts.ensures in
     chosen_runs m _ c.in_ok-parts.parts c.translator_limits-allowed.result _ found.good found.program found.bounded
-    (stores_are_kept-start m found.good) parts.legal parts.keeps parts.low
+    (stores_are_kept-start m found.good) parts.legal parts.keeps parts.few_stages
     (limits_in_range _ c.translator_limits-allowed.ensures) refl

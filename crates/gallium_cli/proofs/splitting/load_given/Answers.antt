@@ -24,4 +24,4 @@ returns-clause-runnable g c =
     let found = c.in_ok-flattened.ensures in
     let given = c.in_ok-parts.ensures in
     chosen_runs m _ c.in_ok-parts.parts c.in_ok-flattened.allowed _ found.good found.program found.ok.program.bounded
-    (stores_are_kept-start m found.good) given.ok.accepted.legal given.ok.accepted.keeps given.few found.in_range refl
+    (stores_are_kept-start m found.good) given.ok.accepted.legal given.ok.accepted.keeps given.few_stages found.in_range refl

@@ -18,4 +18,4 @@ returns-clause-runnable g c =
     let found = c.in_ok-program.ensures in
     let split = c.in_ok-split.ensures in
     chosen_runs m _ c.in_ok-split.split c.in_ok-program.allowed _ found.good found.program found.ok.program.bounded
-    (stores_are_kept-start m found.good) split.legal split.keeps split.low found.in_range refl
+    (stores_are_kept-start m found.good) split.legal split.keeps split.few_stages found.in_range refl

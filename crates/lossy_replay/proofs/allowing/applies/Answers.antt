@@ -2,7 +2,7 @@ use Rattle.std.proofs.Common.{ap, sym, ◌∙◌}
 use Rattle.replay_state.specs.Step.{applies}
 use Rattle.replay_contracts.specs.Inputs.{setup_for, whole}
 use Rattle.replay_contracts.specs.Replayer.{inputs_of}
-use Rattle.lossy_replay.proofs.Applying.{release_applies}
+use Rattle.lossy_replay.proofs.EventApplies.{release_applies}
 use Rattle.lossy_replay.proofs.allowing.applies.Goals as goal
 
 pub returns-in-Apply : goal.returns-in-Apply

@@ -1,7 +1,7 @@
 use Rattle.std.proofs.Common.{sym, ◌∙◌}
 use Rattle.replay_contracts.specs.Inputs.{setup_for, whole}
 use Rattle.replay_contracts.specs.Replayer.{inputs_of}
-use Rattle.lossy_replay.proofs.Applying.{none_applies, some_applies}
+use Rattle.lossy_replay.proofs.EventApplies.{none_applies, some_applies}
 use Rattle.lossy_replay.proofs.allowing.may_apply.Goals as goal
 
 pub returns-in-Some : goal.returns-in-Some

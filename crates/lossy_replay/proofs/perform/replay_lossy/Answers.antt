@@ -4,14 +4,14 @@ use Rattle.std.proofs.lemmas.Option.{slice_get-get_or}
 use Rattle.std.proofs.lemmas.Result.{err_from_is_err_and}
 use Rattle.run_model.specs.declared.link_event.LinkEvent.{LinkEvent}
 use Rattle.replay_contracts.specs.Replayer.{inputs_of}
-use Rattle.lossy_replay.proofs.Breaking.{breaks_behind}
+use Rattle.lossy_replay.proofs.BrokenReplays.{breaks_behind}
 use Rattle.lossy_replay.proofs.Whole.{all_linked, is_linked, is_linked_run, linked_more, on_its_way, starts, stays_reported}
 use Rattle.replay_course.proofs.Laws.{few_events_are_left-commands}
-use Rattle.replay_course.proofs.Going.{counts_behind}
+use Rattle.replay_course.proofs.NextEvent.{counts_behind}
 use Rattle.lossy_replay.proofs.perform.replay_lossy.Goals as goal
 
-pub start-requires-clause-few : goal.start-requires-clause-few
-start-requires-clause-few g c = few_events_are_left-commands (inputs_of c.args.job.now) c.requires.split c.requires.few_packets
+pub start-requires-clause-few_commands : goal.start-requires-clause-few_commands
+start-requires-clause-few_commands g c = few_events_are_left-commands (inputs_of c.args.job.now) c.requires.split c.requires.few_packets
 
 pub loop-event-init : goal.loop-event-init
 loop-event-init g c =

@@ -2,26 +2,26 @@ use Rattle.std.proofs.Common.{◌≡◌, ◌+◌, ◌++◌, ◌∙◌, [], true,
 use Rattle.output_commit.specs.declared.span.Span.{Span}
 use Rattle.output_commit.specs.Batches.{fits}
 use Rattle.output_commit.specs.Spans.{IsTallied, batch_in}
-use Rattle.output_commit.proofs.Beginning.{Taking, first_in, taking_behind, taking_first, taking_next, taking_none, taking_updates}
-use Rattle.output_commit.proofs.Fitting.{more_not}
+use Rattle.output_commit.proofs.BegunBatches.{Taking, first_in, taking_behind, taking_first, taking_next, taking_none, taking_updates}
+use Rattle.output_commit.proofs.FitsByCount.{more_not}
 use Rattle.output_commit.proofs.batches.take_up.Goals as goal
 
 abbrev none : Span
 none = record { first = 0; changes = 0; versions = 0 }
 
 pub of-requires : goal.of-requires
-of-requires c = first_in c.args.updates.now c.args.spans.now _ none c.requires.some refl c.requires.joined
+of-requires c = first_in c.args.updates.now c.args.spans.now _ none c.requires.nonempty refl c.requires.joined
 
 pub returns-then-not-count-clause-takes : goal.returns-then-not-count-clause-takes
 returns-then-not-count-clause-takes c =
     let alone = c.if-not-count.ensures.fits [] c.clear.ensures.tallied refl in
     let not = sym alone ∙ refl in
-    taking_none c.args.most c.args.updates.now c.args.spans.now _ (taking_first c.args.most c.args.updates.now c.args.spans.now _ none c.requires.some refl c.requires.joined)
+    taking_none c.args.most c.args.updates.now c.args.spans.now _ (taking_first c.args.most c.args.updates.now c.args.spans.now _ none c.requires.nonempty refl c.requires.joined)
     (λ vs. more_not c.args.most _ vs (sym (ap (fits c.args.most) c.of.ensures) ∙ not))
 
 pub loop-count-init : goal.loop-count-init
 loop-count-init c = record {
-  taking = taking_first c.args.most c.args.updates.now c.args.spans.now _ none c.requires.some refl c.requires.joined;
+  taking = taking_first c.args.most c.args.updates.now c.args.spans.now _ none c.requires.nonempty refl c.requires.joined;
   counted = subst (IsTallied c.count.new.self) c.of.ensures (c.if-not-count.ensures.tallied [] c.clear.ensures.tallied refl);
   held = sym (c.if-not-count.ensures.fits [] c.clear.ensures.tallied refl ∙ ap (fits c.args.most) c.of.ensures);
   tallied = c.count.ensures.kept c.args.updates.now (c.clear.ensures.kept c.args.updates.now c.requires.tallied);

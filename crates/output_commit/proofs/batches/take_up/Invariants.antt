@@ -1,7 +1,7 @@
 use Rattle.std.proofs.Common.{◌≡◌, true}
 use Rattle.output_commit.specs.Batches.{fits}
 use Rattle.output_commit.specs.Spans.{AreTallied, IsTallied, batch_in}
-use Rattle.output_commit.proofs.Beginning.{Taking}
+use Rattle.output_commit.proofs.BegunBatches.{Taking}
 use Rattle.output_commit.proofs.batches.take_up.Given as goal
 
 abbrev pub invariant-loop-count : goal.invariant-loop-count

@@ -1,5 +1,5 @@
 use Rattle.std.proofs.Common.{arith}
-use Rattle.output_commit.proofs.Spanning.{clear_at}
+use Rattle.output_commit.proofs.SpannedBatches.{clear_at}
 use Rattle.output_commit.proofs.span.command_at.Goals as goal
 
 pub returns-else-place-count-4 : goal.returns-else-place-count-4

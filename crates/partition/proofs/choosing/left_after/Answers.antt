@@ -24,4 +24,4 @@ returns-then-is_of_preprocessing c =
     c.most_left.ensures
 
 pub returns-else-is_of_preprocessing : goal.returns-else-is_of_preprocessing
-returns-else-is_of_preprocessing c = left_of_one (program_of c.args.f.now) c.args.limits.now c.args.count c.requires.some c.requires.neither
+returns-else-is_of_preprocessing c = left_of_one (program_of c.args.f.now) c.args.limits.now c.args.count c.requires.nonempty c.requires.neither

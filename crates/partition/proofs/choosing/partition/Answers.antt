@@ -20,8 +20,8 @@ pub returns-then-shrink-clause-keeps : goal.returns-then-shrink-clause-keeps
 returns-then-shrink-clause-keeps c =
     (sound (program_of c.args.f.now) c.args.limits.now true c.in_ok-split.split c.requires.bounded.formed c.requires.in_range c.in_ok-split.ensures).keeps
 
-pub returns-then-shrink-clause-low : goal.returns-then-shrink-clause-low
-returns-then-shrink-clause-low c =
+pub returns-then-shrink-clause-few_stages : goal.returns-then-shrink-clause-few_stages
+returns-then-shrink-clause-few_stages c =
     (sound (program_of c.args.f.now) c.args.limits.now true c.in_ok-split.split c.requires.bounded.formed c.requires.in_range c.in_ok-split.ensures).low
 
 pub returns-in-Kept : goal.returns-in-Kept
@@ -39,7 +39,7 @@ returns-in-Kept c =
       refused = tt;
       legal = is.legal;
       keeps = is.keeps;
-      low = is.low;
+      few_stages = is.low;
       not_refused = λ other chosen. tt;
       not_chosen = λ over refused. kept_not_exceeded f l (length f.code) true formed split over tried (subst (λ (b : Bool). IsRefused f l b over) c.if-shrink.false refused);
     }
@@ -57,7 +57,7 @@ returns c =
       refused = subst (λ (b : Bool). IsRefused f l b over) (sym c.if-shrink.false) tried.exceeded;
       legal = tt;
       keeps = tt;
-      low = tt;
+      few_stages = tt;
       not_refused = λ split chosen. absurd (exceeded_not_kept f l (length f.code) true c.requires.bounded.formed split over tried
           (subst (λ (b : Bool). IsChosen f l b split) c.if-shrink.false chosen));
       not_chosen = λ other refused. tt;

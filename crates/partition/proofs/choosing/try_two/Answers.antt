@@ -16,7 +16,7 @@ returns-in-Some c =
     let l = c.args.limits.now in
     let k = c.args.front.now.count in
     let found : IsFound f l k true (Some c.in-Some.split) = subst (λ (o : Option (List Part)). IsFound f l k true o) c.in-Some.is c.in_ok-split.ensures in
-    first_with f l k c.in-Some.split c.requires.some found
+    first_with f l k c.in-Some.split c.requires.nonempty found
 
 pub returns-in-Kept : goal.returns-in-Kept
 returns-in-Kept c =
@@ -25,7 +25,7 @@ returns-in-Kept c =
     let k = c.args.front.now.count in
     let none : IsFound f l k true None = subst (λ (o : Option (List Part)). IsFound f l k true o) c.in_default.is c.in_ok-split.ensures in
     let tried : IsTried f l k false (Kept c.in-Kept.split) = subst (λ (t : Tried). IsTried f l k false t) c.in-Kept.is c.in_ok-split-2.ensures in
-    first_without f l k c.in-Kept.split c.requires.some none tried.kept
+    first_without f l k c.in-Kept.split c.requires.nonempty none tried.kept
 
 pub left_after-requires-clause-neither : goal.left_after-requires-clause-neither
 left_after-requires-clause-neither c =

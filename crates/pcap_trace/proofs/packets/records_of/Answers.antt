@@ -12,4 +12,4 @@ loop-i-preserved c =
 
 pub of-requires : goal.of-requires
 of-requires c =
-    made_are_records c.loop-i.records.items c.args.packets.now c.loop-i.i c.loop-i.invariant (omega arith) c.requires.few
+    made_are_records c.loop-i.records.items c.args.packets.now c.loop-i.i c.loop-i.invariant (omega arith) c.requires.few_records

@@ -4,7 +4,7 @@ use Rattle.state_store.specs.declared.object.Row.{Row}
 use Rattle.replay_course.specs.Telling.{ShowsParts}
 use Rattle.replay_course.proofs.Rows.{is_loaded, has_replicated, rows_kept, shows_past, shows_more, shows_all, shows_same}
 use Rattle.std.proofs.lemmas.Result.{err_from_is_err_and}
-use Rattle.replay_course.proofs.Failing.{counts_as, fails_behind, fails_there, fails_with, goes_kept, keeps_more}
+use Rattle.replay_course.proofs.LeftByErrors.{counts_as, fails_behind, fails_there, fails_with, goes_kept, keeps_more}
 use Rattle.replay_course.proofs.report.switch_parts.Goals as goal
 use Rattle.replay_course.proofs.report.switch_parts.Goals.{then-replicated+in_ok-rows+in_ok-push, else-replicated}
 use Rattle.split_answers.proofs.Laws.{replicated_objects_are_declared-there}

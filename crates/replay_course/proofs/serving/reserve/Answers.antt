@@ -1,7 +1,7 @@
 use Rattle.std.proofs.Common.{[], sym, ◌∙◌}
 use Rattle.std.proofs.lemmas.List.{append-nil}
 use Rattle.std.proofs.lemmas.Result.{err_from_is_err_and}
-use Rattle.replay_course.proofs.Failing.{counts_as, fails_with}
+use Rattle.replay_course.proofs.LeftByErrors.{counts_as, fails_with}
 use Rattle.replay_course.proofs.serving.reserve.Goals as goal
 
 pub returns-in_err-room-clause-fails : goal.returns-in_err-room-clause-fails

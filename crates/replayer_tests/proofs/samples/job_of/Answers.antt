@@ -13,9 +13,9 @@ returns c =
         kept = c.requires.kept;
         few = few_writes (program_of c.args.flat) c.in_ok-split.split 4096 bounds.few;
       };
-      stages = c.in_ok-split.ensures.low;
+      stages = c.in_ok-split.ensures.few_stages;
       writeback = omega arith;
-      few = c.requires.few;
+      few = c.requires.few_packets;
       none = c.new.ensures;
       plain = refl;
       ends = refl;

@@ -1,6 +1,6 @@
 use Rattle.std.proofs.Common.{◌≡◌, ◌≤◌, ◌+◌, [], ap, arith}
 use Rattle.replay_contracts.specs.Replayer.{Replayer as Seen}
-use Rattle.replayer_tests.proofs.Failing.{by_failed}
+use Rattle.replayer_tests.proofs.HadFailed.{by_failed}
 use Rattle.replayer_tests.proofs.translator_tests.steps_so.Goals as goal
 
 pub returns-in-Ok : goal.returns-in-Ok

@@ -9,7 +9,7 @@ loop-o-preserved c =
     let objects = c.args.objects.now in
     let o = c.loop-o.o in
     let within : o < length objects = omega arith in
-    let low = c.object_bits-bits.ensures.low in
+    let low = c.object_bits-bits.ensures.bounded in
     record {
       low = omega arith;
       so_far = λ f split same before after.

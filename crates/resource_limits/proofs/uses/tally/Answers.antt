@@ -22,5 +22,5 @@ returns c =
     record {
       exact = exact;
       count = tally_count how (program_of f) split tally exact;
-      low = tally_few how (program_of f) split tally few exact;
+      bounded = tally_few how (program_of f) split tally few exact;
     }

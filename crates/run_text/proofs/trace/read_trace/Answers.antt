@@ -1,5 +1,5 @@
 use Rattle.std.proofs.Common.{sym, ◌∙◌, rules}
-use Rattle.run_text.proofs.Arriving.{trace_arrives, trace_values}
+use Rattle.run_text.proofs.Arrivals.{trace_arrives, trace_values}
 use Rattle.run_text.proofs.trace.read_trace.Goals as goal
 
 pub of-requires : goal.of-requires

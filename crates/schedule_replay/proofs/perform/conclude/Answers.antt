@@ -1,8 +1,8 @@
-use Rattle.schedule_replay.proofs.Concluding.{ended_drained, few_to_drain}
+use Rattle.schedule_replay.proofs.WholeReplay.{ended_drained, few_to_drain}
 use Rattle.schedule_replay.proofs.perform.conclude.Goals as goal
 
-pub drain-requires-clause-few : goal.drain-requires-clause-few
-drain-requires-clause-few g c =
+pub drain-requires-clause-few_events : goal.drain-requires-clause-few_events
+drain-requires-clause-few_events g c =
     few_to_drain _ _ c.args.course.now _ c.requires.under_way
     c.requires.few_packets c.requires.few_events
 

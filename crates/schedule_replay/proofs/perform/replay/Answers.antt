@@ -3,16 +3,16 @@ use Rattle.std.specs.Prelude.{is_some, IfOk}
 use Rattle.std.proofs.lemmas.Result.{err_from_is_err_and, IfErr-weaker, IfOk-weaker}
 use Rattle.replay_contracts.specs.Replayer.{Fails, inputs_of}
 use Rattle.replay_contracts.specs.declared.job.Replayed.{Replayed}
-use Rattle.schedule_replay.proofs.Concluding.{broken_at_once, either_way, is_reported, is_run_of}
-use Rattle.replay_course.proofs.Failing.{broken_behind}
-use Rattle.replay_course.proofs.Reporting.{ReportsOf}
+use Rattle.schedule_replay.proofs.WholeReplay.{broken_at_once, either_way, is_reported, is_run_of}
+use Rattle.replay_course.proofs.LeftByErrors.{broken_behind}
+use Rattle.replay_course.proofs.ReportedState.{ReportsOf}
 use Rattle.replay_course.proofs.Laws.{few_events_are_left-commands}
-use Rattle.replay_course.proofs.Calling.{stays_more}
-use Rattle.replay_course.proofs.Going.{counts_behind}
+use Rattle.replay_course.proofs.ToldByCalls.{stays_more}
+use Rattle.replay_course.proofs.NextEvent.{counts_behind}
 use Rattle.schedule_replay.proofs.perform.replay.Goals as goal
 
-pub start-requires-clause-few : goal.start-requires-clause-few
-start-requires-clause-few g c = few_events_are_left-commands (inputs_of c.args.job.now) c.requires.split c.requires.few_packets
+pub start-requires-clause-few_commands : goal.start-requires-clause-few_commands
+start-requires-clause-few_commands g c = few_events_are_left-commands (inputs_of c.args.job.now) c.requires.split c.requires.few_packets
 
 pub returns : goal.returns
 returns g c =

@@ -1,11 +1,11 @@
 use Rattle.std.proofs.lemmas.Result.{err_from_is_err_and}
 use Rattle.replay_contracts.specs.Replayer.{inputs_of}
-use Rattle.replay_course.proofs.Failing.{not_begun}
+use Rattle.replay_course.proofs.LeftByErrors.{not_begun}
 use Rattle.replay_course.proofs.Laws.{few_events_are_left-commands}
 use Rattle.schedule_replay.proofs.replayer.begin.Goals as goal
 
-pub start-requires-clause-few : goal.start-requires-clause-few
-start-requires-clause-few g c = few_events_are_left-commands (inputs_of c.args.job.now) c.requires.split c.requires.few_packets
+pub start-requires-clause-few_commands : goal.start-requires-clause-few_commands
+start-requires-clause-few_commands g c = few_events_are_left-commands (inputs_of c.args.job.now) c.requires.split c.requires.few_packets
 
 pub returns-in_err-copy-clause-fails : goal.returns-in_err-copy-clause-fails
 returns-in_err-copy-clause-fails g c =

@@ -10,8 +10,8 @@ use Rattle.server_runtime.proofs.Laws.{a_server_run_goes_by_steps-differ, a_serv
 use Rattle.transfer_header.proofs.Laws.{a_plan_keeps_apart}
 use Rattle.server_runtime.proofs.allocation.allocate.Goals as goal
 
-pub of-requires-clause-few : goal.of-requires-clause-few
-of-requires-clause-few c =
+pub of-requires-clause-few_spans : goal.of-requires-clause-few_spans
+of-requires-clause-few_spans c =
     let f = program_of c.args.whole.now.flat in
     let split = c.args.whole.now.split in
     omega (

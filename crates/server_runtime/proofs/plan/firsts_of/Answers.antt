@@ -23,11 +23,11 @@ loop-instr-preserved c =
       count = omega (arith, now.count, ap length c.in_ok-push.ensures.items, length_push c.loop-instr.firsts.items c.loop-instr.next);
       each = rw c.in_ok-push.ensures.items (each_more (λ k. length (values_below f k)) c.loop-instr.firsts.items c.loop-instr.next n now.count now.each now.next);
       next = ap (λ k. k + c.result_count-next.result) now.next ∙ below_more f n c.result_count-next.result count;
-      low = omega (arith, now.low, c.result_count-next.ensures.few);
+      low = omega (arith, now.low, c.result_count-next.ensures.bounded);
     }
 
-pub returns-clause-few : goal.returns-clause-few
-returns-clause-few c =
+pub returns-clause-bounded : goal.returns-clause-bounded
+returns-clause-bounded c =
     let f = program_of c.args.f.now in
     let end : c.loop-instr.instr-index ≡ length f.code = omega (arith, c.loop-instr.auto.instr-index-end, c.loop-instr-test.false, ap length c.as_slice-instr-items.ensures, code_length c.args.f.now) in
     omega (arith, c.loop-instr.invariant.next, c.loop-instr.invariant.low, ap (λ n. length (values_below f n)) end, end, c.requires, code_length c.args.f.now)

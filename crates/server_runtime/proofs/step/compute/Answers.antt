@@ -12,7 +12,7 @@ returns-clause-taken c =
     let flat = c.args.whole.now.flat in
     λ split updates.
     computed_turn (program_of flat) split (packet_of c.args.arrival.now) c.args.values.now c.args.store.now c.args.step.now c.run.new.registers updates
-    (omega (arith, c.requires.at.within, code_length flat)) c.requires.has c.requires.resolved c.requires.write c.run.ensures.few c.run.ensures.placed
+    (omega (arith, c.requires.at.within, code_length flat)) c.requires.has c.requires.resolved c.requires.write c.run.ensures.bounded c.run.ensures.placed
 
 pub returns-clause-places : goal.returns-clause-places
 returns-clause-places c =

@@ -21,8 +21,8 @@ compute_number-number-requires c =
     record {
       number = ap (λ (s : Step). is_look s.work) here ∙ write_is_no_look f c.args.values.now step c.requires.resolved c.requires.write;
       fits = subst (λ (s : Step). IsTrue (fits f s.work)) (sym here) (formed.fit step.instruction lt);
-      low = formed.parents;
-      there = subst (λ (s : Step). s.block ≤ length flat.blocks) (sym here) (formed.blocks step.instruction lt);
+      parents = formed.parents;
+      block_in_range = subst (λ (s : Step). s.block ≤ length flat.blocks) (sym here) (formed.blocks step.instruction lt);
       size = c.requires.at.size;
       shape = c.requires.at.shape;
     }

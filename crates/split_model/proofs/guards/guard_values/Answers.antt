@@ -2,7 +2,7 @@ use Rattle.std.proofs.Common.{◌∙◌, ap, subst, false, length}
 use Rattle.flat_ir.specs.Program.{program_of, is_among}
 use Rattle.flat_ir.specs.Guards.{guards_write}
 use Rattle.split_model.specs.Marked.{AreMarked}
-use Rattle.split_model.proofs.Marking.{same_test}
+use Rattle.split_model.proofs.ValueMarks.{same_test}
 use Rattle.split_model.proofs.guards.guard_values.Goals as goal
 
 pub returns : goal.returns

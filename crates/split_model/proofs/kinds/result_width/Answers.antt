@@ -7,4 +7,4 @@ use Rattle.split_model.proofs.kinds.result_width.Goals as goal
 pub width_of-requires : goal.width_of-requires
 width_of-requires c =
     let some : 0 < c.args.place = omega arith in
-    subst (λ w. IsTrue (is_width w)) (sym c.result_width.ensures) (result_wide c.args.objects.now (work_of c.args.kind.now) c.args.place c.requires.small some c.requires.there)
+    subst (λ w. IsTrue (is_width w)) (sym c.result_width.ensures) (result_wide c.args.objects.now (work_of c.args.kind.now) c.args.place c.requires.small some c.requires.place_in_range)

@@ -2,8 +2,8 @@ use Rattle.std.proofs.Common.{◌<◌, ◌∙◌, ◌||◌, ap, sym, arith, leng
 use Rattle.flat_ir.specs.declared.program.Instr.{Instr}
 use Rattle.flat_ir.specs.Program.{Step, step_of, operands}
 use Rattle.split_model.specs.Crossing.{is_among}
-use Rattle.split_model.proofs.Passing.{with_true}
-use Rattle.split_model.proofs.Marking.{same_test}
+use Rattle.split_model.proofs.AnyBelow.{with_true}
+use Rattle.split_model.proofs.ValueMarks.{same_test}
 use Rattle.split_model.proofs.Steps.{step_is}
 use Rattle.split_model.proofs.readers.mark_operands.Goals as goal
 

@@ -1,7 +1,7 @@
 use Rattle.std.proofs.Common.{◌∙◌, ◌||◌, ap, sym}
 use Rattle.std.specs.Prelude.{not}
-use Rattle.split_model.proofs.Passing.{with_true}
-use Rattle.split_model.proofs.Marking.{same_test}
+use Rattle.split_model.proofs.AnyBelow.{with_true}
+use Rattle.split_model.proofs.ValueMarks.{same_test}
 use Rattle.split_model.proofs.readers.mark_written.Goals as goal
 
 pub returns-then-not-is_post : goal.returns-then-not-is_post

@@ -2,8 +2,8 @@ use Rattle.std.proofs.Common.{length}
 use Rattle.flat_ir.specs.Program.{program_of}
 use Rattle.split_model.specs.Split.{any_below}
 use Rattle.split_model.specs.Marked.{is_read_at}
-use Rattle.split_model.proofs.Passing.{any_more}
-use Rattle.split_model.proofs.Marking.{same_test}
+use Rattle.split_model.proofs.AnyBelow.{any_more}
+use Rattle.split_model.proofs.ValueMarks.{same_test}
 use Rattle.split_model.proofs.readers.read_by.Goals as goal
 
 pub loop-i-preserved : goal.loop-i-preserved

@@ -1,7 +1,7 @@
 use Rattle.std.proofs.Common.{◌<◌, ◌&&◌, arith, length, take}
 use Rattle.std.specs.List.{list_any}
 use Rattle.split_model.specs.Crossing.{is_value, is_server_write}
-use Rattle.split_model.proofs.Marking.{same_test, written_more}
+use Rattle.split_model.proofs.ValueMarks.{same_test, written_more}
 use Rattle.split_model.proofs.readers.written_values.Goals as goal
 
 pub loop-written-preserved : goal.loop-written-preserved

@@ -6,7 +6,7 @@ use Rattle.split_model.specs.Split.{is_pre}
 use Rattle.split_model.specs.Shown.{looks_at}
 use Rattle.std.proofs.lemmas.Bool.{and_from}
 use Rattle.split_model.proofs.Steps.{step_is}
-use Rattle.flat_ir.proofs.Passing.{any_passes}
+use Rattle.flat_ir.proofs.AnyBelow.{any_passes}
 use Rattle.split_model.proofs.shown.is_shown.Goals as goal
 
 pub returns-then-looks_at : goal.returns-then-looks_at

@@ -6,4 +6,4 @@ use Rattle.split_validate.proofs.split_text.print_split.Goals as goal
 pub returns-clause-back : goal.returns-clause-back
 returns-clause-back c = λ few.
     subst (λ text. IsSplitText (length c.args.s.now) text c.args.s.now) (sym c.in_ok-text.ensures.text)
-    (printed_is c.args.s.now c.in_ok-text.ensures.few few)
+    (printed_is c.args.s.now c.in_ok-text.ensures.bounded few)

@@ -4,8 +4,8 @@ use Rattle.flat_ir.specs.Program.{program_of, step_of}
 use Rattle.switch_ir.specs.Emitted.{Computes}
 use Rattle.switch_ir.specs.Passes.{pass_of}
 use Rattle.switch_ir.proofs.Codes.{by_parts, copied_plan}
-use Rattle.switch_ir.proofs.Planning.{pre_planned, post_planned}
-use Rattle.switch_ir.proofs.Computing.{what_is_emitted_computes_the_split}
+use Rattle.switch_ir.proofs.PlannedPasses.{pre_planned, post_planned}
+use Rattle.switch_ir.proofs.ComputedPasses.{what_is_emitted_computes_the_split}
 use Rattle.switch_ir.proofs.emitter.emit.Goals as goal
 
 pub plan_of-requires : goal.plan_of-requires

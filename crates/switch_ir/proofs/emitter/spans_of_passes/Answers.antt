@@ -2,7 +2,7 @@ use Rattle.std.proofs.Common.{◌∙◌, sym}
 use Rattle.std.proofs.lemmas.List.{length-map}
 use Rattle.flat_ir.specs.Program.{program_of, step_of}
 use Rattle.switch_ir.specs.Passes.{pass_of}
-use Rattle.switch_ir.proofs.Planning.{pre_planned, post_planned}
+use Rattle.switch_ir.proofs.PlannedPasses.{pre_planned, post_planned}
 use Rattle.switch_ir.proofs.emitter.spans_of_passes.Goals as goal
 
 pub spans_of-requires : goal.spans_of-requires

@@ -7,7 +7,7 @@ use Rattle.split_model.specs.Crossing.{is_value, is_among}
 use Rattle.transfer_header.specs.BlockSteps.{step_if}
 use Rattle.switch_ir.specs.Passes.{pass_of}
 use Rattle.switch_ir.specs.Spans.{last_stage, is_tested, last_read}
-use Rattle.switch_ir.proofs.Noting.{same_last, all_noted}
+use Rattle.switch_ir.proofs.NotedSteps.{same_last, all_noted}
 use Rattle.switch_ir.proofs.spans.last_reads.Goals as goal
 
 pub returns : goal.returns

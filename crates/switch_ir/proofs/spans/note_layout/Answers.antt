@@ -2,7 +2,7 @@ use Rattle.std.proofs.Common.{arith, subst}
 use Rattle.split_model.specs.declared.layout.Crossing.{Crossing}
 use Rattle.split_model.specs.Crossing.{is_value}
 use Rattle.switch_ir.specs.LastReads.{Raises}
-use Rattle.switch_ir.proofs.Noting.{adds_none, raises_more, raises_all}
+use Rattle.switch_ir.proofs.NotedSteps.{adds_none, raises_more, raises_all}
 use Rattle.switch_ir.proofs.spans.note_layout.Goals as goal
 
 pub loop-crossing-init : goal.loop-crossing-init

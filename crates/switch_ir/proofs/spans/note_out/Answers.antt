@@ -4,7 +4,7 @@ use Rattle.flat_ir.specs.declared.program.FieldValue.{FieldValue}
 use Rattle.flat_ir.specs.declared.program.ValueId.{ValueId}
 use Rattle.split_model.specs.Crossing.{is_value, is_among}
 use Rattle.transfer_header.specs.BlockSteps.{step_if}
-use Rattle.switch_ir.proofs.Noting.{adds_none, adds_then, raises_more, raises_all, step_or}
+use Rattle.switch_ir.proofs.NotedSteps.{adds_none, adds_then, raises_more, raises_all, step_or}
 use Rattle.switch_ir.proofs.spans.note_out.Goals as goal
 
 abbrev is_written : ValueId → FieldValue → Bool

@@ -4,8 +4,8 @@ use Rattle.split_model.specs.Crossing.{is_among}
 use Rattle.transfer_header.specs.BlockSteps.{step_if}
 use Rattle.switch_ir.specs.Passes.{pass_step_of}
 use Rattle.switch_ir.specs.Spans.{last_stage}
-use Rattle.switch_ir.proofs.Listing.{steps_more, steps_all, last_more}
-use Rattle.switch_ir.proofs.Noting.{adds_none, adds_as, adds_then}
+use Rattle.switch_ir.proofs.PassSteps.{steps_more, steps_all, last_more}
+use Rattle.switch_ir.proofs.NotedSteps.{adds_none, adds_as, adds_then}
 use Rattle.switch_ir.proofs.spans.note_steps.Goals as goal
 
 pub loop-step-init : goal.loop-step-init

@@ -1,7 +1,7 @@
 use Rattle.transfer_header.specs.BlockSteps.{greatest, step_if}
 use Rattle.switch_ir.specs.Passes.{pass_of}
 use Rattle.switch_ir.specs.Spans.{is_condition, is_tested}
-use Rattle.switch_ir.proofs.Noting.{adds_as}
+use Rattle.switch_ir.proofs.NotedSteps.{adds_as}
 use Rattle.switch_ir.proofs.spans.note_tested.Goals as goal
 
 pub returns : goal.returns

@@ -3,7 +3,7 @@ use Rattle.std.proofs.lemmas.List.{take_all}
 use Rattle.split_model.specs.declared.layout.Crossing.{Crossing}
 use Rattle.switch_ir.specs.LastReads.{noted}
 use Rattle.switch_ir.specs.Spans.{handed_in, span_of}
-use Rattle.switch_ir.proofs.Listing.{handed_more, pushed}
+use Rattle.switch_ir.proofs.PassSteps.{handed_more, pushed}
 use Rattle.switch_ir.proofs.spans.push_handed.Goals as goal
 
 pub loop-crossing-preserved : goal.loop-crossing-preserved

@@ -2,7 +2,7 @@ use Rattle.std.proofs.Common.{◌≡◌, ◌∙◌, ◌+◌, ◌++◌, map, ap, 
 use Rattle.switch_ir.specs.LastReads.{noted}
 use Rattle.switch_ir.specs.Passes.{pass_step_of}
 use Rattle.switch_ir.specs.Spans.{results_of, span_of}
-use Rattle.switch_ir.proofs.Listing.{results_more, pushed}
+use Rattle.switch_ir.proofs.PassSteps.{results_more, pushed}
 use Rattle.switch_ir.proofs.spans.push_results.Goals as goal
 
 pub loop-result-preserved : goal.loop-result-preserved

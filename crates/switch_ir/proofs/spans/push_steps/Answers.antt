@@ -3,7 +3,7 @@ use Rattle.switch_ir.specs.declared.code.PassStep.{PassStep}
 use Rattle.switch_ir.specs.LastReads.{noted}
 use Rattle.switch_ir.specs.Passes.{pass_step_of}
 use Rattle.switch_ir.specs.Spans.{results_in, results_of, written_by, span_of, AreNumbered, Written}
-use Rattle.switch_ir.proofs.Listing.{steps_at, steps_all, written_more, pushed_all}
+use Rattle.switch_ir.proofs.PassSteps.{steps_at, steps_all, written_more, pushed_all}
 use Rattle.switch_ir.proofs.spans.push_steps.Goals as goal
 
 pub push_results-requires-clause-numbers : goal.push_results-requires-clause-numbers

@@ -3,7 +3,7 @@ use Rattle.std.proofs.lemmas.List.{map-append}
 use Rattle.switch_ir.specs.LastReads.{noted}
 use Rattle.switch_ir.specs.Passes.{pass_of}
 use Rattle.switch_ir.specs.Spans.{Written, handed_in, written_by, last_read, span_of}
-use Rattle.switch_ir.proofs.Listing.{each_parts, spans_same}
+use Rattle.switch_ir.proofs.PassSteps.{each_parts, spans_same}
 use Rattle.switch_ir.proofs.spans.spans_of.Goals as goal
 
 pub push_steps-requires : goal.push_steps-requires

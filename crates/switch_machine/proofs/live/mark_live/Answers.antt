@@ -46,6 +46,6 @@ loop-index-preserved g c =
     c.is_live_below-live.ensures ∙ ap (λ (ms : List Bool). same one.polarity (is_on (reads one.cond)) && get_or ms one.parent false) c.as_slice.ensures.value in
     record {
       count = length-set marks (k + 1) live ∙ c.loop-index.invariant.count;
-      exact = one_more_live blocks reads k marks (set marks (k + 1) live) d live c.requires.low c.loop-index-test.true
+      exact = one_more_live blocks reads k marks (set marks (k + 1) live) d live c.requires.parents c.loop-index-test.true
           (omega (arith, c.loop-index-test.true, c.loop-index.invariant.count)) (ap (λ n. set marks n live) (add-one k)) own c.loop-index.invariant.exact;
     }

@@ -1,8 +1,8 @@
 use Rattle.std.proofs.Common.{◌∙◌, append-nil, append_assoc, arith, map}
 use Rattle.std.proofs.lemmas.List.{map-append}
 use Rattle.switch_machine.specs.Ready.{ready_of}
-use Rattle.switch_machine.proofs.Placing.{ready_can}
-use Rattle.switch_machine.proofs.Waiting.{room_more}
+use Rattle.switch_machine.proofs.PlacedSteps.{ready_can}
+use Rattle.switch_machine.proofs.WaitingResults.{room_more}
 use Rattle.lemmas.proofs.Lists.{drop_past, folded_item}
 use Rattle.switch_machine.proofs.passes.collect.Goals as goal
 

@@ -1,8 +1,8 @@
 use Rattle.std.proofs.Common.{[], map, refl}
 use Rattle.flat_ir.specs.Registers.{packet_of}
 use Rattle.switch_machine.specs.Ready.{all_placed, reads_at, ready_gives, ready_of}
-use Rattle.switch_machine.proofs.Placing.{ready_can}
-use Rattle.switch_machine.proofs.Waiting.{direct_more}
+use Rattle.switch_machine.proofs.PlacedSteps.{ready_can}
+use Rattle.switch_machine.proofs.WaitingResults.{direct_more}
 use Rattle.lemmas.proofs.Lists.{drop_past}
 use Rattle.switch_machine.proofs.passes.run_directly.Goals as goal
 

@@ -1,7 +1,7 @@
 use Rattle.std.proofs.Common.{drop, map}
 use Rattle.flat_ir.specs.Registers.{packet_of}
 use Rattle.switch_machine.specs.Ready.{all_placed, reads_at, ready_gives, ready_of}
-use Rattle.switch_machine.proofs.Waiting.{StandsDirectly}
+use Rattle.switch_machine.proofs.WaitingResults.{StandsDirectly}
 use Rattle.switch_machine.proofs.passes.run_directly.Given as goal
 
 abbrev pub invariant-loop-step : goal.invariant-loop-step

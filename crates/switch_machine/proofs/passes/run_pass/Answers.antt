@@ -1,6 +1,6 @@
 use Rattle.std.proofs.Common.{◌∙◌, arith, refl}
 use Rattle.flat_ir.specs.Registers.{packet_of}
-use Rattle.switch_machine.proofs.Placing.{none_placed, stage_more}
+use Rattle.switch_machine.proofs.PlacedSteps.{none_placed, stage_more}
 use Rattle.switch_machine.proofs.passes.run_pass.Goals as goal
 
 pub loop-stage-init : goal.loop-stage-init

@@ -2,7 +2,7 @@ use Rattle.std.proofs.Common.{◌∙◌, ℕ, List, ap, length, map, sym}
 use Rattle.flat_ir.specs.Registers.{packet_of}
 use Rattle.switch_machine.specs.declared.ready.ReadyStep.{ReadyStep}
 use Rattle.switch_machine.specs.Ready.{all_placed, only_numbers, reads_at, ready_gives, ready_of, targets_of}
-use Rattle.switch_machine.proofs.Waiting.{numbers_count, waiting_are}
+use Rattle.switch_machine.proofs.WaitingResults.{numbers_count, waiting_are}
 use Rattle.switch_machine.proofs.passes.run_stage.Goals as goal
 
 pub run_directly-requires-clause-can : goal.run_directly-requires-clause-can

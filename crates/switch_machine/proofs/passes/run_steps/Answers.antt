@@ -1,7 +1,7 @@
 use Rattle.std.proofs.Common.{map}
 use Rattle.flat_ir.specs.Registers.{packet_of}
 use Rattle.switch_machine.specs.Ready.{all_placed, ready_gives, ready_of}
-use Rattle.switch_machine.proofs.Placing.{ready_can, ready_more}
+use Rattle.switch_machine.proofs.PlacedSteps.{ready_can, ready_more}
 use Rattle.switch_machine.proofs.passes.run_steps.Goals as goal
 
 pub run-requires-clause-can : goal.run-requires-clause-can

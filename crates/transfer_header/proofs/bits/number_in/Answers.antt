@@ -11,7 +11,7 @@ loop-byte-init c = record { fits = lit< tt; bits = bits_of-zero 0 ∙ sym bits_i
 pub loop-byte-preserved : goal.loop-byte-preserved
 loop-byte-preserved c =
     let index = c.loop-byte.byte-index in
-    let short : index < 8 = omega (arith, c.loop-byte-test.true, c.requires.few) in
+    let short : index < 8 = omega (arith, c.loop-byte-test.true, c.requires.few_bytes) in
     let byte : c.from.result < 2 ^ 8 = omega arith in
     let first = c.loop-byte.invariant in
     let more : 8 * index + 8 ≡ 8 * (index + 1) = omega arith in

@@ -7,7 +7,7 @@ use Rattle.transfer_header.specs.Values.{total, value_bits}
 use Rattle.transfer_header.specs.Registers.{value_in}
 use Rattle.transfer_header.specs.Frames.{IsFrame}
 use Rattle.transfer_header.proofs.BitLists.{AreBytes}
-use Rattle.transfer_header.proofs.Fitting.{length_fitting}
+use Rattle.transfer_header.proofs.LayoutInRegisters.{length_fitting}
 use Rattle.transfer_header.proofs.WholeFrames.{header_is, frame_is, outline, zeros_behind, not_filled, is_filled_at, range_is, length_range, read_back, a_frame}
 use Rattle.transfer_header.proofs.frame.unpack.Goals as goal
 use Rattle.transfer_header.proofs.frame.unpack.Goals.{then-frame-packet_at-via-then-frame-packet_at, then-frame-packet_at-via-else-frame-packet_at+then-frame-packet_at-gt-MAX_PACKET_BYTES, then-frame-packet_at-via-else-frame-packet_at+else-frame-packet_at-gt-MAX_PACKET_BYTES+then-frame-kind}

@@ -22,14 +22,14 @@ end_from-returns-then-tables-before t c = λ exact is.
     let parts = c.args.self.now in
     let wire = c.args.wire.now in
     large_end (chain_of parts) (all_good parts) c.args.tables.now.least c.args.levels wire.to wire.input c.args.before exact c.at.result c.if-tables-before.true is
-    (c.at.ensures ∙ told_after Uses (chain_of parts) (length parts.classes.now) c.args.tables.now.uses.now c.args.levels c.in-Element.element wire.input wire.to c.requires.told.uses c.requires.levels_fit c.requires.there c.in-Element.is)
+    (c.at.ensures ∙ told_after Uses (chain_of parts) (length parts.classes.now) c.args.tables.now.uses.now c.args.levels c.in-Element.element wire.input wire.to c.requires.told.uses c.requires.levels_fit c.requires.target_in_range c.in-Element.is)
 
 pub end_from-returns-then-saturating_add-tables : goal.end_from-returns-then-saturating_add-tables
 end_from-returns-then-saturating_add-tables t c = λ exact is.
     let parts = c.args.self.now in
     let wire = c.args.wire.now in
     small_end (chain_of parts) (all_good parts) c.args.tables.now.least c.args.levels wire.to wire.input c.args.before exact c.at-span.result (omega arith) is
-    (c.at-span.ensures ∙ told_after Locals (chain_of parts) (length parts.classes.now) c.args.tables.now.locals.now c.args.levels c.in-Element.element wire.input wire.to c.requires.told.locals c.requires.levels_fit c.requires.there c.in-Element.is)
+    (c.at-span.ensures ∙ told_after Locals (chain_of parts) (length parts.classes.now) c.args.tables.now.locals.now c.args.levels c.in-Element.element wire.input wire.to c.requires.told.locals c.requires.levels_fit c.requires.target_in_range c.in-Element.is)
     (omega (arith, c.saturating_add.ensures, c.if-saturating_add-tables.true))
 
 pub end_from-returns-in_ok-count-in-Element : goal.end_from-returns-in_ok-count-in-Element
@@ -62,7 +62,7 @@ sent_from-returns t c = λ numbers n told.
 -- ## an element
 pub element_from-step_from-requires : goal.element_from-step_from-requires
 element_from-step_from-requires t c =
-    (omega arith, (c.requires.told, (c.requires.levels_fit, (c.requires.within, wires_within c.args.self.now c.args.element c.of-wires.result.now c.requires.there c.of-wires.ensures c.requires.within))))
+    (omega arith, (c.requires.told, (c.requires.levels_fit, (c.requires.within, wires_within c.args.self.now c.args.element c.of-wires.result.now c.requires.element_in_range c.of-wires.ensures c.requires.within))))
 
 pub element_from-loop-step-preserved : goal.element_from-loop-step-preserved
 element_from-loop-step-preserved t c =
@@ -84,9 +84,9 @@ element_from-returns t c =
     let b = body_tree c.deref.result.now in
     element_tally (chain_of parts) least (end_count Locals (chain_of parts) c.args.levels) (end_from (chain_of parts) least c.args.levels) e c.args.before c.loop-step.step-index
     c.of-wires.result.now c.has_wires-wired.result b c.deref-step-items.result.now c.put_body.new.out.items _ _ c.loop-step-test.false
-    (own_wires parts e c.of-wires.result.now c.requires.there c.of-wires.ensures)
+    (own_wires parts e c.of-wires.result.now c.requires.element_in_range c.of-wires.ensures)
     c.has_wires-wired.ensures
-    (ap body_tree (c.deref.ensures.value ∙ ap (λ (k : Middlebox). k.body.items) (sym c.index-self-element.is)) ∙ ap (λ (t : Tree). t.body) (sym (tree_at parts.classes.now e m c.requires.there c.index-self-element.is)))
+    (ap body_tree (c.deref.ensures.value ∙ ap (λ (k : Middlebox). k.body.items) (sym c.index-self-element.is)) ∙ ap (λ (t : Tree). t.body) (sym (tree_at parts.classes.now e m c.requires.element_in_range c.index-self-element.is)))
     c.deref-step-items.ensures.value
     (c.in_ok-put_body.ensures ∙ ap (λ (ss : List Step). ss ++ body_steps c.has_wires-wired.result b) c.new-steps.ensures.items)
     c.loop-step.invariant

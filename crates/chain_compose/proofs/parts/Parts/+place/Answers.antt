@@ -30,7 +30,7 @@ use Rattle.chain_compose.proofs.parts.Parts.+place.Goals as goal
 pub put_body-put_stmt-requires : goal.put_body-put_stmt-requires
 put_body-put_stmt-requires t c =
     let lighter = at_most_all c.args.body.now c.loop-stmt.stmt-index c.stmt-item.result c.loop-stmt-test.true c.stmt-item.is in
-    (omega (arith, lighter), (c.requires.there, (known_at _ c.args.body.now c.loop-stmt.stmt-index c.stmt-item.result c.loop-stmt-test.true c.stmt-item.is c.loop-stmt.invariant.known).0))
+    (omega (arith, lighter), (c.requires.element_in_range, (known_at _ c.args.body.now c.loop-stmt.stmt-index c.stmt-item.result c.loop-stmt-test.true c.stmt-item.is c.loop-stmt.invariant.known).0))
 
 pub put_body-loop-stmt-preserved : goal.put_body-loop-stmt-preserved
 put_body-loop-stmt-preserved t c =

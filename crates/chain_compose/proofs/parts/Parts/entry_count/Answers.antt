@@ -20,12 +20,12 @@ returns c =
     let f = slice_index_or fs 0 no_figures in
     let many = length-map parts.classes.now tree in
     let end = told_end g es in
-    let wires = own_wires parts 0 c.of.result.now c.requires.some c.of.ensures in
+    let wires = own_wires parts 0 c.of.result.now c.requires.nonempty c.of.ensures in
     entry_told g chain fs es f c.saturating_mul-read.result c.saturating_mul-tests.result c.saturating_add-own.result c.saturating_add.result
     (all_within parts c.requires.within)
     (subst (λ (n : ℕ). AreEndings g chain n es) (sym many) c.requires.endings)
     (subst (λ (n : ℕ). AllFigures g chain n fs) (sym many) c.requires.figures)
-    (omega (arith, c.requires.some, many))
+    (omega (arith, c.requires.nonempty, many))
     refl
     (c.saturating_mul-read.ensures ∙ ap (λ (k : ℕ). capped (f.reads * k)) c.field_length.ensures)
     (c.saturating_mul-tests.ensures ∙ ap (λ (k : ℕ). capped (f.sent * k)) (c.after_count-after.ensures ∙ ap (λ (ws : List Wire). capped (after_count g end ws)) wires))

@@ -24,13 +24,13 @@ returns c =
     let objects = c.names_from-objects.result.now in
     let wired = c.has_wire-wired.result in
     let base = base_of (chain_of parts).elements e in
-    let wires = own_wires parts e c.of.result.now c.requires.there c.of.ensures in
+    let wires = own_wires parts e c.of.result.now c.requires.element_in_range c.of.ensures in
     let read = ap (λ (k : Middlebox). k.body.items) (sym c.index-self-element.is) in
     let f : Figures = record { own = c.bare_count-own.result; reads = c.saturating_sub-reads.result; sent = c.sent_in-sent.result; closing = c.closing_count-closing.result } in
     figures_told g (chain_of parts) e objects wired (body_tree ss) f c.bare_count-once.result
     (c.names_from-objects.ensures base c.base_of.ensures ∙ ap (drop base) c.requires.names)
     (c.has_wire-wired.ensures ∙ ap has_wire wires)
-    (ap (λ (t : Tree). t.body) (sym (tree_at parts.classes.now e m c.requires.there c.index-self-element.is)))
+    (ap (λ (t : Tree). t.body) (sym (tree_at parts.classes.now e m c.requires.element_in_range c.index-self-element.is)))
     (c.bare_count-own.ensures ∙ ap (λ (ts : List Stmt). capped (bare_count g (scaled objects 0) wired (body_tree ts))) (c.deref.ensures.value ∙ read))
     (c.bare_count-once.ensures ∙ ap (λ (ts : List Stmt). capped (bare_count g (scaled objects 1) wired (body_tree ts))) (c.deref-2.ensures.value ∙ read))
     c.saturating_sub-reads.ensures

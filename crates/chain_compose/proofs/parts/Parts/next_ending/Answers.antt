@@ -15,7 +15,7 @@ returns c =
     let f = c.args.figures in
     let e = c.args.element in
     let end = told_end c.args.gauge c.args.endings.now in
-    let wires = own_wires parts e c.of.result.now c.requires.there c.of.ensures in
+    let wires = own_wires parts e c.of.result.now c.requires.element_in_range c.of.ensures in
     let after = after_count c.args.gauge end (wires_of (chain_of parts).wires e) in
     record {
       fixed =

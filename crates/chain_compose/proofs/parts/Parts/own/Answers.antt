@@ -14,7 +14,7 @@ returns c =
     let e = c.args.element in
     let m = c.index-self-element.result in
     own_told (chain_of parts) e c.of.result.now c.has_wires-wired.result (body_tree c.as_slice-body.result.now) _ _
-    (own_wires parts e c.of.result.now c.requires.there c.of.ensures)
+    (own_wires parts e c.of.result.now c.requires.element_in_range c.of.ensures)
     c.has_wires-wired.ensures
-    (ap body_tree (c.as_slice-body.ensures.value ∙ ap (λ (k : Middlebox). k.body.items) (sym c.index-self-element.is)) ∙ ap (λ (t : Tree). t.body) (sym (tree_at parts.classes.now e m c.requires.there c.index-self-element.is)))
+    (ap body_tree (c.as_slice-body.ensures.value ∙ ap (λ (k : Middlebox). k.body.items) (sym c.index-self-element.is)) ∙ ap (λ (t : Tree). t.body) (sym (tree_at parts.classes.now e m c.requires.element_in_range c.index-self-element.is)))
     c.own_in.ensures c.level_in.ensures

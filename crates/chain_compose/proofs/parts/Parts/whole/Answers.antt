@@ -6,7 +6,7 @@ use Rattle.chain_compose.proofs.parts.Parts.whole.Goals as goal
 
 pub put_body-requires-clause-known : goal.put_body-requires-clause-known
 put_body-requires-clause-known c =
-    own_known c.args.self.now (record { element = 0; port = None; levels = length c.args.self.now.classes.now }) c.index-self-0.result c.deref.result.now c.requires.some c.index-self-0.is
+    own_known c.args.self.now (record { element = 0; port = None; levels = length c.args.self.now.classes.now }) c.index-self-0.result c.deref.result.now c.requires.nonempty c.index-self-0.is
     (c.deref.ensures.value ∙ ap (λ (k : Middlebox). k.body.items) (sym c.index-self-0.is))
 
 pub returns-clause-small : goal.returns-clause-small

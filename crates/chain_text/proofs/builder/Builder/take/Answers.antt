@@ -1,7 +1,7 @@
 use Rattle.std.proofs.Common.{◌≡◌, IfOk, sym, ap, ap₂, subst, ◌∙◌}
 use Rattle.chain_text.specs.Grammar.{Statement, declares, wires}
 use Rattle.chain_text.specs.Statements.{statement_of}
-use Rattle.chain_text.proofs.Building.{Taken, taken_declaration, taken_wire}
+use Rattle.chain_text.proofs.StatementsTaken.{Taken, taken_declaration, taken_wire}
 use Rattle.chain_text.proofs.builder.Builder.take.Goals as goal
 
 pub returns-in-Declares : goal.returns-in-Declares

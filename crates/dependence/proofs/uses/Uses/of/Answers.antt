@@ -2,8 +2,8 @@ use Rattle.std.proofs.Common.{◌≡◌, ◌∙◌, ◌+◌, [], refl, sym, ap, 
 use Rattle.flat_ir.specs.declared.program.Instr.{Instr}
 use Rattle.flat_ir.specs.Program.{program_of, step_of, step_at, work_of, operands, Step}
 use Rattle.dependence.specs.Noted.{noted_all, AreUsesSoFar}
-use Rattle.dependence.proofs.Placing.{as_many, here, step_there}
-use Rattle.dependence.proofs.Using.{no_users, more_users, all_users}
+use Rattle.dependence.proofs.PlacedCode.{as_many, here, step_there}
+use Rattle.dependence.proofs.UserLists.{no_users, more_users, all_users}
 use Rattle.dependence.proofs.uses.Uses.of.Goals as goal
 
 pub loop-i-init : goal.loop-i-init

@@ -16,7 +16,7 @@ pub loop-span-init : goal.loop-span-init
 loop-span-init c = record {
   so_far = starts c.in_ok-registers.registers.rows (heap_items c.new-taken.result) c.in_ok-registers.ensures.rows c.new-taken.ensures.items c.new-taken.ensures.heap_order;
   room = omega (arith, c.in_ok-registers.ensures.capacity, c.len.ensures, c.deref-span-items.ensures.len);
-  few = omega (arith, c.in_ok-sorted.ensures.few, ap length c.deref-span-items.ensures.value);
+  few = omega (arith, c.in_ok-sorted.ensures.bounded, ap length c.deref-span-items.ensures.value);
 }
 
 pub loop-span-preserved : goal.loop-span-preserved
@@ -55,7 +55,7 @@ invariant_of-result c =
     c.in_ok-registers-2.ensures.ok (omega (arith, c.len-count.ensures, c.loop-span.taken.data.ok.0)) (omega (arith, c.loop-span-test.false))
     (subst (IsPermutation c.args.spans.now) (sym c.deref-span-items.ensures.value) c.in_ok-sorted.ensures.same) c.loop-span.invariant.so_far in
     let reached = m.greatest.some in
-    let few : c.len-count.result < 2 ^ 32 = omega (arith, reached.1, count_by-le-length (covers reached.0) c.args.spans.now, c.requires.few) in
+    let few : c.len-count.result < 2 ^ 32 = omega (arith, reached.1, count_by-le-length (covers reached.0) c.args.spans.now, c.requires.few_spans) in
     (m.below, few, subst (λ (t : Table). AreFirst t.rows c.in_ok-first.first.items) c.deref.ensures c.in_ok-first.ensures)
 
 pub returns-clause-registers : goal.returns-clause-registers

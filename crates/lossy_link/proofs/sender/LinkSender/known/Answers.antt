@@ -4,7 +4,7 @@ use Rattle.lossy_link.specs.Marks.{numbers_set}
 use Rattle.lossy_link.specs.Sender.{Sender}
 use Rattle.lossy_link.proofs.Confirms.{marks_rise}
 use Rattle.lossy_link.proofs.Counted.{known_count}
-use Rattle.lossy_link.proofs.Rising.{rising_short}
+use Rattle.lossy_link.proofs.KnownNumbers.{rising_short}
 use Rattle.lossy_link.proofs.sender.LinkSender.known.Goals as goal
 
 pub overflow_sub-result : goal.overflow_sub-result

@@ -4,7 +4,7 @@ use Rattle.lossy_link.specs.Link.{arrive, link_step}
 use Rattle.run_model.specs.declared.link_event.Link.{Link as LinkName}
 use Rattle.lossy_replay.specs.Linked.{at_link}
 use Rattle.lossy_replay.specs.Linking.{AreLinks}
-use Rattle.lossy_replay.proofs.Carrying.{down_arrived, up_arrived}
+use Rattle.lossy_replay.proofs.LinkCounts.{down_arrived, up_arrived}
 use Rattle.lossy_replay.proofs.links.Links.deliver.Goals as goal
 
 pub returns-in-Up : goal.returns-in-Up

@@ -1,26 +1,27 @@
 use Rattle.std.proofs.Common.{ℕ, ◌+◌, length, subst, sym, ◌∙◌}
 use Rattle.std.proofs.lemmas.Result.{err_from_is_err_and}
-use Rattle.replay_contracts.specs.Inputs.{whole}
+use Rattle.replay_contracts.specs.Inputs.{setup_for, whole}
 use Rattle.replay_contracts.specs.Replayer.{inputs_of}
 use Rattle.lossy_replay.specs.Linking.{AreLinks, noted}
 use Rattle.lossy_replay.proofs.Small.{last_named}
-use Rattle.lossy_replay.proofs.WorldOn.{fails_behind, may_call_there, not_applied_on, not_let_on, world_on}
+use Rattle.lossy_replay.proofs.WorldOn.{fails_behind, may_call_there, not_on, world_on}
+use Rattle.lossy_replay.proofs.EventPerformed.{not_applied, not_let}
 use Rattle.lossy_replay.proofs.links.Links.world.Goals as goal
 
 pub returns-in_default-clause-ok : goal.returns-in_default-clause-ok
 returns-in_default-clause-ok g c = λ schedule linking.
     let x = inputs_of c.args.job.now in
     let is = sym (c.let_by.ensures _ _ (whole x) linking.calls linking.st linking.links_are linking.shown) ∙ c.in_default.is in
-    not_let_on x schedule c.args.event c.args.self.now c.args.course.now
-    (g.S.SwitchPort.seen c.args.port.now) linking is
+    not_on x schedule c.args.event c.args.self.now c.args.course.now (g.S.SwitchPort.seen c.args.port.now) linking
+    (λ w now. not_let (setup_for x) w linking.linked c.args.event linking.st now is)
 
 pub returns-then-not-applies-clause-ok : goal.returns-then-not-applies-clause-ok
 returns-then-not-applies-clause-ok g c = λ schedule linking.
     let x = inputs_of c.args.job.now in
     let is = sym (c.let_by.ensures _ _ (whole x) linking.calls linking.st linking.links_are linking.shown) ∙ c.in-Some.is in
     let fails = sym (c.applies.ensures linking.calls linking.st linking.shown) ∙ c.if-not-applies.true in
-    not_applied_on x schedule c.args.event c.in-Some.own c.args.self.now c.args.course.now
-    (g.S.SwitchPort.seen c.args.port.now) linking is fails
+    not_on x schedule c.args.event c.args.self.now c.args.course.now (g.S.SwitchPort.seen c.args.port.now) linking
+    (λ w now. not_applied (setup_for x) w linking.linked c.args.event c.in-Some.own linking.st now is fails)
 
 pub step-requires-clause-may_call : goal.step-requires-clause-may_call
 step-requires-clause-may_call g c =

@@ -4,7 +4,7 @@ use Rattle.lossy_link.specs.Link.{Link}
 use Rattle.lossy_replay.specs.Linked.{standing}
 use Rattle.lossy_replay.proofs.AtWork.{read_at}
 use Rattle.lossy_replay.proofs.OnWays.{placed_by, search_finds, search_misses}
-use Rattle.lossy_replay.proofs.Standing.{few_standing}
+use Rattle.lossy_replay.proofs.PlacesOnWays.{few_standing}
 use Rattle.lossy_replay.proofs.way.Way.place.Goals as goal
 
 pub overflow_cast-result : goal.overflow_cast-result

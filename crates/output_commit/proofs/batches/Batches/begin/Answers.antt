@@ -1,11 +1,11 @@
 use Rattle.std.proofs.Common.{◌<◌, ◌^◌, ◌-◌, ◌∙◌, refl, sym, subst, ap, arith, length, take, drop}
 use Rattle.output_commit.specs.Spans.{AreJoined, AreTallied, first_of, total}
-use Rattle.output_commit.proofs.Beginning.{begins, few_taken, takes_here, waiting_few, waiting_joined}
+use Rattle.output_commit.proofs.BegunBatches.{begins, few_taken, takes_here, waiting_few, waiting_joined}
 use Rattle.std.proofs.lemmas.List.{take_rest}
 use Rattle.output_commit.proofs.batches.Batches.begin.Goals as goal
 
-pub take_up-taken-requires-clause-few : goal.take_up-taken-requires-clause-few
-take_up-taken-requires-clause-few c =
+pub take_up-taken-requires-clause-few_commands : goal.take_up-taken-requires-clause-few_commands
+take_up-taken-requires-clause-few_commands c =
     let b = c.args.self.now in
     let rest = ap (λ l. take (length l - b.next) (drop b.next l)) c.deref.ensures.value ∙ take_rest b.spans.items b.next in
     subst (λ m. total m < 2 ^ 32) (sym rest) (waiting_few b c.requires.kept)

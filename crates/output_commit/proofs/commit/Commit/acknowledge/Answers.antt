@@ -1,10 +1,10 @@
 use Rattle.std.proofs.Common.{◌<◌, ◌+◌, ◌^◌, arith, sym, subst}
 use Rattle.output_commit.specs.Spans.{total}
-use Rattle.output_commit.proofs.Keeping.{begun_few, counted_known, less_by, visible_few}
+use Rattle.output_commit.proofs.KeptCommit.{begun_few, counted_known, less_by, visible_few}
 use Rattle.output_commit.proofs.commit.Commit.acknowledge.Goals as goal
 
-pub pass-step-requires-clause-few : goal.pass-step-requires-clause-few
-pass-step-requires-clause-few c = subst (λ l. total l < 2 ^ 32) (sym c.begun.ensures) (begun_few c.self.inside.batches c.self.invariant.kept)
+pub pass-step-requires-clause-few_commands : goal.pass-step-requires-clause-few_commands
+pass-step-requires-clause-few_commands c = subst (λ l. total l < 2 ^ 32) (sym c.begun.ensures) (begun_few c.self.inside.batches c.self.invariant.kept)
 
 pub overflow_add-self : goal.overflow_add-self
 overflow_add-self c =

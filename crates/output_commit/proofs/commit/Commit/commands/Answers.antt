@@ -1,6 +1,6 @@
 use Rattle.std.proofs.Common.{◌∙◌, ap, sym, length}
 use Rattle.output_commit.specs.Commit.{commands}
-use Rattle.output_commit.proofs.Counting.{commands_total}
+use Rattle.output_commit.proofs.CommandCounts.{commands_total}
 use Rattle.output_commit.proofs.commit.Commit.commands.Goals as goal
 
 pub returns : goal.returns

@@ -1,13 +1,13 @@
 use Rattle.std.proofs.Common.{◌≡◌, ◌∷◌, [], ◌∙◌, ap, arith, length}
 use Rattle.std.proofs.lemmas.List.{append-nil, length-append}
 use Rattle.output_commit.specs.Kept.{IsPushed, batches_in}
-use Rattle.output_commit.proofs.Keeping.{counted_push, on_err, on_ok, pop_same}
+use Rattle.output_commit.proofs.KeptCommit.{counted_push, on_err, on_ok, pop_same}
 use Rattle.output_commit.specs.Commit.{batch_len, commands}
-use Rattle.output_commit.proofs.Counting.{batch_commands, commands_total}
+use Rattle.output_commit.proofs.CommandCounts.{batch_commands, commands_total}
 use Rattle.output_commit.proofs.commit.Commit.hold.Goals as goal
 
-pub push-requires-clause-few : goal.push-requires-clause-few
-push-requires-clause-few c =
+pub push-requires-clause-few_commands : goal.push-requires-clause-few_commands
+push-requires-clause-few_commands c =
     let t = commands_total c.self.inside.batches c.self.invariant.kept in
     let k = c.self.invariant.kept.commands in
     let e = ap (λ z. length (commands z)) c.self.view_is in

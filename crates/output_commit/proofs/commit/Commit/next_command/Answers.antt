@@ -6,11 +6,11 @@ use Rattle.output_commit.specs.Batches.{commands_in}
 use Rattle.output_commit.specs.Commit.{next}
 use Rattle.output_commit.specs.Kept.{batches_in}
 use Rattle.output_commit.specs.Spans.{batch_in, total}
-use Rattle.output_commit.proofs.Keeping.{begun_few, command_is, counted_applied, length_in, less_by, next_stands, span_within, visible_few}
+use Rattle.output_commit.proofs.KeptCommit.{begun_few, command_is, counted_applied, length_in, less_by, next_stands, span_within, visible_few}
 use Rattle.output_commit.proofs.commit.Commit.next_command.Goals as goal
 
-pub pass-step-requires-clause-few : goal.pass-step-requires-clause-few
-pass-step-requires-clause-few c = subst (λ l. total l < 2 ^ 32) (sym c.begun.ensures) (begun_few c.self.inside.batches c.self.invariant.kept)
+pub pass-step-requires-clause-few_commands : goal.pass-step-requires-clause-few_commands
+pass-step-requires-clause-few_commands c = subst (λ l. total l < 2 ^ 32) (sym c.begun.ensures) (begun_few c.self.inside.batches c.self.invariant.kept)
 
 pub overflow_add-self : goal.overflow_add-self
 overflow_add-self c =

@@ -3,7 +3,7 @@ use Rattle.std.specs.Prelude.{slice_get, remove}
 use Rattle.output_commit.specs.Kept.{batches_in}
 use Rattle.std.proofs.lemmas.Option.{slice_get-get_or, same_Some}
 use Rattle.output_commit.specs.Commit.{Commit}
-use Rattle.output_commit.proofs.Keeping.{after_goes, answer_goes}
+use Rattle.output_commit.proofs.KeptCommit.{after_goes, answer_goes}
 use Rattle.output_commit.proofs.commit.Commit.release.Goals.{in-Some-remove, in-None}
 use Rattle.output_commit.proofs.commit.Commit.release.Goals as goal
 

@@ -2,8 +2,8 @@ use Rattle.std.proofs.Common.{◌≡◌, ◌≤◌, ◌<◌, ◌+◌, ◌-◌, �
 use Rattle.std.proofs.lemmas.Bool.{lt-ltb}
 use Rattle.output_commit.specs.Commit.{after_send, commands}
 use Rattle.output_commit.specs.Kept.{IsCounted, batches_in}
-use Rattle.output_commit.proofs.Counting.{commands_total}
-use Rattle.output_commit.proofs.Keeping.{after_send_is, begun_len, counted_begin, none_begins, none_sent, sent_merges, some_unsent}
+use Rattle.output_commit.proofs.CommandCounts.{commands_total}
+use Rattle.output_commit.proofs.KeptCommit.{after_send_is, begun_len, counted_begin, none_begins, none_sent, sent_merges, some_unsent}
 use Rattle.output_commit.proofs.commit.Commit.send_command.Goals as goal
 
 pub returns-then-self : goal.returns-then-self

@@ -7,7 +7,7 @@ use Rattle.output_commit.specs.Commit.{last_sent}
 use Rattle.output_commit.specs.Kept.{batches_in, begun_in}
 use Rattle.output_commit.specs.Spans.{batch_in, span_len}
 use Rattle.output_commit.specs.declared.span.Span.{Span}
-use Rattle.output_commit.proofs.Keeping.{command_is, length_in, span_within}
+use Rattle.output_commit.proofs.KeptCommit.{command_is, length_in, span_within}
 use Rattle.output_commit.proofs.Sent.{IsLastSent, last_stands, some_last}
 use Rattle.output_commit.proofs.commit.Commit.sent_command.Goals as goal
 

@@ -1,6 +1,6 @@
 use Rattle.std.proofs.Common.{arith, ap, length}
 use Rattle.output_commit.specs.Commit.{commands}
-use Rattle.output_commit.proofs.Keeping.{sent_few}
+use Rattle.output_commit.proofs.KeptCommit.{sent_few}
 use Rattle.output_commit.proofs.commit.Commit.unapplied.Goals as goal
 
 pub overflow_sub-result : goal.overflow_sub-result

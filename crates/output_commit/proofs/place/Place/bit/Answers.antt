@@ -19,7 +19,7 @@ pub has_bit-requires : goal.has_bit-requires
 has_bit-requires c =
     let at = there c.args.spans.now c.args.self.now.batch c.in-Some.span.now c.in-Some.ensures.lookup.3.0 c.in-Some.ensures.lookup.1 in
     let within = len_within c.args.spans.now c.args.self.now.batch c.in-Some.span.now at in
-    let few = c.requires.few in
+    let few = c.requires.few_commands in
     omega arith
 
 pub returns-in-Some : goal.returns-in-Some

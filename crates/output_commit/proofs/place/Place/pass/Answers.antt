@@ -1,5 +1,5 @@
 use Rattle.std.proofs.Common.{◌≤◌, arith}
-use Rattle.output_commit.proofs.Placing.{at_batch, one_within, pass_here, pass_next, pass_there}
+use Rattle.output_commit.proofs.NextPlace.{at_batch, one_within, pass_here, pass_next, pass_there}
 use Rattle.output_commit.proofs.place.Place.pass.Goals as goal
 
 pub commands-requires : goal.commands-requires
@@ -7,7 +7,7 @@ commands-requires c =
     let spans = c.args.spans.now in
     let p = c.args.self.now in
     let w = one_within spans p.batch (record { first = 0; changes = 0; versions = 0 }) (at_batch spans p c.requires.at c.requires.within) in
-    let few = c.requires.few in
+    let few = c.requires.few_commands in
     omega arith
 
 pub returns-then-self-commands-clause-stands : goal.returns-then-self-commands-clause-stands

@@ -2,7 +2,7 @@ use Rattle.std.proofs.Common.{◌≡◌, ◌+◌, ◌++◌, ◌∙◌, true, sym
 use Rattle.std.proofs.lemmas.List.{length-set, take_all}
 use Rattle.writeback_table.specs.Batches.{count_of}
 use Rattle.output_commit.specs.Batches.{fits}
-use Rattle.output_commit.proofs.Tallying.{count_next, full, get_same, next_fits, next_tallied, same_tallied, tallied_at}
+use Rattle.output_commit.proofs.ChangeCounts.{count_next, full, get_same, next_fits, next_tallied, same_tallied, tallied_at}
 use Rattle.output_commit.proofs.tally.Tally.count.Goals as goal
 
 pub returns-then-index-most-clause-fits : goal.returns-then-index-most-clause-fits

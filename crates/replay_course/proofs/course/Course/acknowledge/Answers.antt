@@ -1,6 +1,6 @@
 use Rattle.std.proofs.Common.{ap, arith, refl, ◌∙◌}
 use Rattle.replay_course.proofs.Unapplied.{acknowledge_same, left_of}
-use Rattle.replay_course.proofs.Sounding.{acked_on, commands_sound}
+use Rattle.replay_course.proofs.SoundCourse.{acked_on, commands_sound}
 use Rattle.replay_course.proofs.course.Course.acknowledge.Goals as goal
 
 pub returns-then-acknowledge-clause-sound : goal.returns-then-acknowledge-clause-sound

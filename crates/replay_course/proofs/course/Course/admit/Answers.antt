@@ -9,7 +9,7 @@ use Rattle.replay_contracts.specs.Replayer.{inputs_of}
 use Rattle.switch_ir.specs.declared.port.UpEnd.{UpEnd}
 use Rattle.replay_course.proofs.Arms.{admit_turned, arriving, nothing_turned}
 use Rattle.std.specs.Prelude.{Err, Ok}
-use Rattle.replay_course.proofs.Failing.{counts_as, fails_up}
+use Rattle.replay_course.proofs.LeftByErrors.{counts_as, fails_up}
 use Rattle.replay_course.proofs.course.Course.admit.Goals as goal
 
 pub returns-in_default-clause-turned : goal.returns-in_default-clause-turned

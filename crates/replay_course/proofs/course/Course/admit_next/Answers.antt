@@ -1,6 +1,6 @@
 use Rattle.std.proofs.Common.{refl}
-use Rattle.replay_course.proofs.Sounding.{admit_sound}
-use Rattle.replay_course.proofs.Travelling.{admit_shown}
+use Rattle.replay_course.proofs.SoundCourse.{admit_sound}
+use Rattle.replay_course.proofs.ShownPasses.{admit_shown}
 use Rattle.replay_course.proofs.course.Course.admit_next.Goals as goal
 
 pub returns-clause-shown : goal.returns-clause-shown

@@ -1,9 +1,9 @@
 use Rattle.std.proofs.Common.{sym, subst}
 use Rattle.std.specs.Prelude.{IfSome}
 use Rattle.switch_ir.specs.Port.{IsCommandOf}
-use Rattle.replay_course.proofs.Turning.{apply_turned, next_named, no_command_turned}
+use Rattle.replay_course.proofs.EventsTaken.{apply_turned, next_named, no_command_turned}
 use Rattle.std.proofs.lemmas.Result.{err_from_is_err_and}
-use Rattle.replay_course.proofs.Failing.{counts_as, fails_with}
+use Rattle.replay_course.proofs.LeftByErrors.{counts_as, fails_with}
 use Rattle.replay_course.proofs.Room.{is_ready}
 use Rattle.output_commit.specs.Commit.{next as next_command}
 use Rattle.replay_course.proofs.course.Course.apply.Goals as goal

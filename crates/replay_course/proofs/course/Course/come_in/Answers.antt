@@ -1,7 +1,7 @@
 use Rattle.std.proofs.Common.{refl, subst}
 use Rattle.replay_course.specs.Going.{FitsUp}
-use Rattle.replay_course.proofs.Travelling.{finish_shown, going_shown, send_up_shown}
-use Rattle.replay_course.proofs.Sounding.{fate_sound, going_sound, send_up_sound}
+use Rattle.replay_course.proofs.ShownPasses.{finish_shown, going_shown, send_up_shown}
+use Rattle.replay_course.proofs.SoundCourse.{fate_sound, going_sound, send_up_sound}
 use Rattle.replay_course.proofs.course.Course.come_in.Goals as goal
 
 pub returns-in-Finished-clause-shown : goal.returns-in-Finished-clause-shown

@@ -1,7 +1,7 @@
 use Rattle.std.proofs.Common.{refl, subst}
 use Rattle.replay_course.specs.Going.{FitsDown}
-use Rattle.replay_course.proofs.Travelling.{going_shown, release_shown}
-use Rattle.replay_course.proofs.Sounding.{behind_sound, fate_sound}
+use Rattle.replay_course.proofs.ShownPasses.{going_shown, release_shown}
+use Rattle.replay_course.proofs.SoundCourse.{behind_sound, fate_sound}
 use Rattle.replay_course.proofs.course.Course.come_out.Goals as goal
 
 pub returns-in-Verdict-clause-shown : goal.returns-in-Verdict-clause-shown

@@ -7,7 +7,7 @@ use Rattle.replay_contracts.specs.Replayer.{inputs_of}
 use Rattle.switch_ir.specs.declared.port.DownEnd.{DownEnd}
 use Rattle.replay_course.proofs.Arms.{not_less, nothing_turned, framed_down, down_turned}
 use Rattle.std.specs.Prelude.{Err, Ok}
-use Rattle.replay_course.proofs.Failing.{counts_as, fails_down}
+use Rattle.replay_course.proofs.LeftByErrors.{counts_as, fails_down}
 use Rattle.replay_course.proofs.course.Course.down.Goals as goal
 
 pub returns-in_default-clause-turned : goal.returns-in_default-clause-turned

@@ -1,7 +1,7 @@
 use Rattle.std.proofs.Common.{arith}
-use Rattle.replay_course.proofs.Draining.{drain_room, drains_more, few_drained, has_drained, left_falls, none_drained}
+use Rattle.replay_course.proofs.DrainEvents.{drain_room, drains_more, few_drained, has_drained, left_falls, none_drained}
 use Rattle.std.proofs.lemmas.Result.{err_from_is_err_and}
-use Rattle.replay_course.proofs.Failing.{fails_behind, goes_draining}
+use Rattle.replay_course.proofs.LeftByErrors.{fails_behind, goes_draining}
 use Rattle.replay_course.proofs.course.Course.drain.Goals as goal
 
 pub loop-event-init : goal.loop-event-init
@@ -11,7 +11,7 @@ pub returns-clause-drained : goal.returns-clause-drained
 returns-clause-drained g c = has_drained _ c.loop-event.count c.args.self.now c.loop-event.self _ _ c.loop-event.invariant.0 c.in_default.ensures
 
 pub step-requires-clause-events : goal.step-requires-clause-events
-step-requires-clause-events g c = few_drained _ c.loop-event.count c.args.self.now c.loop-event.self _ _ c.loop-event.invariant.0 c.loop-event.invariant.1 c.requires.few
+step-requires-clause-events g c = few_drained _ c.loop-event.count c.args.self.now c.loop-event.self _ _ c.loop-event.invariant.0 c.loop-event.invariant.1 c.requires.few_events
 
 pub step-requires-clause-may_call : goal.step-requires-clause-may_call
 step-requires-clause-may_call g c =

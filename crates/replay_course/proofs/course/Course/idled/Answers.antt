@@ -1,6 +1,6 @@
 use Rattle.std.proofs.Common.{refl}
-use Rattle.replay_course.proofs.Sounding.{idle_sound}
-use Rattle.replay_course.proofs.Showing.{idle_shown}
+use Rattle.replay_course.proofs.SoundCourse.{idle_sound}
+use Rattle.replay_course.proofs.ShownOutputs.{idle_shown}
 use Rattle.replay_course.proofs.course.Course.idled.Goals as goal
 
 pub returns-clause-shown : goal.returns-clause-shown

@@ -1,5 +1,5 @@
 use Rattle.replay_contracts.specs.Replayer.{inputs_of}
-use Rattle.replay_course.proofs.Reporting.{reported}
+use Rattle.replay_course.proofs.ReportedState.{reported}
 use Rattle.replay_course.proofs.course.Course.into_report.Goals as goal
 
 pub returns-clause-reports : goal.returns-clause-reports

@@ -1,6 +1,6 @@
 use Rattle.std.proofs.Common.{refl, ap, ◌∙◌}
 use Rattle.output_commit.specs.Commit.{first}
-use Rattle.replay_course.proofs.Sounding.{first_sound}
+use Rattle.replay_course.proofs.SoundCourse.{first_sound}
 use Rattle.replay_course.proofs.course.Course.new.Goals as goal
 
 pub returns-clause-sound : goal.returns-clause-sound

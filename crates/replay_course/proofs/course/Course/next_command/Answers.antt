@@ -3,8 +3,8 @@ use Rattle.output_commit.specs.Commit.{Commit, after_next, commands, next}
 use Rattle.writeback_table.specs.declared.command.Command.{Command}
 use Rattle.replay_course.specs.Going.{ready_next, unapplied}
 use Rattle.replay_course.specs.declared.course.Course.{Course}
-use Rattle.replay_course.proofs.Showing.{command_goes, next_none, no_command, ready_applies, ready_asked}
-use Rattle.replay_course.proofs.Sounding.{commands_sound, idle_sound, next_on}
+use Rattle.replay_course.proofs.ShownOutputs.{command_goes, next_none, no_command, ready_applies, ready_asked}
+use Rattle.replay_course.proofs.SoundCourse.{commands_sound, idle_sound, next_on}
 use Rattle.replay_course.proofs.Unapplied.{left_of, next_left, none_left}
 use Rattle.replay_course.proofs.course.Course.next_command.Goals as goal
 

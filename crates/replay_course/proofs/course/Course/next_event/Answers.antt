@@ -3,7 +3,7 @@ use Rattle.std.specs.Prelude.{find, not}
 use Rattle.replay_state.specs.Drain.{drain_order}
 use Rattle.replay_contracts.specs.Replayer.{inputs_of}
 use Rattle.replay_course.specs.Idle.{finds_nothing}
-use Rattle.replay_course.proofs.Draining.{picked_is}
+use Rattle.replay_course.proofs.DrainEvents.{picked_is}
 use Rattle.replay_course.proofs.course.Course.next_event.Goals as goal
 
 pub returns : goal.returns

@@ -2,9 +2,9 @@ use Rattle.std.proofs.Common.{sym, subst, take}
 use Rattle.std.proofs.lemmas.Option.{slice_get-get_or}
 use Rattle.replay_contracts.specs.Replayer.{inputs_of}
 use Rattle.replay_course.specs.UnderWay.{HasReplayedFrom}
-use Rattle.replay_course.proofs.Going.{gone_on, room_by}
+use Rattle.replay_course.proofs.NextEvent.{gone_on, room_by}
 use Rattle.std.proofs.lemmas.Result.{err_from_is_err_and}
-use Rattle.replay_course.proofs.Failing.{fails_behind, goes_gone}
+use Rattle.replay_course.proofs.LeftByErrors.{fails_behind, goes_gone}
 use Rattle.lemmas.proofs.Lists.{take_next}
 use Rattle.replay_course.proofs.course.Course.perform.Goals as goal
 

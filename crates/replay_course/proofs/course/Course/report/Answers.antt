@@ -1,12 +1,12 @@
 use Rattle.replay_contracts.specs.Replayer.{inputs_of}
-use Rattle.replay_course.proofs.Reporting.{few_fates, few_packets, reported}
+use Rattle.replay_course.proofs.ReportedState.{few_fates, few_packets, reported}
 use Rattle.replay_course.proofs.course.Course.report.Goals as goal
 
 pub run-requires-clause-few_packets : goal.run-requires-clause-few_packets
 run-requires-clause-few_packets g c = few_packets (inputs_of c.args.job.now) c.requires.going.prepared
 
-pub run-requires-clause-few : goal.run-requires-clause-few
-run-requires-clause-few g c = few_fates (inputs_of c.args.job.now) c.args.self.now c.requires.going.prepared c.requires.going.sound
+pub run-requires-clause-few_fates : goal.run-requires-clause-few_fates
+run-requires-clause-few_fates g c = few_fates (inputs_of c.args.job.now) c.args.self.now c.requires.going.prepared c.requires.going.sound
 
 pub returns-clause-reports : goal.returns-clause-reports
 returns-clause-reports g c = λ calls st h.

@@ -1,6 +1,6 @@
 use Rattle.std.proofs.Common.{◌≤◌, sym, subst, refl, arith}
-use Rattle.replay_course.proofs.Showing.{sent_shown}
-use Rattle.replay_course.proofs.Sounding.{commands_sound, sent_on}
+use Rattle.replay_course.proofs.ShownOutputs.{sent_shown}
+use Rattle.replay_course.proofs.SoundCourse.{commands_sound, sent_on}
 use Rattle.replay_course.proofs.Unapplied.{left_of, send_less}
 use Rattle.replay_course.proofs.course.Course.send.Goals as goal
 

@@ -3,7 +3,7 @@ use Rattle.std.proofs.lemmas.Bool.{le-leb}
 use Rattle.std.proofs.lemmas.Option.{slice_get_read}
 use Rattle.run_model.specs.declared.event.Event.TheVariants as event
 use Rattle.std.proofs.lemmas.Result.{err_from_is_err_and}
-use Rattle.replay_course.proofs.Failing.{fails_there, goes_kept}
+use Rattle.replay_course.proofs.LeftByErrors.{fails_there, goes_kept}
 use Rattle.replay_course.proofs.Arms.{not_less, nothing_turned}
 use Rattle.replay_course.proofs.Serves.{commands_left, few_updates, framed_up, serve_turned, versions_left}
 use Rattle.replay_course.proofs.course.Course.serve.Goals as goal
@@ -27,15 +27,15 @@ serve_frame-requires-clause-frame g c =
     (omega (arith, c.in-Some.ensures.variant.0 refl, before.ok.0)) c.in-Some.ensures.value in
     framed_up _ c.args.self.now _ c.args.j c.in-Some.number c.in-Some.frame c.requires.going here
 
-pub reserve-requires-clause-few : goal.reserve-requires-clause-few
-reserve-requires-clause-few g c = few_updates _ c.args.self.now _ c.in-Some.frame c.in_ok-served.served c.serve_frame.new.server c.requires.going c.in_ok-served.ensures
+pub reserve-requires-clause-few_updates : goal.reserve-requires-clause-few_updates
+reserve-requires-clause-few_updates g c = few_updates _ c.args.self.now _ c.in-Some.frame c.in_ok-served.served c.serve_frame.new.server c.requires.going c.in_ok-served.ensures
 
 pub hold-requires : goal.hold-requires
 hold-requires g c =
     let before = c.args.self.now.up in
     let here = slice_get_read before.items (length before.items) c.args.j (c.in-Some.number, c.in-Some.frame) refl
     (omega (arith, c.in-Some.ensures.variant.0 refl, before.ok.0)) c.in-Some.ensures.value in
-    record { few = commands_left _ c.args.self.now _ c.args.j c.in-Some.number c.in-Some.frame c.in_ok-served.served c.serve_frame.new.server c.requires.going here c.in_ok-served.ensures }
+    record { few_commands = commands_left _ c.args.self.now _ c.args.j c.in-Some.number c.in-Some.frame c.in_ok-served.served c.serve_frame.new.server c.requires.going here c.in_ok-served.ensures }
 
 pub returns-clause-turned : goal.returns-clause-turned
 returns-clause-turned g c =

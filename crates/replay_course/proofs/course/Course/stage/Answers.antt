@@ -8,7 +8,7 @@ use Rattle.replay_contracts.specs.Replayer.{inputs_of}
 use Rattle.switch_ir.specs.declared.port.DownEnd.{DownEnd}
 use Rattle.switch_ir.specs.declared.port.UpEnd.{UpEnd}
 use Rattle.replay_course.proofs.Arms.{has_down_pass, has_up_pass, nothing_turned, stage_down_ends_it, stage_down_goes_on, stage_up_ends, stage_up_goes_on}
-use Rattle.replay_course.proofs.Failing.{counts_as, fails_with}
+use Rattle.replay_course.proofs.LeftByErrors.{counts_as, fails_with}
 use Rattle.replay_course.proofs.Lists.{past_all}
 use Rattle.replay_course.proofs.course.Course.stage.Goals as goal
 
@@ -26,8 +26,8 @@ stage_up-requires g c =
     has_up_pass (inputs_of c.args.job.now) c.args.self.now port port c.args.j c.in-Some.pass c.requires.going here
     (c.requires.may_call.under_way c.args.j c.in-Some.pass here) c.if-pass.true
 
-pub take_stage-requires-clause-some : goal.take_stage-requires-clause-some
-take_stage-requires-clause-some g c = (c.requires.may_call.under_way c.args.j c.in-Some.pass (sym c.in-Some.ensures)).some
+pub take_stage-requires-clause-stages_left : goal.take_stage-requires-clause-stages_left
+take_stage-requires-clause-stages_left g c = (c.requires.may_call.under_way c.args.j c.in-Some.pass (sym c.in-Some.ensures)).some
 
 pub returns-in-Going-clause-turned : goal.returns-in-Going-clause-turned
 returns-in-Going-clause-turned g c =
@@ -69,8 +69,8 @@ stage_down-requires g c =
     has_down_pass (inputs_of c.args.job.now) c.args.self.now port port c.args.j c.in-Some.pass c.requires.going here
     (c.requires.may_call.under_way c.args.j c.in-Some.pass here) c.if-pass.false
 
-pub take_stage-requires-in-Going-2-clause-some : goal.take_stage-requires-in-Going-2-clause-some
-take_stage-requires-in-Going-2-clause-some g c = (c.requires.may_call.under_way c.args.j c.in-Some.pass (sym c.in-Some.ensures)).some
+pub take_stage-requires-in-Going-2-clause-stages_left : goal.take_stage-requires-in-Going-2-clause-stages_left
+take_stage-requires-in-Going-2-clause-stages_left g c = (c.requires.may_call.under_way c.args.j c.in-Some.pass (sym c.in-Some.ensures)).some
 
 pub returns-in-Going-2-clause-turned : goal.returns-in-Going-2-clause-turned
 returns-in-Going-2-clause-turned g c =

@@ -8,8 +8,8 @@ use Rattle.std.specs.Prelude.{Ok, if◌then◌else◌}
 use Rattle.switch_ir.specs.Code.{Code}
 use Rattle.switch_ir.specs.Port.{Loads}
 use Rattle.replay_contracts.specs.Replayer.{inputs_of}
-use Rattle.replay_course.proofs.Failing.{broken_off, not_begun, not_loaded}
-use Rattle.replay_course.proofs.Going.{is_prepared, started}
+use Rattle.replay_course.proofs.LeftByErrors.{broken_off, not_begun, not_loaded}
+use Rattle.replay_course.proofs.NextEvent.{is_prepared, started}
 use Rattle.replay_course.proofs.course.Course.start.Goals as goal
 
 pub returns-clause-loads : goal.returns-clause-loads
@@ -49,7 +49,7 @@ returns-clause-started g c =
     let pre = c.stages_in-pre_stages.ensures.pre ∙ ap (λ (k : Code). if x.manner.fine then k.pre.highest else 0) c.in_ok-code.ensures.code in
     let post = c.stages_in-pre_stages.ensures.post ∙ ap (λ (k : Code). if x.manner.fine then k.post.highest else 0) c.in_ok-code.ensures.code in
     started x c.new-3.result (server_of c.in_ok-server.server) _ _ c.stages_in-pre_stages.result.0 c.stages_in-pre_stages.result.1
-    (is_prepared x c.requires.split c.requires.stages (recursion_from_All IsArrival c.args.job.now.packets c.as_slice.ensures.arrivals) refl c.requires.few)
+    (is_prepared x c.requires.split c.requires.stages (recursion_from_All IsArrival c.args.job.now.packets c.as_slice.ensures.arrivals) refl c.requires.few_commands)
     loads pre post
     (c.in_ok-server.ensures ∙ ap (λ st. record {
       program = program_of c.args.job.now.flat;

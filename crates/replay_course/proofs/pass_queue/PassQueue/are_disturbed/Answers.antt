@@ -1,7 +1,7 @@
 use Rattle.std.proofs.Common.{◌≡◌, false, true, ◌&&◌, nat_lt, refl, ◌∙◌}
 use Rattle.std.proofs.lemmas.Bool.{le-ltb}
 use Rattle.writeback_table.specs.Views.{disturbs}
-use Rattle.replay_course.proofs.Disturbing.{by_two_tests, first_fails, first_holds, there_are, there_are_none}
+use Rattle.replay_course.proofs.DisturbedPasses.{by_two_tests, first_fails, first_holds, there_are, there_are_none}
 use Rattle.replay_course.proofs.pass_queue.PassQueue.are_disturbed.Goals as goal
 use Rattle.replay_course.proofs.pass_queue.PassQueue.are_disturbed.Goals.{then-self-len, else-self-len}
 

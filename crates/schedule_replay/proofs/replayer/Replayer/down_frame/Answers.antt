@@ -3,9 +3,9 @@ use Rattle.std.proofs.lemmas.Option.{slice_get_read}
 use Rattle.replay_state.specs.Journal.{down_frame}
 use Rattle.replay_contracts.specs.Inputs.{whole}
 use Rattle.replay_contracts.specs.Replayer.{inputs_of}
-use Rattle.replay_course.proofs.Draining.{map_length}
+use Rattle.replay_course.proofs.DrainEvents.{map_length}
 use Rattle.schedule_replay.proofs.Framed.{framed_there}
-use Rattle.schedule_replay.proofs.Playing.{shown_at}
+use Rattle.schedule_replay.proofs.ReplayerStates.{shown_at}
 use Rattle.schedule_replay.proofs.replayer.Replayer.down_frame.Goals as goal
 
 pub returns-in_err-frame : goal.returns-in_err-frame

@@ -1,14 +1,14 @@
 use Rattle.std.proofs.Common.{◌++◌, sym, subst}
 use Rattle.replay_contracts.specs.Replayer.{HasEmptied, inputs_of}
 use Rattle.schedule_replay.specs.Replayer.{replayer_of}
-use Rattle.schedule_replay.proofs.Playing.{drain_performs, drain_short, drain_stands, drained_more, failed_stands, few_left, has_emptied, has_failed}
+use Rattle.schedule_replay.proofs.ReplayerStates.{drain_performs, drain_short, drain_stands, drained_more, failed_stands, few_left, has_emptied, has_failed}
 use Rattle.schedule_replay.proofs.replayer.Replayer.drain.Goals as goal
 
 pub drain-requires-clause-on_its_way : goal.drain-requires-clause-on_its_way
 drain-requires-clause-on_its_way g c = record { events = c.self.invariant.events; under_way = (c.self.invariant.performed c.in_default.is).under_way }
 
-pub drain-requires-clause-few : goal.drain-requires-clause-few
-drain-requires-clause-few g c =
+pub drain-requires-clause-few_events : goal.drain-requires-clause-few_events
+drain-requires-clause-few_events g c =
     let me = c.self.inside in
     few_left (inputs_of me.job) me.course (g.S.SwitchPort.seen me.port) me.steps me.failed c.self.invariant c.in_default.is
 

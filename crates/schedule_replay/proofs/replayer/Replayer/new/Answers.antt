@@ -1,4 +1,4 @@
-use Rattle.schedule_replay.proofs.Playing.{copy_is_new, copy_performs, copy_stands}
+use Rattle.schedule_replay.proofs.ReplayerStates.{copy_is_new, copy_performs, copy_stands}
 use Rattle.schedule_replay.proofs.replayer.Replayer.new.Goals as goal
 
 pub returns-in-Ok-clause-begun : goal.returns-in-Ok-clause-begun

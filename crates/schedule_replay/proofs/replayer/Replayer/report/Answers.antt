@@ -1,5 +1,5 @@
 use Rattle.replay_contracts.specs.Replayer.{inputs_of}
-use Rattle.schedule_replay.proofs.Playing.{failed_stands, has_failed, has_reported, report_performs, report_stands}
+use Rattle.schedule_replay.proofs.ReplayerStates.{failed_stands, has_failed, has_reported, report_performs, report_stands}
 use Rattle.schedule_replay.proofs.replayer.Replayer.report.Goals as goal
 
 pub report-requires : goal.report-requires

@@ -3,7 +3,7 @@ use Rattle.std.specs.Prelude.{is_some, nat_lt}
 use Rattle.output_commit.specs.Batches.{last_of}
 use Rattle.replay_contracts.specs.Replayer.{inputs_of}
 use Rattle.schedule_replay.proofs.Framed.{some_sent}
-use Rattle.schedule_replay.proofs.Playing.{shown_at}
+use Rattle.schedule_replay.proofs.ReplayerStates.{shown_at}
 use Rattle.schedule_replay.proofs.replayer.Replayer.sent_command.Goals as goal
 
 pub returns-clause-last : goal.returns-clause-last

@@ -2,7 +2,7 @@ use Rattle.std.proofs.Common.{◌<◌, arith, subst, sym}
 use Rattle.run_model.specs.Sizes.{most_events}
 use Rattle.replay_contracts.specs.Replayer.{inputs_of}
 use Rattle.schedule_replay.specs.Replayer.{Replaying}
-use Rattle.schedule_replay.proofs.Playing.{failed_stands, few_left, has_failed, has_stepped, step_performs, step_stands}
+use Rattle.schedule_replay.proofs.ReplayerStates.{failed_stands, few_left, has_failed, has_stepped, step_performs, step_stands}
 use Rattle.replay_course.proofs.Laws.{the_next_calls_may_be_made}
 use Rattle.schedule_replay.proofs.replayer.Replayer.step.Goals as goal
 
@@ -34,7 +34,7 @@ returns-in-Ok-clause-performed g c = rw (← c.self.view_is) λ events now.
 pub invariant_of-self : goal.invariant_of-self
 invariant_of-self g c =
     let me = c.self.inside in
-    let few : me.steps < most_events = subst (λ (r : Replaying _). r.steps < most_events) (sym c.self.view_is) c.requires.few in
+    let few : me.steps < most_events = subst (λ (r : Replaying _). r.steps < most_events) (sym c.self.view_is) c.requires.few_events in
     step_stands (inputs_of me.job) c.args.event.now c.in-Ok.stepped
     me.course c.step.new.self (g.S.SwitchPort.seen me.port) (g.S.SwitchPort.seen c.step.new.port) me.steps me.failed c.in_default.is few
     c.in-Ok.ensures.turned c.self.invariant

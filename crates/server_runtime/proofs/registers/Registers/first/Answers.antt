@@ -18,4 +18,4 @@ returns-else-place-numbers c =
     let seat : c.index.result.now ≡ seat_in f values i =
     c.index.ensures ∙ get_or_default_zero self.whole.now.seats.items i c.index.result.now (omega (arith, lt, self.seats)) ∙ self.seat i lt in
     sym (get_or_past values.numbers c.index.result.now 0 (omega (arith, c.if-place-numbers.false, ap length c.as_slice-numbers.ensures.numbers)))
-    ∙ ap (slice_index values.numbers) seat ∙ seat_reads f values i c.as_slice-numbers.ensures.few
+    ∙ ap (slice_index values.numbers) seat ∙ seat_reads f values i c.as_slice-numbers.ensures.bounded

@@ -3,7 +3,7 @@ use Rattle.std.specs.List.{filter}
 use Rattle.flat_ir.specs.Program.{program_of}
 use Rattle.split_model.specs.Layouts.{crossing, first_results}
 use Rattle.split_model.specs.Marked.{crosses}
-use Rattle.split_model.proofs.Numbering.{results_more}
+use Rattle.split_model.proofs.ValueLists.{results_more}
 use Rattle.split_model.proofs.layouts.Crossings.put_results.Goals as goal
 
 pub loop-place-preserved : goal.loop-place-preserved

@@ -1,6 +1,6 @@
 use Rattle.std.proofs.Common.{◌<◌, ◌≤◌, ◌||◌, arith, length, take}
 use Rattle.split_model.specs.Crossing.{is_among}
-use Rattle.split_model.proofs.Marking.{same_test, among_more, among_all}
+use Rattle.split_model.proofs.ValueMarks.{same_test, among_more, among_all}
 use Rattle.split_model.proofs.values.ValueSet.insert_all.Goals as goal
 
 pub loop-value-preserved : goal.loop-value-preserved

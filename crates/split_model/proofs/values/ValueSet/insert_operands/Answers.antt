@@ -2,7 +2,7 @@ use Rattle.std.proofs.Common.{◌<◌, ◌≤◌, ◌||◌, ◌∙◌, sym, ap, 
 use Rattle.std.proofs.lemmas.Option.{get_or_from_slice_get, slice_get_within}
 use Rattle.flat_ir.specs.Program.{work_of, operands}
 use Rattle.split_model.specs.Crossing.{is_among, is_value}
-use Rattle.split_model.proofs.Marking.{same_test, among_more, among_all}
+use Rattle.split_model.proofs.ValueMarks.{same_test, among_more, among_all}
 use Rattle.split_model.proofs.values.ValueSet.insert_operands.Goals as goal
 
 pub loop-place-preserved : goal.loop-place-preserved

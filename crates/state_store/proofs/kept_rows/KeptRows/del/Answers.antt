@@ -9,12 +9,12 @@ use Rattle.state_store.proofs.kept_rows.KeptRows.del.Goals as goal
 pub returns-in-Some-clause-was : goal.returns-in-Some-clause-was
 returns-in-Some-clause-was c =
     let o = c.self.inside in
-    gone_was o.packed o.sorted.items c.args.key.now c.in-Some.was (c.in-Some.ensures.some refl) c.in-Some.ensures.was ∙ ap (λ b. contains_key b.contents c.args.key.now) c.self.view_is
+    gone_was o.packed o.sorted.items c.args.key.now c.in-Some.was (c.in-Some.ensures.was_packed refl) c.in-Some.ensures.was ∙ ap (λ b. contains_key b.contents c.args.key.now) c.self.view_is
 
 pub returns-in-Some-clause-after : goal.returns-in-Some-clause-after
 returns-in-Some-clause-after c =
     let o = c.self.inside in
-    gone_after o.packed c.del_packed.new.packed o.sorted.items o.size c.args.key.now (c.in-Some.ensures.some refl) (c.in-Some.ensures.after refl)
+    gone_after o.packed c.del_packed.new.packed o.sorted.items o.size c.args.key.now (c.in-Some.ensures.was_packed refl) (c.in-Some.ensures.after refl)
     ∙ ap (λ (b : Bounded). record b { contents = remove b.contents c.args.key.now }) c.self.view_is
 
 pub invariant_of-self : goal.invariant_of-self

@@ -11,7 +11,7 @@ invariant_of-self-2 c =
           c.take_room.ensures.numbers c.put_numbers.ensures.items c.put_numbers-2.ensures.items
           c.in_ok-bytes.ensures.ok parts.entry parts.short parts.count c.in_ok-bytes.ensures.count c.self.invariant.0).0,
       omega (arith, room.marks_room),
-      omega (arith, room.numbers_room, parts.few),
+      omega (arith, room.numbers_room, parts.bounded),
     )
 
 pub returns-clause-ok : goal.returns-clause-ok

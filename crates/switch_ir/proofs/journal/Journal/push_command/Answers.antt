@@ -11,7 +11,7 @@ invariant_of-self c =
       (kept c.self.inside.bytes.items _ _ _ [] refl c.push_reserved.ensures.items refl c.put_numbers.ensures.items c.put_numbers-2.ensures.items
           (sym (append-nil j.bytes.items)) parts.entry parts.short parts.count refl c.self.invariant.0).0,
       omega arith,
-      omega (arith, parts.few),
+      omega (arith, parts.bounded),
     )
 
 pub returns : goal.returns

@@ -1,6 +1,6 @@
 use Rattle.std.proofs.Common.{refl, arith}
 use Rattle.split_model.specs.Crossing.{is_value}
-use Rattle.switch_ir.proofs.Noting.{adds_none, raises_more, raises_all}
+use Rattle.switch_ir.proofs.NotedSteps.{adds_none, raises_more, raises_all}
 use Rattle.switch_ir.proofs.last_reads.LastReads.note_all.Goals as goal
 
 pub loop-value-init : goal.loop-value-init

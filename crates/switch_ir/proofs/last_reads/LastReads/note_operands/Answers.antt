@@ -1,7 +1,7 @@
 use Rattle.std.proofs.Common.{◌≡◌, ◌∙◌, ◌++◌, inl, inr, ap, sym}
 use Rattle.flat_ir.specs.declared.program.InstrKind.{InstrKind}
 use Rattle.flat_ir.specs.Program.{work_of, operands}
-use Rattle.switch_ir.proofs.Noting.{raises_both, raises_same}
+use Rattle.switch_ir.proofs.NotedSteps.{raises_both, raises_same}
 use Rattle.switch_ir.proofs.last_reads.LastReads.note_operands.Goals as goal
 
 pub returns-in-Apply : goal.returns-in-Apply

@@ -9,7 +9,7 @@ use Rattle.switch_machine.specs.declared.sides.Side.{Side}
 use Rattle.switch_machine.specs.declared.sides.Side.TheVariants.{Behind}
 use Rattle.switch_machine.specs.UnderWay.{passes_of, Enters}
 use Rattle.switch_machine.proofs.LoadedCode.{both_stay, passes_stay, made_stays, pass_is, pass_stays}
-use Rattle.switch_machine.proofs.Beginning.{given_same}
+use Rattle.switch_machine.proofs.PostReads.{given_same}
 use Rattle.std.proofs.Math.Seq.{take-length}
 use Rattle.switch_machine.proofs.loaded.Loaded.down.Goals as goal
 

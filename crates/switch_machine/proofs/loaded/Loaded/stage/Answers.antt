@@ -9,14 +9,14 @@ use Rattle.switch_machine.specs.Sides.{staging, IsOf}
 use Rattle.switch_machine.specs.UnderWay.{passes_on, Puts, Stages, Steps}
 use Rattle.lemmas.proofs.Tests.{value_of_some}
 use Rattle.switch_machine.proofs.LoadedCode.{stays_both}
-use Rattle.switch_machine.proofs.Telling.{going_is, going_left, settles_last}
+use Rattle.switch_machine.proofs.LeftByCalls.{going_is, going_left, settles_last}
 use Rattle.switch_machine.proofs.loaded.Loaded.stage.Goals as goal
 
 pub go_on-requires-clause-safe : goal.go_on-requires-clause-safe
 go_on-requires-clause-safe c = subst (λ (code : Code). KeepsTables code c.args.tables.now) (sym c.next.ensures.stays.code) c.requires.safe
 
-pub go_on-requires-clause-there : goal.go_on-requires-clause-there
-go_on-requires-clause-there c = subst (λ (passes : Passes). IsSome (passes c.args.number)) (sym c.next.ensures.passes) c.requires.there
+pub go_on-requires-clause-has_pass : goal.go_on-requires-clause-has_pass
+go_on-requires-clause-has_pass c = subst (λ (passes : Passes). IsSome (passes c.args.number)) (sym c.next.ensures.passes) c.requires.has_pass
 
 pub go_on-requires-clause-left : goal.go_on-requires-clause-left
 go_on-requires-clause-left c before there =
@@ -43,7 +43,7 @@ returns-then-is_going-clause-stages c =
 
 pub note-requires : goal.note-requires
 note-requires c =
-    let found = value_of_some (passes_on c.args.side c.args.self.now c.args.number) c.requires.there in
+    let found = value_of_some (passes_on c.args.side c.args.self.now c.args.number) c.requires.has_pass in
     (c.in_ok-end.ensures.steps found.0 found.1).of
 
 pub returns-clause-stays : goal.returns-clause-stays
@@ -65,5 +65,5 @@ returns-clause-stages c =
 
 pub returns-clause-side : goal.returns-clause-side
 returns-clause-side c =
-    let found = value_of_some (passes_on c.args.side c.args.self.now c.args.number) c.requires.there in
+    let found = value_of_some (passes_on c.args.side c.args.self.now c.args.number) c.requires.has_pass in
     subst (IsOf c.args.side) (sym c.in_ok-same.ensures.end) (c.in_ok-end.ensures.steps found.0 found.1).of

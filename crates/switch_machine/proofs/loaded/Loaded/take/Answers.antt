@@ -7,7 +7,7 @@ use Rattle.switch_machine.specs.Sides.{side_of}
 use Rattle.switch_machine.specs.Staging.{Takes}
 use Rattle.switch_machine.specs.UnderWay.{passes_on}
 use Rattle.switch_machine.proofs.LoadedCode.{closed}
-use Rattle.switch_machine.proofs.Telling.{undone}
+use Rattle.switch_machine.proofs.LeftByCalls.{undone}
 use Rattle.switch_machine.proofs.loaded.Loaded.take.Goals as goal
 
 -- ## A packet that arrives
@@ -65,8 +65,8 @@ returns-in_ok-made-in-Down-clause-kept c =
 
 -- ## A stage
 
-pub stage-requires-clause-there : goal.stage-requires-clause-there
-stage-requires-clause-there c = rw c.in-Stage.is at c.requires.can
+pub stage-requires-clause-has_pass : goal.stage-requires-clause-has_pass
+stage-requires-clause-has_pass c = rw c.in-Stage.is at c.requires.can
 
 pub returns-in-Stage-clause-takes : goal.returns-in-Stage-clause-takes
 returns-in-Stage-clause-takes c = rw c.in-Stage.is c.stage.ensures.stages

@@ -14,7 +14,7 @@ use Rattle.switch_machine.specs.Numbers.{AreHeld}
 use Rattle.switch_machine.specs.Sides.{staging, EndsOn}
 use Rattle.switch_machine.specs.UnderWay.{passes_of, Enters, HasEnd}
 use Rattle.switch_machine.proofs.LoadedCode.{both_stay, passes_stay}
-use Rattle.switch_machine.proofs.Ending.{at_end, going_ends, is_of, none_left, some_left}
+use Rattle.switch_machine.proofs.PassEnds.{at_end, going_ends, is_of, none_left, some_left}
 use Rattle.std.proofs.lemmas.Result.{IfOk-weaker}
 use Rattle.switch_machine.proofs.loaded_pass.LoadedPass.begin.Goals as goal
 use Rattle.switch_machine.proofs.loaded_pass.LoadedPass.begin.Goals.{then-whole-via-then-whole, then-whole-via-else-whole+then-len-eq1}

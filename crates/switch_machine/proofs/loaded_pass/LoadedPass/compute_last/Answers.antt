@@ -10,7 +10,7 @@ use Rattle.switch_machine.specs.Ready.{HoldResults}
 use Rattle.switch_machine.specs.Sides.{staging}
 use Rattle.switch_machine.specs.UnderWay.{held, numbers_at_last}
 use Rattle.switch_machine.proofs.ActivePasses.{placed_as, same_active_pass}
-use Rattle.switch_machine.proofs.Placing.{count_placed, plan_placed, step_by_place}
+use Rattle.switch_machine.proofs.PlacedSteps.{count_placed, plan_placed, step_by_place}
 use Rattle.switch_machine.proofs.Laws.{a_pass_ends}
 use Rattle.switch_machine.proofs.loaded_pass.LoadedPass.compute_last.Goals as goal
 
@@ -61,7 +61,7 @@ returns-clause-values c code found is safe there =
     let done : c.run_stage.new.registers ≡ stage_done l.numbering p.code.steps (suc f.stage) view packet rs =
     rw (c.run_stage.ensures.written, c.copy_numbers.ensures, c.arrival.ensures.packet, c.stage.ensures, add-one f.stage)
     (step_by_place l.numbering is.plan p.code.steps p.code.highest l.stages is.ready view packet rs is.planned_by
-    (omega (arith, are_active.numbers, c.are_few.ensures.few)) (suc f.stage) (omega (arith, is.ready.count, are_active.below))) in
+    (omega (arith, are_active.numbers, c.are_few.ensures.bounded)) (suc f.stage) (omega (arith, is.ready.count, are_active.below))) in
     same_active_pass (active_in l.active) c.args.number f found c.active_pass_of-active_pass.ensures there
     (λ x. AreHeld l.numbering c.run_stage.new.registers (numbers_at_last code told l x) (kept p))
     (rw done (a_pass_ends code l is rs refl (placed_as l.registers rs refl are_active.numbers c.are_few.ensures.placed) told safe packet f.bit f.stage

@@ -5,7 +5,7 @@ use Rattle.transfer_header.specs.Values.{low_bits}
 use Rattle.switch_ir.specs.Code.{code_of}
 use Rattle.switch_ir.specs.declared.port.UpEnd.TheVariants.{Finished}
 use Rattle.switch_machine.specs.Numbers.{reads_by}
-use Rattle.switch_machine.proofs.Ending.{before_of, ends_on, ends_up_on, is_of, sent_on, writable_on}
+use Rattle.switch_machine.proofs.PassEnds.{before_of, ends_on, ends_up_on, is_of, sent_on, writable_on}
 use Rattle.switch_machine.proofs.Laws.{what_goes_up_fits}
 use Rattle.switch_machine.proofs.LoadedCode.{ranged_of}
 use Rattle.transfer_header.proofs.Laws.{frames_of_low_bits-frame}

@@ -12,7 +12,7 @@ use Rattle.switch_machine.specs.Sides.{staging}
 use Rattle.switch_machine.specs.UnderWay.{held, passes_by, shown}
 use Rattle.switch_machine.proofs.ActivePasses.{entered_as, passes_changed, tried_active}
 use Rattle.std.proofs.lemmas.Result.{on_ok_weaker}
-use Rattle.switch_machine.proofs.Placing.{count_placed, plan_placed, step_by_place}
+use Rattle.switch_machine.proofs.PlacedSteps.{count_placed, plan_placed, step_by_place}
 use Rattle.switch_machine.proofs.Laws.{a_pass_enters}
 use Rattle.switch_machine.proofs.loaded_pass.LoadedPass.enter.Goals as goal
 
@@ -41,7 +41,7 @@ returns-clause-enters c code is safe =
     let begun = subst (λ (bit : Bool). IsBegun packet bit after.numbers f) c.bit.ensures c.in_ok-active_pass.ensures in
     let same : after ≡ stage_done l.numbering p.code.steps 0 seen packet l.registers =
     rw (c.run_stage.ensures.written, c.as_seen.ensures, c.stage.ensures)
-    (step_by_place l.numbering is.plan p.code.steps p.code.highest l.stages is.ready seen packet l.registers is.planned_by c.are_few.ensures.few 0 (omega arith)) in
+    (step_by_place l.numbering is.plan p.code.steps p.code.highest l.stages is.ready seen packet l.registers is.planned_by c.are_few.ensures.bounded 0 (omega arith)) in
     let own : held l.registers.plan f ≡ stage_done l.numbering p.code.steps 0 seen packet l.registers =
     (λ i. record { plan = sym plan_is i; numbers = begun.numbers_are i }) ∙ same in
     on_ok_weaker c.put_in.result

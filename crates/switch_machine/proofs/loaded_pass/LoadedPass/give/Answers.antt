@@ -6,7 +6,7 @@ use Rattle.switch_ir.specs.Code.{code_of}
 use Rattle.switch_machine.specs.Numbers.{stage_gives}
 use Rattle.switch_machine.specs.Ready.{all_placed}
 use Rattle.switch_machine.specs.Staged.{of_stage}
-use Rattle.switch_machine.proofs.Placing.{count_placed, plan_placed, given_is, stage_by_place}
+use Rattle.switch_machine.proofs.PlacedSteps.{count_placed, plan_placed, given_is, stage_by_place}
 use Rattle.switch_machine.proofs.Laws.{what_is_given}
 use Rattle.switch_machine.proofs.loaded_pass.LoadedPass.give.Goals as goal
 
@@ -34,7 +34,7 @@ returns-clause-given c =
     c.run_steps.ensures.written
     ∙ ap (all_placed registers) (given_is c.args.given.now packet c.none-none.result c.none-none.ensures c.steps.result.now (c.steps.ensures ∙ c.stage.ensures))
     ∙ stage_by_place l.numbering c.args.code.now.post.plan given 0 c.args.given.now c.requires.given [] packet registers c.requires.planned
-    c.are_few.ensures.few 0 (omega arith) nothing in
+    c.are_few.ensures.bounded 0 (omega arith) nothing in
     rw (c.requires.side, same) (what_is_given code l c.requires.pass registers refl c.are_few.ensures.placed c.requires.side packet)
 
 pub invariant_of-self-clause-are_active : goal.invariant_of-self-clause-are_active

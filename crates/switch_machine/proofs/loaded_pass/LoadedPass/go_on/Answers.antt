@@ -12,7 +12,7 @@ use Rattle.switch_machine.specs.Ready.{reads_at, ready_at, ready_gives, HoldResu
 use Rattle.switch_machine.specs.Sides.{staging}
 use Rattle.switch_machine.specs.UnderWay.{held, shown}
 use Rattle.switch_machine.proofs.ActivePasses.{gone_as, held_placed, passes_changed, placed_as, put_active, shown_as, with_update}
-use Rattle.switch_machine.proofs.Placing.{count_placed, step_by_place}
+use Rattle.switch_machine.proofs.PlacedSteps.{count_placed, step_by_place}
 use Rattle.switch_machine.proofs.Laws.{a_pass_goes_on}
 use Rattle.switch_machine.proofs.loaded_pass.LoadedPass.go_on.Goals as goal
 
@@ -42,7 +42,7 @@ returns-clause-goes_on c code is safe =
     let own : held plan g ≡ stage_done l.numbering p.code.steps (suc f.stage) view packet rs =
     held_placed plan f g (ready_gives (ready_at l.stages (suc f.stage)) (reads_at rs.numbers) view packet) (ap (λ (x : ActivePass). x.registers.numbers) steps)
     ∙ step_by_place l.numbering is.plan p.code.steps p.code.highest l.stages is.ready view packet rs is.planned_by
-    (omega (arith, are_active.numbers, c.are_few.ensures.few)) (suc f.stage) (omega (arith, is.ready.count, are_active.below)) in
+    (omega (arith, are_active.numbers, c.are_few.ensures.bounded)) (suc f.stage) (omega (arith, is.ready.count, are_active.below)) in
     let staged = subst (λ (x : Registers). IsStaged p (suc f.stage) (numbers_in p l.numbering f.stage rs) view packet (numbers_in p l.numbering (suc f.stage) x)) (sym own)
     (a_pass_goes_on code l is rs refl (placed_as l.registers rs refl are_active.numbers c.are_few.ensures.placed) told safe packet f.bit f.stage) in (
       shown p l.numbering plan g,
@@ -50,7 +50,7 @@ returns-clause-goes_on c code is safe =
           (shown_as p l.numbering plan (active_in l.active) c.args.number f before there told_is)
           (gone_as p l.numbering plan told f g (ap packet_in steps) (ap (λ (x : ActivePass). x.bit) steps) (ap (λ (x : ActivePass). x.stage) steps) staged),
       passes_changed p l.numbering plan (active_in l.active) (active_in (c.get_mut.follows.lender g)) c.args.number (Some g)
-          (with_update l.active (c.get_mut.follows.lender g) c.args.number (Some g) ((c.get_mut.follows.holds g).3 c.requires.there).0),
+          (with_update l.active (c.get_mut.follows.lender g) c.args.number (Some g) ((c.get_mut.follows.holds g).3 c.requires.has_pass).0),
     )
 
 pub invariant_of-self : goal.invariant_of-self
@@ -65,7 +65,7 @@ invariant_of-self c =
       can = l.can;
       room = subst (HoldResults l.stages) (sym c.step.ensures.capacity) l.room;
       are_active = put_active (length l.stages) (length l.registers.numbers) (active_in l.active) (active_in (c.get_mut.follows.lender g)) c.args.number g
-          (with_update l.active (c.get_mut.follows.lender g) c.args.number (Some g) ((c.get_mut.follows.holds g).3 c.requires.there).0)
+          (with_update l.active (c.get_mut.follows.lender g) c.args.number (Some g) ((c.get_mut.follows.holds g).3 c.requires.has_pass).0)
           (record {
             size = omega (arith, are_active.size, ap (λ (x : ActivePass). length x.packet) steps);
             shape = ap (λ (x : ActivePass). x.shape) steps ∙ are_active.shape ∙ sym (ap (λ (x : ActivePass). shape_of x.packet) steps);

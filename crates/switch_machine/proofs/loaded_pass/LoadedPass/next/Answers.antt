@@ -14,7 +14,7 @@ use Rattle.switch_machine.specs.Numbers.{AreHeld}
 use Rattle.switch_machine.specs.Sides.{staging, EndsOn}
 use Rattle.switch_machine.specs.UnderWay.{numbers_at_last, HasEnd, Steps}
 use Rattle.switch_machine.proofs.LoadedCode.{both_stay, pass_stays}
-use Rattle.switch_machine.proofs.Ending.{going_ends, is_of}
+use Rattle.switch_machine.proofs.PassEnds.{going_ends, is_of}
 use Rattle.switch_machine.proofs.ActivePasses.{ended_as, shown_as}
 use Rattle.lemmas.proofs.Tests.{value_of_some}
 use Rattle.std.proofs.lemmas.Result.{IfOk-weaker}
@@ -26,7 +26,7 @@ pub returns-then-has_stages_left-clause-steps : goal.returns-then-has_stages_lef
 returns-then-has_stages_left-clause-steps c before told =
     let l = c.args.self.now in
     let code = code_of c.args.code.now in
-    let f = value_of_some (active_in l.active c.args.number) c.requires.there in
+    let f = value_of_some (active_in l.active c.args.number) c.requires.has_pass in
     let is = shown_as (staging l.side code) l.numbering l.registers.plan (active_in l.active) c.args.number f.0 before f.1 told in
     record {
       goes = lt-ltb (suc before.stage) (staging l.side code).code.highest

@@ -5,7 +5,7 @@ use Rattle.switch_ir.specs.Tables.{seen_tables}
 use Rattle.switch_machine.specs.Planned.{registers_at}
 use Rattle.switch_machine.specs.Ready.{HoldResults}
 use Rattle.switch_machine.specs.Sides.{staging}
-use Rattle.switch_machine.proofs.Placing.{count_placed_at, plan_placed_at, pass_by_place}
+use Rattle.switch_machine.proofs.PlacedSteps.{count_placed_at, plan_placed_at, pass_by_place}
 use Rattle.switch_machine.proofs.Laws.{a_pass_is_computed}
 use Rattle.switch_machine.proofs.loaded_pass.LoadedPass.run.Goals as goal
 
@@ -29,7 +29,7 @@ returns-clause-values c code given is safe begin =
     let packet = packet_of c.args.arrival.now in
     let done : c.run_pass.new.registers ≡ registers_at l.numbering p.code (seen_tables told) packet l.registers (suc p.code.highest) =
     rw (c.run_pass.ensures.written, c.as_seen.ensures)
-    (pass_by_place l.numbering is.plan p.code l.stages is.ready (seen_tables told) packet l.registers is.planned_by c.are_few.ensures.few) in
+    (pass_by_place l.numbering is.plan p.code l.stages is.ready (seen_tables told) packet l.registers is.planned_by c.are_few.ensures.bounded) in
     rw done (a_pass_is_computed code l is l.registers refl c.are_few.ensures.placed told safe packet given begin)
 
 pub invariant_of-self : goal.invariant_of-self

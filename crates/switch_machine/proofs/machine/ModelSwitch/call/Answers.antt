@@ -10,7 +10,7 @@ use Rattle.switch_machine.specs.Staging.{passes_at, with_call, CanTake}
 use Rattle.switch_machine.specs.UnderWay.{under_way}
 use Rattle.switch_machine.specs.Views.{machine_of}
 use Rattle.switch_machine.proofs.LoadedCode.{at_side}
-use Rattle.switch_machine.proofs.Telling.{leaves_by, leaves_error, none_noted, stays_safe, without_memory}
+use Rattle.switch_machine.proofs.LeftByCalls.{leaves_by, leaves_error, none_noted, stays_safe, without_memory}
 use Rattle.switch_machine.proofs.machine.ModelSwitch.call.Goals as goal
 
 -- ## One that fails

@@ -2,7 +2,7 @@ use Rattle.std.proofs.Common.{◌≡◌, None}
 use Rattle.transfer_header.specs.Frames.{IsFrame}
 use Rattle.switch_ir.specs.Port.{OfItsParts}
 use Rattle.switch_machine.proofs.LoadedCode.{if_some}
-use Rattle.switch_machine.proofs.Telling.{counted_down, planned_down, begins_down}
+use Rattle.switch_machine.proofs.LeftByCalls.{counted_down, planned_down, begins_down}
 use Rattle.switch_machine.specs.Staging.{with_call}
 use Rattle.switch_machine.specs.Views.{machine_of}
 use Rattle.switch_machine.specs.declared.calls.CallKind.TheVariants as kind

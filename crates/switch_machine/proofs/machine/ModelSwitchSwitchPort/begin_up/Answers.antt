@@ -1,7 +1,7 @@
 use Rattle.switch_machine.specs.Staging.{with_call}
 use Rattle.switch_machine.specs.Views.{machine_of}
 use Rattle.switch_machine.specs.declared.calls.CallKind.TheVariants as kind
-use Rattle.switch_machine.proofs.Telling.{begins_up, counted_of}
+use Rattle.switch_machine.proofs.LeftByCalls.{begins_up, counted_of}
 use Rattle.switch_machine.proofs.machine.ModelSwitchSwitchPort.begin_up.Goals as goal
 
 pub call-requires-clause-can : goal.call-requires-clause-can

@@ -1,7 +1,7 @@
 use Rattle.std.proofs.lemmas.Bool.{true≢false}
 use Rattle.transfer_header.specs.Frames.{IsFrame}
 use Rattle.switch_machine.proofs.LoadedCode.{if_some}
-use Rattle.switch_machine.proofs.Telling.{counted_down, planned_down, passes_down}
+use Rattle.switch_machine.proofs.LeftByCalls.{counted_down, planned_down, passes_down}
 use Rattle.switch_machine.specs.Staging.{with_call}
 use Rattle.switch_machine.specs.Views.{machine_of}
 use Rattle.switch_machine.specs.declared.calls.CallKind.TheVariants as kind

@@ -2,7 +2,7 @@ use Rattle.std.proofs.lemmas.Bool.{true≢false}
 use Rattle.switch_machine.specs.Staging.{with_call}
 use Rattle.switch_machine.specs.Views.{machine_of}
 use Rattle.switch_machine.specs.declared.calls.CallKind.TheVariants as kind
-use Rattle.switch_machine.proofs.Telling.{counted_of, passes_up}
+use Rattle.switch_machine.proofs.LeftByCalls.{counted_of, passes_up}
 use Rattle.switch_machine.proofs.machine.ModelSwitchSwitchPort.pass_up.Goals as goal
 
 pub call-requires-clause-can : goal.call-requires-clause-can

@@ -1,5 +1,5 @@
 use Rattle.switch_machine.specs.declared.sides.Side.TheVariants.{Behind}
-use Rattle.switch_machine.proofs.Telling.{loaded_with, counted_down, planned_down, stages_down}
+use Rattle.switch_machine.proofs.LeftByCalls.{loaded_with, counted_down, planned_down, stages_down}
 use Rattle.switch_machine.specs.Staging.{with_call}
 use Rattle.switch_machine.specs.Views.{machine_of}
 use Rattle.switch_machine.specs.declared.calls.CallKind.TheVariants as kind

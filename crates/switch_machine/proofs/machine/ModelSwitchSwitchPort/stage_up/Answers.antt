@@ -2,7 +2,7 @@ use Rattle.switch_machine.specs.Staging.{with_call}
 use Rattle.switch_machine.specs.Views.{machine_of}
 use Rattle.switch_machine.specs.declared.calls.CallKind.TheVariants as kind
 use Rattle.switch_machine.specs.declared.sides.Side.TheVariants.{Before}
-use Rattle.switch_machine.proofs.Telling.{loaded_with, counted_of, stages_up}
+use Rattle.switch_machine.proofs.LeftByCalls.{loaded_with, counted_of, stages_up}
 use Rattle.switch_machine.proofs.machine.ModelSwitchSwitchPort.stage_up.Goals as goal
 
 pub call-requires-clause-loaded : goal.call-requires-clause-loaded

@@ -3,7 +3,7 @@ use Rattle.std.specs.List.{list_any}
 use Rattle.flat_ir.specs.declared.program.Block.{Block}
 use Rattle.flat_ir.specs.Blocks.{line}
 use Rattle.transfer_header.specs.BlockSteps.{greatest}
-use Rattle.transfer_header.proofs.Sweeping.{agree, all_swept, swept, swept_low, swept_more}
+use Rattle.transfer_header.proofs.SweptBlocks.{agree, all_swept, swept, swept_low, swept_more}
 use Rattle.flat_ir.proofs.Laws.{lines_of_blocks-line}
 use Rattle.transfer_header.proofs.block_steps.BlockSteps.hand_up.Goals as goal
 
@@ -30,7 +30,7 @@ loop-block-preserved c =
       inside = omega (arith, now.inside);
       count = c.note.ensures.count ∙ now.count;
       greatest = λ test.
-          swept_more blocks test c.loop-block.self c.note.new.self block _ c.at.result _ none (λ k. lines_of_blocks-line blocks k c.requires.low) c.requires.low
+          swept_more blocks test c.loop-block.self c.note.new.self block _ c.at.result _ none (λ k. lines_of_blocks-line blocks k c.requires.parents) c.requires.parents
           some now.inside (now.count ∙ c.requires.count) (ap (λ (l : List Block). (get_or l (block - 1) none).parent) c.as_slice.ensures) c.at.ensures (c.note.ensures.greatest (swept blocks test (block - 1))) (now.greatest test);
     }
 

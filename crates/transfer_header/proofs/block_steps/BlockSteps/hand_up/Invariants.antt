@@ -2,7 +2,7 @@ use Rattle.std.proofs.Common.{◌≡◌, ◌≤◌, ℕ, Bool, length}
 use Rattle.std.specs.List.{list_any}
 use Rattle.flat_ir.specs.Blocks.{line}
 use Rattle.transfer_header.specs.BlockSteps.{greatest}
-use Rattle.transfer_header.proofs.Sweeping.{swept}
+use Rattle.transfer_header.proofs.SweptBlocks.{swept}
 use Rattle.transfer_header.proofs.block_steps.BlockSteps.hand_up.Given as goal
 
 abbrev pub invariant-loop-block : goal.invariant-loop-block

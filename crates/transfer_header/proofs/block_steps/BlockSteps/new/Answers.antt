@@ -1,6 +1,6 @@
 use Rattle.std.proofs.Common.{◌≡◌, ℕ, List, sym, subst}
 use Rattle.transfer_header.specs.BlockSteps.{greatest}
-use Rattle.transfer_header.proofs.Sweeping.{none}
+use Rattle.transfer_header.proofs.SweptBlocks.{none}
 use Rattle.transfer_header.proofs.block_steps.BlockSteps.new.Goals as goal
 
 pub returns-clause-none : goal.returns-clause-none

@@ -1,7 +1,7 @@
 use Rattle.std.proofs.Common.{◌≡◌, ◌<◌, ℕ, List, max, get_or, length, ap, ◌∙◌, arith}
 use Rattle.std.proofs.lemmas.List.{get_or_default}
 use Rattle.transfer_header.specs.BlockSteps.{greatest, step_if}
-use Rattle.transfer_header.proofs.Sweeping.{noted}
+use Rattle.transfer_header.proofs.SweptBlocks.{noted}
 use Rattle.transfer_header.proofs.block_steps.BlockSteps.note.Goals as goal
 
 pub returns-clause-greatest : goal.returns-clause-greatest
