@@ -19,7 +19,7 @@ use Rattle.element_chain.specs.declared.chain.Wire.{Wire}
 use Rattle.element_chain.specs.declared.chain.Target.{Target}
 use Rattle.element_chain.specs.declared.chain.Target.TheVariants.{Element, Out}
 use Rattle.element_chain.specs.Chain.{Connected, element_at}
-use Rattle.element_chain.specs.Compose.{Placed, Spot, Sends, Written, one, followed, tests, sent_by, wires_of, ends_within, element_placed, entry_within, composed, closed, clearing, cleared, is_set, base_of, prefixed, objects_from}
+use Rattle.element_chain.specs.Compose.{Placed, Spot, Sends, Written, one, tests, sent_by, wires_of, ends_within, element_placed, entry_within, composed, closed, clearing, cleared, is_set, base_of, prefixed, objects_from}
 use Rattle.element_chain.specs.Laws.{IsSmall}
 use Rattle.element_chain.proofs.Ranked.{IsRanked, FallsTo, IsCalm, passes}
 use Rattle.element_chain.proofs.Numbers.{Extends, extends_self, extends_more}

@@ -17,7 +17,7 @@ use Rattle.element_chain.specs.declared.chain.Wire.{Wire}
 use Rattle.element_chain.specs.declared.chain.Target.{Target}
 use Rattle.element_chain.specs.declared.chain.Target.TheVariants.{Element, Out}
 use Rattle.element_chain.specs.Chain.{Connected, element_at}
-use Rattle.element_chain.specs.Compose.{Placed, Spot, Ends, one, followed, tests, sent_by, wires_of, ends_within, element_placed, entry_within, whole_within, closed, clearing, is_set, base_of, named_objects, objects_from}
+use Rattle.element_chain.specs.Compose.{Placed, Spot, Ends, one, tests, sent_by, wires_of, ends_within, element_placed, entry_within, whole_within, closed, clearing, is_set, base_of, named_objects, objects_from}
 use Rattle.element_chain.specs.Laws.{any_sends_again}
 use Rattle.element_chain.proofs.Ranked.{IsRanked, IsWireOf, IsCalm, IsPassedOn, passes}
 use Rattle.element_chain.proofs.Wired.{EachWire, each_low, each_mapped}

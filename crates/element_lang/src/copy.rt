@@ -3,7 +3,7 @@ ghost use Rattle.std.specs.Prelude.{◌≡◌, map, IfOk};
 ghost use Rattle.element_lang.specs.View.{expr_tree, stmt_tree, tree};
 
 use crate::tree::{Body, Expr, Middlebox, Stmt};
-use gal_io::NoMemory;
+use gal_io::{CopyIn, NoMemory};
 use std::alloc::Global;
 
 impl Expr {

@@ -1,12 +1,11 @@
 //! The syntax tree of a middlebox.
-ghost use Rattle.std.specs.Prelude.{◌≡◌, ◌++◌, ◌∷◌, [], length, IfOk, OnOk, OnErr};
+ghost use Rattle.std.specs.Prelude.{◌≡◌, IfOk};
 
 use gal_bits::{Op, Width};
-use gal_io::{Bytes, NoMemory};
+use gal_io::{Bytes, CopyIn, Items, NoMemory};
 use packet_fields::Field;
 use state_store::Objects;
 use std::alloc::Global;
-use std::marker::Model;
 
 /// A whole middlebox.
 #[derive(Debug, Drop)]
@@ -26,9 +25,8 @@ pub struct Local {
     pub width: Width,
 }
 
-impl Local {
-    /// The same local again, in memory of its own.
-    pub fn copy(&self, alloc: Global) -> Result<Local, NoMemory>
+impl CopyIn for Local {
+    fn copy(&self, alloc: Global) -> Result<Local, NoMemory>
         ensures { IfOk result (λ made. made ≡ self.now) }
     {
         Ok(Local {
@@ -39,61 +37,7 @@ impl Local {
 }
 
 /// A list of locals.
-#[derive(Debug, Drop)]
-pub struct Locals {
-    items: Vec<Local>,
-}
-
-impl Model for Locals {
-    ghost use Rattle.std.specs.Prelude.{List};
-    ghost use Rattle.element_lang.specs.declared.tree.Local.{Local};
-
-    ghost Value = { List Local };
-
-    ghost view = { λ locals. locals.items.items };
-}
-
-impl Locals {
-    pub fn new(alloc: Global) -> Locals
-        ensures { result ≡ [] }
-    {
-        Locals {
-            items: Vec::new(alloc),
-        }
-    }
-
-    pub fn as_slice(&self) -> &[Local]
-        ensures { result.now ≡ self.now }
-    {
-        self.items.as_slice()
-    }
-
-    pub fn len(&self) -> usize
-        ensures { result ≡ length self.now }
-    {
-        self.items.len()
-    }
-
-    /// Puts a local last.
-    pub fn push(&mut self, local: Local) -> Result<(), NoMemory>
-        ensures ok { OnOk result (self.new ≡ self.old ++ local ∷ []) }
-        ensures err { OnErr result (self.new ≡ self.old) }
-    {
-        self.items.push(local)?;
-        Ok(())
-    }
-
-    /// The same locals again, in memory of their own.
-    pub fn copy(&self, alloc: Global) -> Result<Locals, NoMemory>
-        ensures { IfOk result (λ made. made ≡ self.now) }
-    {
-        let mut items = Vec::with_capacity(alloc, self.items.len())?;
-        for local in &self.items {
-            items.push(local.copy(alloc)?)?;
-        }
-        Ok(Locals { items })
-    }
-}
+pub type Locals = Items<Local>;
 
 /// Statements, in order.
 pub type Body = Vec<Stmt>;

@@ -7,7 +7,7 @@ ghost use Rattle.flat_ir.specs.Program.{program_of, step_of, work_of, operands, 
 use crate::program::{Flat, Instr, InstrKind, ValueId};
 use gal_bits::{Width, on_switch};
 use packet_fields::width;
-use state_store::ObjectDecl;
+use state_store::{ObjectDecl, is_constant};
 
 // How many values the rows of an object have.
 fn value_count(objects: &[ObjectDecl], object: u32) -> u32
@@ -199,7 +199,7 @@ impl Flat {
         ensures { result ≡ is_mutable_look (program_of self.now) (work_of kind.now) }
     {
         match kind {
-            InstrKind::Look { object, .. } => !self.objects.is_constant(*object),
+            InstrKind::Look { object, .. } => !is_constant(self.objects.as_slice(), *object),
             _ => false,
         }
     }

@@ -1,13 +1,12 @@
 //! Flat programs: instructions in blocks, with no branches.
-ghost use Rattle.std.specs.Prelude.{◌≡◌, ◌++◌, ◌∷◌, [], map, length, IfOk, OnOk, OnErr};
+ghost use Rattle.std.specs.Prelude.{◌≡◌, map, IfOk};
 ghost use Rattle.flat_ir.specs.Program.{work_of, step_of, program_of};
 
 use gal_bits::{Op, Width};
-use gal_io::NoMemory;
+use gal_io::{CopyIn, Items, NoMemory};
 use packet_fields::Field;
 use state_store::Objects;
 use std::alloc::Global;
-use std::marker::Model;
 
 /// A result of an instruction.
 #[derive(Clone, Copy, Debug, PartialEq, Eq)]
@@ -115,129 +114,16 @@ pub struct Flat {
 }
 
 /// The blocks below the root. The block at place K of this list is block K + 1.
-#[derive(Debug, Drop)]
-pub struct Blocks {
-    items: Vec<Block>,
-}
-
-impl Model for Blocks {
-    ghost use Rattle.std.specs.Prelude.{List};
-    ghost use Rattle.flat_ir.specs.declared.program.Block.{Block};
-
-    ghost Value = { List Block };
-
-    ghost view = { λ blocks. blocks.items.items };
-}
-
-impl Blocks {
-    pub fn new(alloc: Global) -> Blocks
-        ensures { result ≡ [] }
-    {
-        Blocks {
-            items: Vec::new(alloc),
-        }
-    }
-
-    pub fn as_slice(&self) -> &[Block]
-        ensures { result.now ≡ self.now }
-    {
-        self.items.as_slice()
-    }
-
-    pub fn len(&self) -> usize
-        ensures { result ≡ length self.now }
-    {
-        self.items.len()
-    }
-
-    /// Puts a block last.
-    pub fn push(&mut self, block: Block) -> Result<(), NoMemory>
-        ensures ok { OnOk result (self.new ≡ self.old ++ block ∷ []) }
-        ensures err { OnErr result (self.new ≡ self.old) }
-    {
-        self.items.push(block)?;
-        Ok(())
-    }
-
-    /// The same blocks again, in memory of their own.
-    pub fn copy(&self, alloc: Global) -> Result<Self, NoMemory>
-        ensures { IfOk result (λ made. made ≡ self.now) }
-    {
-        let items = self.items.to_vec(alloc)?;
-        Ok(Blocks { items })
-    }
-}
-
-impl From<Vec<Block>> for Blocks {
-    ghost from_gives = { λ items blocks. blocks ≡ items.items };
-
-    fn from(items: Vec<Block>) -> Blocks {
-        Blocks { items }
-    }
-}
+pub type Blocks = Items<Block>;
 
 /// The instructions of a flat program. An instruction is known by its place in this list, from 0.
-#[derive(Debug, Drop)]
-pub struct Code {
-    items: Vec<Instr>,
-}
+pub type Code = Items<Instr>;
 
-impl Model for Code {
-    ghost use Rattle.std.specs.Prelude.{List};
-    ghost use Rattle.flat_ir.specs.declared.program.Instr.{Instr};
-
-    ghost Value = { List Instr };
-
-    ghost view = { λ code. code.items.items };
-}
-
-impl Code {
-    pub fn new(alloc: Global) -> Code
-        ensures { result ≡ [] }
+impl CopyIn for Block {
+    fn copy(&self, _: Global) -> Result<Block, NoMemory>
+        ensures { IfOk result (λ made. made ≡ self.now) }
     {
-        Code {
-            items: Vec::new(alloc),
-        }
-    }
-
-    pub fn as_slice(&self) -> &[Instr]
-        ensures { result.now ≡ self.now }
-    {
-        self.items.as_slice()
-    }
-
-    pub fn len(&self) -> usize
-        ensures { result ≡ length self.now }
-    {
-        self.items.len()
-    }
-
-    /// Puts an instruction last.
-    pub fn push(&mut self, instr: Instr) -> Result<(), NoMemory>
-        ensures ok { OnOk result (self.new ≡ self.old ++ instr ∷ []) }
-        ensures err { OnErr result (self.new ≡ self.old) }
-    {
-        self.items.push(instr)?;
-        Ok(())
-    }
-
-    /// Instructions that do the same, in memory of their own.
-    pub fn copy(&self, alloc: Global) -> Result<Self, NoMemory>
-        ensures { IfOk result (λ made. map step_of made ≡ map step_of self.now) }
-    {
-        let mut code = Code::new(alloc);
-        for instr in &self.items {
-            code.push(instr.copy(alloc)?)?;
-        }
-        Ok(code)
-    }
-}
-
-impl From<Vec<Instr>> for Code {
-    ghost from_gives = { λ items code. code ≡ items.items };
-
-    fn from(items: Vec<Instr>) -> Code {
-        Code { items }
+        Ok(*self)
     }
 }
 
@@ -306,6 +192,17 @@ impl Instr {
     }
 }
 
+// Instructions that do the same, in memory of their own.
+fn copy_code(alloc: Global, code: &[Instr]) -> Result<Code, NoMemory>
+    ensures { IfOk result (λ made. map step_of made ≡ map step_of code.now) }
+{
+    let mut made = Code::new(alloc);
+    for instr in code {
+        made.push(instr.copy(alloc)?)?;
+    }
+    Ok(made)
+}
+
 impl Out {
     /// The same again, in memory of its own.
     pub fn copy(&self, alloc: Global) -> Result<Self, NoMemory>
@@ -329,7 +226,7 @@ impl Flat {
         Ok(Flat {
             objects: self.objects.copy(alloc)?,
             blocks: self.blocks.copy(alloc)?,
-            code: self.code.copy(alloc)?,
+            code: copy_code(alloc, self.code.as_slice())?,
             out: self.out.copy(alloc)?,
         })
     }

@@ -23,7 +23,7 @@ use crate::state::{NOUGHT, NOUGHT_PORT, State};
 use element_lang::{Middlebox, Stmt};
 use flat_ir::{Blocks, Code, FieldValue, Flat, Instr, InstrKind, Out, ValueId};
 use gal_bits::Width;
-use gal_io::NoMemory as Want;
+use gal_io::{CopyIn, NoMemory as Want};
 use packet_fields::{FIELD_COUNT, Field, fields};
 use std::alloc::{AllocError, AllocFailed, Global};
 

@@ -28,7 +28,7 @@ use element_interp::run_all;
 use element_lang::Middlebox;
 use gal_io::{Files, NoMemory, Sink, Text};
 use packet_fields::Packet;
-use run_model::StoreRows;
+use run_model::store_rows;
 use run_text::print_answer;
 use std::alloc::Global;
 use switch_ir::SwitchPort;
@@ -41,7 +41,7 @@ fn answer(alloc: Global, m: &Middlebox, packets: &[Packet]) -> Result<Text, NoMe
     ensures { IfOk result (λ text. text ≡ serial_answer (tree m.now) packets.now) }
 {
     let served = run_all(alloc, m, packets)?;
-    let parts = StoreRows::of(alloc, m.objects.as_slice(), &served.store)?;
+    let parts = store_rows(alloc, m.objects.as_slice(), &served.store)?;
     print_answer(alloc, &m.objects, served.verdicts.as_slice(), &parts)
 }
 

@@ -1,5 +1,5 @@
 -- What holds of numbers and of their decimal digits.
-use Rattle.std.proofs.Common.{Bool, None, Some, [], ap, arith, cond, decimal, false, get_or, inl, inr, leb, length, length-append, lit<, ltb, option_and_then, pow_mono, refl, suc, sym, true, zero, ℕ, ◌%◌, ◌*◌, ◌+◌, ◌-◌, ◌/◌, ◌<◌, ◌^◌, ◌∙◌, ◌∷◌, ◌≡◌, ◌≤◌, ◌⊎◌}
+use Rattle.std.proofs.Common.{Bool, None, Some, [], ap, arith, cond, decimal, false, get_or, inl, inr, leb, length, length-append, lit<, ltb, option_and_then, pow_mono, refl, suc, sym, true, zero, ℕ, ◌%◌, ◌*◌, ◌+◌, ◌/◌, ◌<◌, ◌^◌, ◌∙◌, ◌∷◌, ◌≡◌, ◌≤◌, ◌⊎◌}
 use Rattle.std.proofs.Math.Nat.{div-lt_iff_lt-mul}
 use Rattle.std.proofs.lemmas.Bool.{eq-eqb, eqb-true, lt-ltb, ltb_from_iff}
 use Rattle.std.proofs.lemmas.Bool.Decides.{nat_tests}

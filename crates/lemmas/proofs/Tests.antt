@@ -1,5 +1,5 @@
 -- What holds of tests, of orderings and of options.
-use Rattle.std.proofs.Common.{Bool, None, Option, Some, T, ap, arith, cond, false, is_some, not, refl, sym, true, ℕ, ◌&&◌, ◌||◌, ◌∙◌, ◌≡◌, ◌≢◌, ◌≤◌}
+use Rattle.std.proofs.Common.{Bool, None, Option, Some, T, ap, arith, cond, false, is_some, not, refl, sym, true, ℕ, ◌&&◌, ◌||◌, ◌∙◌, ◌≡◌, ◌≤◌}
 use Rattle.std.proofs.lemmas.Bool.{and_parts, false≢true, true≢false}
 use Rattle.std.specs.Ordering.{is_eq, is_lt}
 use Rattle.std.specs.Prelude.{IsSome, T, if◌then◌else◌, not}

@@ -1,6 +1,6 @@
 //! What no clause can say: that calls succeed with ample memory.
 use crate::samples::{declared, values, widths};
-use gal_io::NoMemory;
+use gal_io::{CopyIn, NoMemory};
 use state_store::{Kind, Listing, ObjectDecl, Objects, Put, Row, Rows, Store};
 use std::alloc::Global;
 use std::test::Fail;

@@ -4,7 +4,7 @@ use gal_io::NoMemory;
 use state_store::{Kind, ObjectDecl, Row, Rows};
 use std::alloc::Global;
 use std::test::Fail;
-use writeback_table::{Applied, Command, Pair, To, Update, Updates};
+use writeback_table::{Applied, Command, Pair, To, Update};
 
 // The number of the object in every command.
 const OBJECT: u32 = 3;
@@ -228,13 +228,6 @@ fn vectors_and_numbers_have_tables(rt: HostRuntime) -> Result<(), Fail> {
     Ok(())
 }
 
-fn two_updates(alloc: Global) -> Result<Updates, NoMemory> {
-    let mut updates = Updates::new(alloc);
-    updates.push(gone(&[1]))?;
-    updates.push(put(&[2], 9))?;
-    Ok(updates)
-}
-
 fn are_done(pair: &mut Pair, updates: &[Update]) -> bool {
     let mut all = updates.len() == 2;
     for update in updates {
@@ -244,17 +237,14 @@ fn are_done(pair: &mut Pair, updates: &[Update]) -> bool {
     all
 }
 
-fn is_copy_done(alloc: Global) -> Result<bool, NoMemory> {
-    let updates = two_updates(alloc)?;
-    let copy = updates.copy(alloc)?;
+fn is_list_done(alloc: Global) -> Result<bool, NoMemory> {
     let mut pair = map_of_one(alloc, 2)?;
-    let done = are_done(&mut pair, copy.as_slice());
-    Ok(copy.len() == 2 && done && sees(alloc, &pair, false, TWO)?)
+    let done = are_done(&mut pair, &[gone(&[1]), put(&[2], 9)]);
+    Ok(done && sees(alloc, &pair, false, TWO)?)
 }
 
 #[test]
-fn copies_are_equal(rt: HostRuntime) -> Result<(), Fail> {
-    assert!(rt; Updates::new(rt.alloc()).is_empty());
-    assert!(rt; is_copy_done(rt.alloc())?);
+fn changes_are_made_in_order(rt: HostRuntime) -> Result<(), Fail> {
+    assert!(rt; is_list_done(rt.alloc())?);
     Ok(())
 }

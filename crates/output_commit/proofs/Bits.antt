@@ -13,7 +13,7 @@ use Rattle.output_commit.specs.declared.place.Place.{Place}
 use Rattle.output_commit.specs.declared.span.Span.{Span}
 use Rattle.output_commit.specs.Batches.{commands_in}
 use Rattle.output_commit.specs.Kept.{IsCounted, batches_in, begun_in}
-use Rattle.output_commit.specs.Spans.{IsIn, batch_in, bit_at, passed, span_len, total}
+use Rattle.output_commit.specs.Spans.{IsIn, batch_in, bit_at, span_len, total}
 use Rattle.output_commit.proofs.CommandCounts.{kept_full}
 use Rattle.output_commit.proofs.MergedBatches.{push_take}
 use Rattle.output_commit.proofs.SpannedBatches.{AreFull, full_append, len_is, total_is}

@@ -1,5 +1,5 @@
 -- Spans of which the first were begun and the last wait, with a gap between.
-use Rattle.std.proofs.Common.{◌≡◌, ℕ, ◌+◌, ◌-◌, ◌≤◌, List, [], ◌∷◌, ◌++◌, refl, sym, ◌∙◌, ap, arith, zero, suc, map, length, length-drop, take, drop}
+use Rattle.std.proofs.Common.{◌≡◌, ℕ, ◌+◌, ◌≤◌, List, [], ◌∷◌, ◌++◌, refl, sym, ◌∙◌, ap, arith, zero, suc, map, length, length-drop, take, drop}
 use Rattle.std.proofs.lemmas.List.{take-append-le}
 use Rattle.writeback_table.specs.declared.command.Update.{Update}
 use Rattle.output_commit.specs.declared.span.Span.{Span}

@@ -5,7 +5,7 @@ use Rattle.output_commit.specs.declared.output.Output.{Output}
 use Rattle.output_commit.specs.declared.output.Release.TheVariants.{Frame}
 use Rattle.output_commit.specs.Batches.{Batch, commands_in, fits}
 use Rattle.output_commit.specs.Batches.{visible as seen}
-use Rattle.output_commit.specs.Commit.{AreHeld, Commit, first, IsInOrder, visible, acknowledged, answer, commands}
+use Rattle.output_commit.specs.Commit.{Commit, first, IsInOrder, visible, acknowledged, answer, commands}
 use Rattle.output_commit.specs.Commit.{with_output, after_send, after_next, after_acknowledge, after_release}
 
 -- the calls that change a commit

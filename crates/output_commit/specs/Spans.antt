@@ -1,14 +1,14 @@
 -- Batches by where their changes stand among all changes, and commands by their place.
-use Rattle.std.specs.Prelude.{◌≡◌, ◌≤◌, ◌<◌, ℕ, zero, suc, ◌+◌, ◌-◌, ◌*◌, ◌^◌, List, [], ◌∷◌, ◌++◌, Option, Some, None}
-use Rattle.std.specs.Prelude.{Bool, true, false, ◌&&◌, slice_get}
-use Rattle.std.specs.Prelude.{drop, get_or, if◌then◌else◌, length, map, nat_lt, take, ◌==◌}
+use Rattle.std.specs.Prelude.{◌≡◌, ◌≤◌, ◌<◌, ℕ, ◌+◌, ◌-◌, ◌*◌, List, [], ◌∷◌, Option, Some, None}
+use Rattle.std.specs.Prelude.{Bool, false, ◌&&◌, slice_get}
+use Rattle.std.specs.Prelude.{drop, get_or, if◌then◌else◌, length, nat_lt, take, ◌==◌}
 use Rattle.std.specs.List.{AllByRecursion as Each}
 use Rattle.writeback_table.specs.declared.command.Update.{Update}
 use Rattle.writeback_table.specs.Batches.{count_of}
 use Rattle.output_commit.specs.declared.span.Span.{Span}
 use Rattle.output_commit.specs.declared.place.Place.{Place}
 use Rattle.output_commit.specs.declared.tally.Tally.{Tally}
-use Rattle.output_commit.specs.Batches.{Batch, fits}
+use Rattle.output_commit.specs.Batches.{Batch}
 
 -- ## Spans
 

@@ -15,7 +15,7 @@ use crate::course::Course;
 use crate::fates::{copy_fates, count_decided, count_released};
 use gal_io::NoMemory;
 use replay_contracts::{Job, ReplayError, Replayed};
-use run_model::{Fates, ObjectRows, Run, StoreRows, order};
+use run_model::{Fates, ObjectRows, Run, StoreRows, order, store_rows};
 use split_model::replicated;
 use std::alloc::Global;
 use switch_ir::SwitchPort;
@@ -63,7 +63,7 @@ impl Course {
         requires few_fates { length self.now.fates.items < 2 ^ 32 }
         ensures { IfOk result (λ run. run ≡ told_run (inputs_of job.now) self.now switch) }
     {
-        let objects = StoreRows::of(alloc, job.flat.objects.as_slice(), self.server.store())?;
+        let objects = store_rows(alloc, job.flat.objects.as_slice(), self.server.store())?;
         let fates = copy_fates(alloc, &self.fates)?;
         let packets = job.packets.len();
         Ok(Run {
@@ -89,7 +89,7 @@ impl Course {
         requires few_fates { length self.fates.items < 2 ^ 32 }
         ensures { IfOk result (λ run. run ≡ told_run (inputs_of job.now) self switch) }
     {
-        let objects = StoreRows::of(alloc, job.flat.objects.as_slice(), self.server.store())?;
+        let objects = store_rows(alloc, job.flat.objects.as_slice(), self.server.store())?;
         let packets = job.packets.len();
         let drained = self.is_drained(packets);
         let (version, visible) = (self.server.version(), self.commit.visible());

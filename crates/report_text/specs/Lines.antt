@@ -1,5 +1,5 @@
 -- The lines of a text that is a report, and the first line at which it is none.
-use Rattle.std.specs.Prelude.{◌≡◌, ◌<◌, ◌≤◌, ℕ, suc, List, [], ◌++◌, length, take}
+use Rattle.std.specs.Prelude.{◌≡◌, ◌<◌, ◌≤◌, ℕ, suc, List, ◌++◌, length, take}
 use Rattle.gal_io.specs.Lines.{lines, told_of}
 use Rattle.state_store.specs.declared.object.ObjectDecl.{ObjectDecl}
 use Rattle.run_model.specs.declared.run.Run.{Run}

@@ -14,7 +14,7 @@ use crate::uses::{Use, tally};
 use flat_ir::Flat;
 use gal_bits::Widths;
 use gal_io::NoMemory;
-use split_model::{Layouts, Split, ValueSet, guard_values, stage_or_zero};
+use split_model::{Layouts, Split, ValueSet, guard_values, layout_bytes, stage_or_zero};
 use state_store::{Kind, ObjectDecl};
 use std::alloc::Global;
 
@@ -158,8 +158,8 @@ fn transfer_bytes(alloc: Global, f: &Flat, s: &Split, guards: &ValueSet) -> Resu
     ensures { IfOk result (λ bytes. bytes ≡ transfer_bytes (program_of f.now) s.now) }
 {
     let layouts = Layouts::find(alloc, f, s, guards)?;
-    let up = layouts.up.bytes() as u32;
-    let down = layouts.down.bytes() as u32;
+    let up = layout_bytes(layouts.up.as_slice()) as u32;
+    let down = layout_bytes(layouts.down.as_slice()) as u32;
     Ok(up.max(down))
 }
 

@@ -5,7 +5,7 @@ ghost use Rattle.run_audit.specs.Told.{IsFirstUnlike};
 
 use element_lang::Middlebox;
 use gal_io::NoMemory;
-use run_model::{ObjectRows, Run, StoreRows};
+use run_model::{ObjectRows, Run, store_rows};
 use state_store::Store;
 use std::alloc::Global;
 
@@ -42,6 +42,6 @@ pub(crate) fn first_unlike(
     ensures { IfOk result (λ found. MatchOption found (run.now.objects ≡ parts_of m.now.objects store.now)
         (λ object. IsFirstUnlike run.now.objects (parts_of m.now.objects store.now) object)) }
 {
-    let wanted = StoreRows::of(alloc, m.objects.as_slice(), store)?;
+    let wanted = store_rows(alloc, m.objects.as_slice(), store)?;
     Ok(first_apart(run.objects.as_slice(), wanted.as_slice()))
 }

@@ -1,9 +1,5 @@
 //! The events of a schedule.
-ghost use Rattle.std.specs.Prelude.{◌≡◌, ◌++◌, ◌∷◌, [], length, OnOk, OnErr, IfOk, IsTrue, ◌↔◌};
-
-use gal_io::NoMemory;
-use std::alloc::Global;
-use std::marker::Model;
+use gal_io::Items;
 
 /// One action of one actor. An item is named by its place in a list, counted from 0.
 #[derive(Clone, Copy, Debug, PartialEq, Eq)]
@@ -28,68 +24,4 @@ pub enum Event {
 }
 
 /// A list of events, in the order in which they happen.
-#[derive(Debug, Drop)]
-pub struct Events {
-    items: Vec<Event>,
-}
-
-impl Model for Events {
-    ghost use Rattle.std.specs.Prelude.{List};
-    ghost use Rattle.run_model.specs.declared.event.Event.{Event};
-
-    ghost Value = { List Event };
-
-    ghost view = { λ events. events.items.items };
-}
-
-impl Events {
-    pub fn new(alloc: Global) -> Events
-        ensures { result ≡ [] }
-    {
-        Events {
-            items: Vec::new(alloc),
-        }
-    }
-
-    pub fn as_slice(&self) -> &[Event]
-        ensures { result.now ≡ self.now }
-    {
-        self.items.as_slice()
-    }
-
-    pub fn len(&self) -> usize
-        ensures { result ≡ length self.now }
-    {
-        self.items.len()
-    }
-
-    pub fn is_empty(&self) -> bool
-        ensures { IsTrue result ↔ (self.now ≡ []) }
-    {
-        self.items.is_empty()
-    }
-
-    /// Puts an event last.
-    pub fn push(&mut self, event: Event) -> Result<(), NoMemory>
-        ensures ok { OnOk result (self.new ≡ self.old ++ event ∷ []) }
-        ensures err { OnErr result (self.new ≡ self.old) }
-    {
-        self.items.push(event)?;
-        Ok(())
-    }
-
-    pub fn copy(&self, alloc: Global) -> Result<Events, NoMemory>
-        ensures { IfOk result (λ made. made ≡ self.now) }
-    {
-        let items = self.items.to_vec(alloc)?;
-        Ok(Events { items })
-    }
-}
-
-impl From<Vec<Event>> for Events {
-    ghost from_gives = { λ items events. events ≡ items.items };
-
-    fn from(items: Vec<Event>) -> Events {
-        Events { items }
-    }
-}
+pub type Events = Items<Event>;

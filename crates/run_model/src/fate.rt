@@ -1,8 +1,8 @@
 //! How far a packet has come.
 ghost use Rattle.std.specs.Prelude.{◌≡◌};
 
+use gal_io::Items;
 use packet_fields::Verdict;
-use std::marker::Model;
 
 /// How far an admitted packet has come. `admitted`, `decided` and `released` are the numbers of events, counted from 1.
 /// `version` counts the turns of the server that changed objects which the switch looks up: for a packet that the server
@@ -60,32 +60,4 @@ impl Fate {
 }
 
 /// The fates of the admitted packets, by number.
-#[derive(Debug, Drop)]
-pub struct Fates {
-    items: Vec<Fate>,
-}
-
-impl Model for Fates {
-    ghost use Rattle.std.specs.Prelude.{List};
-    ghost use Rattle.run_model.specs.declared.fate.Fate.{Fate};
-
-    ghost Value = { List Fate };
-
-    ghost view = { λ fates. fates.items.items };
-}
-
-impl Fates {
-    pub fn as_slice(&self) -> &[Fate]
-        ensures { result.now ≡ self.now }
-    {
-        self.items.as_slice()
-    }
-}
-
-impl From<Vec<Fate>> for Fates {
-    ghost from_gives = { λ items fates. fates ≡ items.items };
-
-    fn from(items: Vec<Fate>) -> Fates {
-        Fates { items }
-    }
-}
+pub type Fates = Items<Fate>;

@@ -10,5 +10,5 @@ mod serial;
 pub use event::{Event, Events};
 pub use fate::{Fate, Fates};
 pub use link_event::{Link, LinkEvent, LinkEvents};
-pub use run::{ObjectRows, Order, Run, StoreRows};
+pub use run::{ObjectRows, Order, Run, StoreRows, store_rows};
 pub use serial::{Decided, order};

@@ -3,40 +3,12 @@ ghost use Rattle.std.specs.Prelude.{◌≡◌, ◌<◌, ◌^◌, length, IfOk};
 ghost use Rattle.run_model.specs.Parts.{parts_of};
 
 use crate::fate::Fates;
-use gal_io::NoMemory;
+use gal_io::{Items, NoMemory};
 use state_store::{ObjectDecl, Rows, Store};
 use std::alloc::Global;
-use std::marker::Model;
 
 /// The numbers of packets in the serial order of a run.
-#[derive(Debug, Drop)]
-pub struct Order {
-    items: Vec<u32>,
-}
-
-impl Model for Order {
-    ghost use Rattle.std.specs.Prelude.{List, ℕ};
-
-    ghost Value = { List ℕ };
-
-    ghost view = { λ order. order.items.items };
-}
-
-impl Order {
-    pub fn as_slice(&self) -> &[u32]
-        ensures { result.now ≡ self.now }
-    {
-        self.items.as_slice()
-    }
-}
-
-impl From<Vec<u32>> for Order {
-    ghost from_gives = { λ items order. order ≡ items.items };
-
-    fn from(items: Vec<u32>) -> Order {
-        Order { items }
-    }
-}
+pub type Order = Items<u32>;
 
 /// The rows of one object, which is known by its place among the declared ones, from 0.
 #[derive(Debug, Drop)]
@@ -46,50 +18,26 @@ pub struct ObjectRows {
 }
 
 /// The rows of several objects, in order of declaration.
-#[derive(Debug, Drop)]
-pub struct StoreRows {
-    items: Vec<ObjectRows>,
-}
+pub type StoreRows = Items<ObjectRows>;
 
-impl Model for StoreRows {
-    ghost use Rattle.std.specs.Prelude.{List};
-    ghost use Rattle.run_model.specs.declared.run.ObjectRows.{ObjectRows};
-
-    ghost Value = { List ObjectRows };
-
-    ghost view = { λ parts. parts.items.items };
-}
-
-impl StoreRows {
-    /// The rows of each object of a store that isn't a table.
-    pub fn of(alloc: Global, objects: &[ObjectDecl], store: &Store) -> Result<StoreRows, NoMemory>
-        requires { length objects.now < 2 ^ 32 }
-        ensures { IfOk result (λ parts. parts ≡ parts_of objects.now store.now) }
-    {
-        let mut items = Vec::new(alloc);
-        for number in 0..objects.len() {
-            if !objects[number].kind.is_table() {
-                let object = number as u32;
-                let rows = store.rows(alloc, object)?;
-                items.push(ObjectRows { object, rows })?;
-            }
+/// The rows of each object of a store that isn't a table.
+pub fn store_rows(
+    alloc: Global,
+    objects: &[ObjectDecl],
+    store: &Store,
+) -> Result<StoreRows, NoMemory>
+    requires { length objects.now < 2 ^ 32 }
+    ensures { IfOk result (λ parts. parts ≡ parts_of objects.now store.now) }
+{
+    let mut items = Vec::new(alloc);
+    for number in 0..objects.len() {
+        if !objects[number].kind.is_table() {
+            let object = number as u32;
+            let rows = store.rows(alloc, object)?;
+            items.push(ObjectRows { object, rows })?;
         }
-        Ok(StoreRows { items })
     }
-
-    pub fn as_slice(&self) -> &[ObjectRows]
-        ensures { result.now ≡ self.now }
-    {
-        self.items.as_slice()
-    }
-}
-
-impl From<Vec<ObjectRows>> for StoreRows {
-    ghost from_gives = { λ items parts. parts ≡ items.items };
-
-    fn from(items: Vec<ObjectRows>) -> StoreRows {
-        StoreRows { items }
-    }
+    Ok(StoreRows::from(items))
 }
 
 /// A run as it is told.

@@ -22,7 +22,7 @@ use Rattle.run_text.specs.Printed.{IsLineOf, drain_lines, event_text, fine_lines
 use Rattle.run_model.specs.Sizes.{most_packets, most_events}
 use Rattle.run_text.specs.Trace.{at_most, behind_fine, body_of, event_line, is_drain, largest, numbered, packet_line, plan_behind, plan_by, schedule_of, trace_of, values_until, short_bytes}
 use Rattle.gal_io.proofs.ToldLines.{digits_plain, digits_told, plain}
-use Rattle.gal_io.proofs.Spaces.{digits_unspaced, after_space, before_space, space_there, unspaced}
+use Rattle.gal_io.proofs.Spaces.{digits_unspaced, after_space, before_space, space_there}
 use Rattle.run_text.proofs.LineSteps.{ahead_values, all_lines}
 use Rattle.gal_io.proofs.NumberLemmas.{decimal_digits, number_back}
 use Rattle.run_text.proofs.PrintedLines.{AreLines, lines_lined, none_lined, values_lined, values_back}

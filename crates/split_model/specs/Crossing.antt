@@ -8,7 +8,7 @@ use Rattle.flat_ir.specs.declared.program.FieldValue.{FieldValue}
 pub use Rattle.flat_ir.specs.Guards.{guards_write}
 use Rattle.flat_ir.specs.Program.{Program, Work, step_at, operands, is_named}
 pub use Rattle.flat_ir.specs.Program.{is_value, is_among}
-use Rattle.flat_ir.specs.Program.Work.{const, field, put}
+use Rattle.flat_ir.specs.Program.Work.{field}
 use Rattle.split_model.specs.declared.split.Part.{Part}
 use Rattle.split_model.specs.Split.{is_carried, is_server, is_post, any_step}
 use Rattle.flat_ir.specs.Kinds.{is_const, is_input}

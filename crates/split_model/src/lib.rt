@@ -14,7 +14,7 @@ mod values;
 
 pub use bounds::is_bounded;
 pub use guards::guard_values;
-pub use layout::{Crossing, Layout};
+pub use layout::{Crossing, Layout, layout_bytes};
 pub use layouts::{Layouts, is_at_hand};
 pub use readers::{Reader, read_by};
 pub use shown::replicated;

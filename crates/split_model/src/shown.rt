@@ -5,6 +5,7 @@ ghost use Rattle.split_model.specs.Shown.{is_replicated, is_shown};
 
 use crate::split::Split;
 use flat_ir::Flat;
+use state_store::is_constant;
 
 // Whether preprocessing looks the object up.
 fn is_shown(f: &Flat, s: &Split, object: u32) -> bool
@@ -22,5 +23,5 @@ fn is_shown(f: &Flat, s: &Split, object: u32) -> bool
 pub fn replicated(f: &Flat, s: &Split, object: u32) -> bool
     ensures { result ≡ is_replicated (program_of f.now) s.now object }
 {
-    !f.objects.is_constant(object) && is_shown(f, s, object)
+    !is_constant(f.objects.as_slice(), object) && is_shown(f, s, object)
 }

@@ -19,6 +19,6 @@ mod stored;
 
 pub use even_lists::put_numbers;
 pub use listing::Listing;
-pub use object::{Kind, ObjectDecl, Objects, Row};
+pub use object::{Kind, ObjectDecl, Objects, Row, is_constant};
 pub use rows::Rows;
 pub use store::{Found, Put, Store};

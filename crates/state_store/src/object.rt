@@ -1,12 +1,11 @@
 //! What a middlebox declares as its state, and rows of it.
-ghost use Rattle.std.specs.Prelude.{◌≡◌, ◌==◌, ◌++◌, ◌∷◌, [], length, IfOk, OnOk, OnErr};
+ghost use Rattle.std.specs.Prelude.{◌≡◌, IfOk};
 ghost use Rattle.state_store.specs.Kinds.{is_table, is_constant};
 
 use crate::rows::Rows;
 use gal_bits::{Values, Widths};
-use gal_io::{Bytes, NoMemory};
+use gal_io::{Bytes, CopyIn, Items, NoMemory};
 use std::alloc::Global;
-use std::marker::Model;
 
 /// What kind of object it is.
 #[derive(Clone, Copy, Debug, PartialEq, Eq)]
@@ -57,9 +56,8 @@ pub struct ObjectDecl {
     pub rows: Rows,
 }
 
-impl ObjectDecl {
-    /// The same declaration again, in memory of its own.
-    pub fn copy(&self, alloc: Global) -> Result<ObjectDecl, NoMemory>
+impl CopyIn for ObjectDecl {
+    fn copy(&self, alloc: Global) -> Result<ObjectDecl, NoMemory>
         ensures { IfOk result (λ made. made ≡ self.now) }
     {
         Ok(ObjectDecl {
@@ -75,74 +73,14 @@ impl ObjectDecl {
 }
 
 /// The declared objects, in order of declaration. An object is known by its place in this list, from 0.
-#[derive(Debug, Drop)]
-pub struct Objects {
-    items: Vec<ObjectDecl>,
-}
+pub type Objects = Items<ObjectDecl>;
 
-impl Model for Objects {
-    ghost use Rattle.std.specs.Prelude.{List};
-    ghost use Rattle.state_store.specs.declared.object.ObjectDecl.{ObjectDecl};
-
-    ghost Value = { List ObjectDecl };
-
-    ghost view = { λ objects. objects.items.items };
-}
-
-impl Objects {
-    pub fn new(alloc: Global) -> Objects
-        ensures { result ≡ [] }
-    {
-        Objects {
-            items: Vec::new(alloc),
-        }
-    }
-
-    pub fn as_slice(&self) -> &[ObjectDecl]
-        ensures { result.now ≡ self.now }
-    {
-        self.items.as_slice()
-    }
-
-    pub fn len(&self) -> usize
-        ensures { result ≡ length self.now }
-    {
-        self.items.len()
-    }
-
-    pub fn is_empty(&self) -> bool
-        ensures { result ≡ (length self.now == 0) }
-    {
-        self.items.is_empty()
-    }
-
-    /// Puts an object last.
-    pub fn push(&mut self, object: ObjectDecl) -> Result<(), NoMemory>
-        ensures ok { OnOk result (self.new ≡ self.old ++ object ∷ []) }
-        ensures err { OnErr result (self.new ≡ self.old) }
-    {
-        self.items.push(object)?;
-        Ok(())
-    }
-
-    /// The same objects again, in memory of their own.
-    pub fn copy(&self, alloc: Global) -> Result<Objects, NoMemory>
-        ensures { IfOk result (λ made. made ≡ self.now) }
-    {
-        let mut items = Vec::with_capacity(alloc, self.items.len())?;
-        for object in &self.items {
-            items.push(object.copy(alloc)?)?;
-        }
-        Ok(Objects { items })
-    }
-
-    /// Whether the object of this number is there, and is a table.
-    pub fn is_constant(&self, number: u32) -> bool
-        ensures { result ≡ is_constant self.now number }
-    {
-        match self.as_slice().get(number as usize) {
-            Some(object) => object.kind.is_table(),
-            None => false,
-        }
+/// Whether the object of this number is there, and is a table.
+pub fn is_constant(objects: &[ObjectDecl], number: u32) -> bool
+    ensures { result ≡ is_constant objects.now number }
+{
+    match objects.get(number as usize) {
+        Some(object) => object.kind.is_table(),
+        None => false,
     }
 }

@@ -1,16 +1,15 @@
 //! The code of a switch.
-ghost use Rattle.std.specs.Prelude.{◌≡◌, ◌==◌, ◌++◌, ◌∷◌, [], map, length, IfOk, OnOk, OnErr};
+ghost use Rattle.std.specs.Prelude.{◌≡◌, [], map, IfOk};
 ghost use Rattle.flat_ir.specs.Program.{work_of};
 ghost use Rattle.transfer_header.specs.Plans.{IsPlanOf, plan_prop};
 ghost use Rattle.switch_ir.specs.Passes.{pass_step_of, pass_of};
 ghost use Rattle.switch_ir.specs.Spans.{pass_spans};
 
 use flat_ir::{Blocks, InstrKind, Out, RegPlan};
-use gal_io::NoMemory;
+use gal_io::{CopyIn, Items, NoMemory};
 use split_model::Layout;
 use state_store::ObjectDecl;
 use std::alloc::Global;
-use std::marker::Model;
 
 /// An instruction of a pass.
 #[derive(Debug, Drop)]
@@ -39,67 +38,17 @@ impl PassStep {
 }
 
 /// Instructions of a pass, in order of instruction.
-#[derive(Debug, Drop)]
-pub struct Steps {
-    items: Vec<PassStep>,
-}
+pub type Steps = Items<PassStep>;
 
-impl Model for Steps {
-    ghost use Rattle.std.specs.Prelude.{List};
-    ghost use Rattle.switch_ir.specs.declared.code.PassStep.{PassStep};
-
-    ghost Value = { List PassStep };
-
-    ghost view = { λ steps. steps.items.items };
-}
-
-impl Steps {
-    /// No instructions. This takes no memory; `push` takes it from `alloc`.
-    pub fn new(alloc: Global) -> Steps
-        ensures { result ≡ [] }
-    {
-        Steps {
-            items: Vec::new(alloc),
-        }
+// Instructions that do the same, in memory of their own.
+fn copy_steps(alloc: Global, steps: &[PassStep]) -> Result<Steps, NoMemory>
+    ensures { IfOk result (λ made. map pass_step_of made ≡ map pass_step_of steps.now) }
+{
+    let mut made = Steps::new(alloc);
+    for step in steps {
+        made.push(step.copy(alloc)?)?;
     }
-
-    pub fn as_slice(&self) -> &[PassStep]
-        ensures { result.now ≡ self.now }
-    {
-        self.items.as_slice()
-    }
-
-    pub fn len(&self) -> usize
-        ensures { result ≡ length self.now }
-    {
-        self.items.len()
-    }
-
-    pub fn is_empty(&self) -> bool
-        ensures { result ≡ (length self.now == 0) }
-    {
-        self.items.is_empty()
-    }
-
-    /// Puts an instruction last.
-    pub fn push(&mut self, step: PassStep) -> Result<(), NoMemory>
-        ensures ok { OnOk result (self.new ≡ self.old ++ step ∷ []) }
-        ensures err { OnErr result (self.new ≡ self.old) }
-    {
-        self.items.push(step)?;
-        Ok(())
-    }
-
-    /// Instructions that do the same, in memory of their own.
-    pub fn copy(&self, alloc: Global) -> Result<Steps, NoMemory>
-        ensures { IfOk result (λ made. map pass_step_of made ≡ map pass_step_of self.now) }
-    {
-        let mut steps = Steps::new(alloc);
-        for step in &self.items {
-            steps.push(step.copy(alloc)?)?;
-        }
-        Ok(steps)
-    }
+    Ok(made)
 }
 
 /// A pass over a packet, before the server or after it.
@@ -127,8 +76,8 @@ impl Pass {
         ensures plan { IfOk result (λ made. made.plan ≡ self.now.plan) }
     {
         Ok(Pass {
-            steps: self.steps.copy(alloc)?,
-            given: self.given.copy(alloc)?,
+            steps: copy_steps(alloc, self.steps.as_slice())?,
+            given: copy_steps(alloc, self.given.as_slice())?,
             blocks: self.blocks.copy(alloc)?,
             rest: self.rest.to_vec(alloc)?,
             out: self.out.copy(alloc)?,
@@ -146,9 +95,8 @@ pub struct Table {
     pub object: ObjectDecl,
 }
 
-impl Table {
-    /// The same again, in memory of its own.
-    pub fn copy(&self, alloc: Global) -> Result<Self, NoMemory>
+impl CopyIn for Table {
+    fn copy(&self, alloc: Global) -> Result<Self, NoMemory>
         ensures { IfOk result (λ made. made ≡ self.now) }
     {
         Ok(Table {
@@ -159,68 +107,7 @@ impl Table {
 }
 
 /// The objects that the passes look up, in order of declaration.
-#[derive(Debug, Drop)]
-pub struct Tables {
-    items: Vec<Table>,
-}
-
-impl Model for Tables {
-    ghost use Rattle.std.specs.Prelude.{List};
-    ghost use Rattle.switch_ir.specs.declared.code.Table.{Table};
-
-    ghost Value = { List Table };
-
-    ghost view = { λ tables. tables.items.items };
-}
-
-impl Tables {
-    /// No objects. This takes no memory; `push` takes it from `alloc`.
-    pub fn new(alloc: Global) -> Tables
-        ensures { result ≡ [] }
-    {
-        Tables {
-            items: Vec::new(alloc),
-        }
-    }
-
-    pub fn as_slice(&self) -> &[Table]
-        ensures { result.now ≡ self.now }
-    {
-        self.items.as_slice()
-    }
-
-    pub fn len(&self) -> usize
-        ensures { result ≡ length self.now }
-    {
-        self.items.len()
-    }
-
-    pub fn is_empty(&self) -> bool
-        ensures { result ≡ (length self.now == 0) }
-    {
-        self.items.is_empty()
-    }
-
-    /// Puts an object last.
-    pub fn push(&mut self, table: Table) -> Result<(), NoMemory>
-        ensures ok { OnOk result (self.new ≡ self.old ++ table ∷ []) }
-        ensures err { OnErr result (self.new ≡ self.old) }
-    {
-        self.items.push(table)?;
-        Ok(())
-    }
-
-    /// The same objects again, in memory of their own.
-    pub fn copy(&self, alloc: Global) -> Result<Tables, NoMemory>
-        ensures { IfOk result (λ made. made ≡ self.now) }
-    {
-        let mut tables = Tables::new(alloc);
-        for table in &self.items {
-            tables.push(table.copy(alloc)?)?;
-        }
-        Ok(tables)
-    }
-}
+pub type Tables = Items<Table>;
 
 /// The code of a switch: the pass over a packet that arrives, the pass over one that comes down from the server, and
 /// what is handed between them.

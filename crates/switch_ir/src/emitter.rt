@@ -17,7 +17,7 @@ use crate::rest::rest;
 use crate::spans::{no_plan, plan_of, spans_of, values_are_few};
 use crate::steps::{Role, given_steps, highest, steps, values};
 use flat_ir::{FieldValue, Flat, Out, Spans, what_fits_can_run};
-use gal_io::NoMemory;
+use gal_io::{CopyIn, NoMemory};
 use split_model::{Layout, Layouts, Split};
 use std::alloc::Global;
 

@@ -9,7 +9,7 @@ ghost use Rattle.switch_ir.specs.Emitting.{stage_in};
 use crate::code::{Table, Tables};
 use crate::steps::Role;
 use flat_ir::Flat;
-use gal_io::NoMemory;
+use gal_io::{CopyIn, NoMemory};
 use split_model::Split;
 use std::alloc::Global;
 

@@ -23,7 +23,7 @@ use Rattle.switch_ir.specs.Meaning.{after_stage, after_stages, pass_values}
 use Rattle.switch_ir.specs.Staged.{Staging}
 use Rattle.switch_machine.specs.declared.numbering.ValueRange.{ValueRange}
 use Rattle.switch_machine.specs.Keeping.{begins, kept}
-use Rattle.switch_machine.specs.Numbers.{AreHeld, content_at, gives, is_number, is_read, number_in, reads_by, stage_gives, stage_number, stage_reads, stage_writes}
+use Rattle.switch_machine.specs.Numbers.{AreHeld, content_at, is_number, is_read, number_in, reads_by, stage_gives, stage_number, stage_reads, stage_writes}
 use Rattle.switch_machine.specs.Planned.{first_writes, registers_at, stage_done, steps_of, BeginsWith, FitRanges}
 use Rattle.switch_machine.specs.Staged.{of_stage}
 use Rattle.switch_machine.proofs.Members.{has_among, has_any, has_each}

@@ -10,7 +10,6 @@ use Rattle.packet_fields.specs.declared.packet.Packet.{Packet}
 use Rattle.state_store.specs.Store.{Store}
 use Rattle.flat_ir.specs.Blocks.{Reading}
 use Rattle.flat_ir.specs.Plan.{RegisterPlan}
-use Rattle.flat_ir.specs.Run.{results}
 use Rattle.switch_ir.specs.declared.code.PassStep.{PassStep}
 use Rattle.switch_ir.specs.Code.{Step, pass_step_of}
 use Rattle.switch_ir.specs.Sound.{CanStep}

@@ -1,6 +1,6 @@
 -- A write-back table kept as two objects.
 use Rattle.std.proofs.Common.{◌≡◌, ◌≤◌, ◌<◌, ℕ, zero, suc, ◌+◌, ◌-◌, Bool, true, false, cond, not, ◌&&◌, ◌||◌, nat_le, List, [], ◌∷◌, Option, Some, None, is_some, refl, sym, ap, subst, ◌∙◌, arith}
-use Rattle.std.specs.FinMap.{find, get, insert, remove, empty, len, entries, from_entries, contains_key, get-entries, get-from_entries, get-insert, get-remove, get-empty, len-insert, len-remove, len-empty, same_map, empty_of_len}
+use Rattle.std.specs.FinMap.{find, get, insert, remove, empty, len, entries, contains_key, get-entries, get-from_entries, get-insert, get-remove, get-empty, len-insert, len-remove, len-empty, same_map, empty_of_len}
 use Rattle.std.specs.Ordering.{eq_by_cmp}
 use Rattle.std.proofs.lemmas.Bool.Decides.{nat_tests}
 use Rattle.std.proofs.lemmas.Cmp.{nat_list_cmp_total}

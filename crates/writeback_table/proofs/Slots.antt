@@ -1,7 +1,7 @@
 -- The tables of one object together with the bit, and one batch as the induction meets it.
-use Rattle.std.proofs.Common.{◌≡◌, ℕ, ◌≤◌, Bool, true, false, cond, List, [], ◌∷◌, Option, Some, None, refl, sym, ap, ◌∙◌, take}
+use Rattle.std.proofs.Common.{◌≡◌, ℕ, ◌≤◌, Bool, true, false, cond, List, [], ◌∷◌, Option, Some, None, refl, sym, ap, ◌∙◌}
 use Rattle.std.specs.FinMap as map
-use Rattle.std.specs.FinMap.{get, insert, remove, entries, find, from_entries, get-insert, get-remove, get-entries, get-from_entries, get-empty, same_map}
+use Rattle.std.specs.FinMap.{get, entries, find, from_entries, get-insert, get-remove, get-entries, get-from_entries, get-empty, same_map}
 use Rattle.std.specs.Ordering.{eq_by_cmp}
 use Rattle.std.proofs.lemmas.Cmp.{nat_list_cmp_total}
 use Rattle.std.proofs.lemmas.Map.Lookups.{exact_bytes}

@@ -3,6 +3,7 @@ ghost use Rattle.std.specs.Prelude.{◌≡◌};
 ghost use Rattle.writeback_table.specs.Views.{disturbs};
 
 use gal_bits::Values;
+use gal_io::Items;
 
 /// What a change leaves under its key.
 #[derive(Clone, Copy, Debug)]
@@ -21,6 +22,9 @@ pub struct Update {
     pub key: Values,
     pub to: To,
 }
+
+/// A list of changes, in the order in which they were made.
+pub type Updates = Items<Update>;
 
 /// What the switch is told, one at a time.
 #[derive(Clone, Copy, Debug)]

@@ -5,9 +5,7 @@ mod command;
 mod one_object;
 mod pair;
 mod seen_rows;
-mod updates;
 mod write_back;
 
-pub use command::{Applied, Command, To, Update};
+pub use command::{Applied, Command, To, Update, Updates};
 pub use pair::Pair;
-pub use updates::Updates;

@@ -4,7 +4,7 @@ ghost use Rattle.std.specs.FinMap as map;
 ghost use Rattle.state_store.specs.Store.{look, looked_up, put_answer, put_row, del_row, start_object, rows_of};
 
 use gal_bits::{Values, Widths};
-use gal_io::{Bytes, NoMemory};
+use gal_io::{Bytes, CopyIn, NoMemory};
 use state_store::{Found, Kind, ObjectDecl, Objects, Put, Rows, Store};
 use std::alloc::Global;
 use std::marker::Model;

@@ -1,4 +1,4 @@
-use Rattle.std.proofs.Common.{arith, ap, length, ◌∙◌, sym}
+use Rattle.std.proofs.Common.{arith, ap, length}
 use Rattle.output_commit.specs.Commit.{commands}
 use Rattle.output_commit.proofs.CommandCounts.{batch_commands, commands_total}
 use Rattle.output_commit.proofs.commit.Commit.has_room_for.Goals as goal

@@ -1,14 +1,13 @@
-use Rattle.std.proofs.Common.{◌≡◌, ◌<◌, ◌+◌, ◌-◌, ◌*◌, ◌∙◌, ℕ, List, Some, arith, ap, length, sym}
-use Rattle.std.specs.Prelude.{Option, slice_get}
+use Rattle.std.proofs.Common.{◌≡◌, ◌-◌, ◌∙◌, List, arith, ap, length, sym}
+use Rattle.std.specs.Prelude.{slice_get}
 use Rattle.std.specs.Option.{option_copied}
 use Rattle.writeback_table.specs.Commands.{commands_of}
-use Rattle.output_commit.specs.Batches.{commands_in}
 use Rattle.output_commit.specs.Commit.{last_sent}
-use Rattle.output_commit.specs.Kept.{batches_in, begun_in}
+use Rattle.output_commit.specs.Kept.{batches_in}
 use Rattle.output_commit.specs.Spans.{batch_in, span_len}
 use Rattle.output_commit.specs.declared.span.Span.{Span}
 use Rattle.output_commit.proofs.KeptCommit.{command_is, length_in, span_within}
-use Rattle.output_commit.proofs.Sent.{IsLastSent, last_stands, some_last}
+use Rattle.output_commit.proofs.Sent.{last_stands, some_last}
 use Rattle.output_commit.proofs.commit.Commit.sent_command.Goals as goal
 
 pub commands-requires : goal.commands-requires

@@ -1,4 +1,4 @@
-use Rattle.std.proofs.Common.{◌≤◌, arith}
+use Rattle.std.proofs.Common.{arith}
 use Rattle.output_commit.proofs.NextPlace.{at_batch, one_within, pass_here, pass_next, pass_there}
 use Rattle.output_commit.proofs.place.Place.pass.Goals as goal
 

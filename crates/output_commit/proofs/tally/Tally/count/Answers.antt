@@ -1,4 +1,4 @@
-use Rattle.std.proofs.Common.{◌≡◌, ◌+◌, ◌++◌, ◌∙◌, true, sym, subst, ap, arith, take, length}
+use Rattle.std.proofs.Common.{◌≡◌, ◌+◌, ◌++◌, ◌∙◌, true, sym, subst, ap, arith, take}
 use Rattle.std.proofs.lemmas.List.{length-set, take_all}
 use Rattle.writeback_table.specs.Batches.{count_of}
 use Rattle.output_commit.specs.Batches.{fits}

@@ -1,8 +1,8 @@
 use Rattle.std.proofs.Common.{List, ◌++◌, ◌∷◌, [], sym, ap, ◌∙◌}
 use Rattle.state_store.specs.declared.object.Row.{Row}
 use Rattle.run_model.proofs.PartLaws.{part_passed, part_told}
-use Rattle.run_model.proofs.run.StoreRows.of.Goals.{then-not-is_table+in_ok-rows+in_ok-push, else-not-is_table}
-use Rattle.run_model.proofs.run.StoreRows.of.Goals as goal
+use Rattle.run_model.proofs.run.store_rows.Goals.{then-not-is_table+in_ok-rows+in_ok-push, else-not-is_table}
+use Rattle.run_model.proofs.run.store_rows.Goals as goal
 
 pub loop-number-preserved : goal.loop-number-preserved
 loop-number-preserved c =
