@@ -128,7 +128,7 @@ fn tests_depth(depths: &[u64], wires: &[Wire]) -> u64
 }
 
 /// An element's own statements: how deep they are without what stands for a `send`, and the level of the innermost one.
-#[derive(Clone, Copy, Debug)]
+#[derive(Clone, Copy)]
 struct Own {
     depth: u64,
     level: u64,

@@ -3,7 +3,7 @@
 use std::alloc::AllocFailed;
 
 /// What there is too much of in a composed middlebox.
-#[derive(Clone, Copy, Debug, PartialEq, Eq)]
+#[derive(Clone, Copy, PartialEq, Eq)]
 pub enum What {
     /// Declared objects.
     Objects,
@@ -18,7 +18,7 @@ pub enum What {
 }
 
 /// Why a chain isn't composed. Of several reasons the first one in this order is told.
-#[derive(Clone, Copy, Debug, PartialEq, Eq)]
+#[derive(Clone, Copy, PartialEq, Eq)]
 pub enum ComposeError {
     /// The element of this number isn't the entry, and reads bytes of the packet as it arrived.
     Byte(u32),

@@ -3,7 +3,7 @@
 use crate::gauge::Gauge;
 
 /// What is counted of the statements of an element.
-#[derive(Clone, Copy, Debug)]
+#[derive(Clone, Copy)]
 pub(crate) struct Figures {
     /// All that stands where the element does, but for what it reads of its port of arrival, and for what stands at the
     /// ends of its wires.
@@ -17,7 +17,7 @@ pub(crate) struct Figures {
 }
 
 /// What is counted at the end of a wire to an element.
-#[derive(Clone, Copy, Debug)]
+#[derive(Clone, Copy)]
 pub(crate) struct Ending {
     /// All but for what is read of the port of arrival.
     pub fixed: u64,
@@ -26,7 +26,7 @@ pub(crate) struct Ending {
 }
 
 /// How the statements of an element are counted.
-#[derive(Clone, Copy, Debug)]
+#[derive(Clone, Copy)]
 pub(crate) struct Scale<'a> {
     pub gauge: Gauge,
     /// The bytes of the names of its objects, in order. An object past the end has none.

@@ -1,7 +1,7 @@
 //! What is counted of statements.
 
 /// What is counted of statements, those within others too.
-#[derive(Clone, Copy, Debug, PartialEq, Eq)]
+#[derive(Clone, Copy, PartialEq, Eq)]
 pub(crate) enum Gauge {
     /// The statements themselves.
     Statements,

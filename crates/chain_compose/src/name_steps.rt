@@ -9,7 +9,7 @@ use element_lang::{Expr, Stmt};
 use gal_io::NoMemory;
 
 /// What a statement does with locals of its element.
-#[derive(Clone, Copy, Debug)]
+#[derive(Clone, Copy)]
 pub(crate) enum Step {
     /// A local is named that is declared before.
     Name(u32),

@@ -25,7 +25,7 @@ use gal_io::NoMemory;
 
 /// From which number on locals count, and what is told of the ends of wires: how many locals are declared there, and how
 /// often one is named.
-#[derive(Clone, Copy, Debug)]
+#[derive(Clone, Copy)]
 pub(crate) struct Tables<'a> {
     pub least: u64,
     pub locals: &'a Levels,
@@ -33,7 +33,7 @@ pub(crate) struct Tables<'a> {
 }
 
 /// How many locals of the whole are declared so far, and how often one that counts is named.
-#[derive(Clone, Copy, Debug)]
+#[derive(Clone, Copy)]
 pub(crate) struct Tally {
     pub next: u64,
     pub count: u64,

@@ -33,7 +33,7 @@ pub(crate) struct Parts<'a> {
 }
 
 /// An element where it stands in the whole.
-#[derive(Clone, Copy, Debug)]
+#[derive(Clone, Copy)]
 pub(crate) struct Place {
     pub element: u32,
     /// The port of arrival, where the element stands behind another one.

@@ -47,7 +47,7 @@ fn wires_of(alloc: Global, wires: &[Wire], element: u32) -> Result<Vec<Wire>, No
 }
 
 /// The wires of each element, in order of their outputs. Contracts see a list for each element.
-#[derive(Debug, Drop)]
+#[derive(Drop)]
 pub(crate) struct Routes {
     lists: Vec<Vec<Wire>>,
 }

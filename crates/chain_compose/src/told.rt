@@ -7,7 +7,7 @@ use std::alloc::Global;
 use std::marker::Model;
 
 /// A number for each element, at each level. Contracts see a list for each level.
-#[derive(Debug, Drop)]
+#[derive(Drop)]
 pub(crate) struct Levels {
     rows: Vec<Vec<u64>>,
 }

@@ -22,7 +22,7 @@ use std::collections::BTreeSet;
 const OUT: &[u8] = b"out";
 
 /// The elements and wires of the statements so far.
-#[derive(Debug, Drop)]
+#[derive(Drop)]
 pub(crate) struct Builder {
     pub elements: Elements,
     pub wires: Wires,

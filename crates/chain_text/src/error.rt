@@ -4,7 +4,7 @@ use std::alloc::AllocFailed;
 
 /// Why a text is no chain. Of several reasons the first one in this order is told. A count or a number that 32 bits
 /// can't hold, which only a text of more than 4 GiB has, is told as the greatest that they can.
-#[derive(Clone, Copy, Debug, PartialEq, Eq)]
+#[derive(Clone, Copy, PartialEq, Eq)]
 pub enum ChainTextError {
     /// No token starts at this offset, which is counted in bytes; or, where all of the text is tokens, the first wrong
     /// one starts there; or it is the length of a text that ends too early.

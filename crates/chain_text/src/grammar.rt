@@ -12,7 +12,7 @@ use lexer::Span;
 use std::alloc::{AllocFailed, Global};
 
 /// Why tokens spell no statements.
-#[derive(Clone, Copy, Debug)]
+#[derive(Clone, Copy)]
 pub(crate) enum GrammarError {
     /// The token at this place, counted from 0, is the first wrong one; or, behind the last, more have to follow.
     Wrong(usize),

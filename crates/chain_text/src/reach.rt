@@ -10,7 +10,7 @@ use gal_io::NoMemory;
 use std::alloc::Global;
 
 /// For each two elements, whether wires lead from the first to the second: the row of the first, then the next row.
-#[derive(Debug, Drop)]
+#[derive(Drop)]
 pub(crate) struct Reach {
     count: usize,
     rows: Vec<bool>,

@@ -7,7 +7,7 @@ use crate::mark::Mark;
 use crate::token::{Placed, Token};
 
 /// What a token has to be.
-#[derive(Clone, Copy, Debug)]
+#[derive(Clone, Copy)]
 pub(crate) enum Kind {
     Name,
     Number,

@@ -7,7 +7,7 @@ use crate::shape::{DECLARATION, WIRE};
 use lexer::Span;
 
 /// A statement.
-#[derive(Clone, Copy, Debug)]
+#[derive(Clone, Copy)]
 pub(crate) enum Statement {
     /// An element of a class.
     Declares {

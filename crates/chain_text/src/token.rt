@@ -4,7 +4,7 @@ use crate::mark::Mark;
 use lexer::Span;
 
 /// A token.
-#[derive(Clone, Copy, Debug)]
+#[derive(Clone, Copy)]
 pub enum Token {
     Name(Span),
     /// The number of an output or an input.

@@ -7,7 +7,7 @@ use std::alloc::Global;
 use std::marker::Model;
 
 /// A truth value for each instruction.
-#[derive(Debug, Drop)]
+#[derive(Drop)]
 pub struct Marks {
     items: Vec<bool>,
 }
@@ -77,7 +77,7 @@ impl Marks {
 }
 
 /// A number for each instruction.
-#[derive(Debug, Drop)]
+#[derive(Drop)]
 pub struct Depths {
     items: Vec<u32>,
 }

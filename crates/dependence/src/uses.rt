@@ -12,7 +12,7 @@ use std::alloc::Global;
 use std::marker::Model;
 
 // Numbers of instructions.
-#[derive(Debug, Drop)]
+#[derive(Drop)]
 struct Users {
     items: Vec<usize>,
 }
@@ -58,7 +58,7 @@ impl Users {
 }
 
 /// For each instruction, in rising order those that have one of its results as an operand.
-#[derive(Debug, Drop)]
+#[derive(Drop)]
 pub struct Uses {
     rows: Vec<Users>,
 }

@@ -3,7 +3,7 @@ use element_lang::Middlebox;
 use gal_io::{Bytes, Items};
 
 /// An element: a middlebox under a name of its own.
-#[derive(Debug, Drop)]
+#[derive(Drop)]
 pub struct Element {
     pub name: Bytes,
     /// The name of its class, which says what it does.
@@ -11,7 +11,7 @@ pub struct Element {
 }
 
 /// Where a wire leads.
-#[derive(Clone, Copy, Debug, PartialEq, Eq)]
+#[derive(Clone, Copy, PartialEq, Eq)]
 pub enum Target {
     /// To the element of this number, from 0.
     Element(u32),
@@ -20,7 +20,7 @@ pub enum Target {
 }
 
 /// A wire, from an output of an element to an input.
-#[derive(Clone, Copy, Debug, PartialEq, Eq)]
+#[derive(Clone, Copy, PartialEq, Eq)]
 pub struct Wire {
     /// The number of the element that it comes from, from 0.
     pub from: u32,
@@ -38,7 +38,7 @@ pub type Elements = Items<Element>;
 pub type Wires = Items<Wire>;
 
 /// Elements and wires. The first element is the entry.
-#[derive(Debug, Drop)]
+#[derive(Drop)]
 pub struct Chain {
     pub elements: Elements,
     pub wires: Wires,

@@ -5,7 +5,7 @@ ghost use Rattle.element_grammar.specs.declared.error.ParseError.TheVariants.{No
 use std::alloc::{AllocError, AllocFailed};
 
 /// Why there is no surface tree.
-#[derive(Clone, Copy, Debug, PartialEq, Eq)]
+#[derive(Clone, Copy, PartialEq, Eq)]
 pub enum ParseError {
     /// So many tokens are left at the first wrong one, which is among them. None are left where the tokens end too
     /// early.

@@ -5,7 +5,7 @@ use gal_bits::Op;
 use packet_fields::Field;
 
 /// Something in a source, and where it begins.
-#[derive(Debug, Drop)]
+#[derive(Drop)]
 pub struct At<T> {
     /// How many tokens there are from its first one to the end of the source.
     pub at: usize,
@@ -13,28 +13,28 @@ pub struct At<T> {
 }
 
 /// A whole middlebox.
-#[derive(Debug, Drop)]
+#[derive(Drop)]
 pub struct SurfaceTree {
     pub objects: Vec<At<SurfaceDecl>>,
     pub body: Vec<At<SurfaceStmt>>,
 }
 
 /// A number and the width that is written behind it, which may be none.
-#[derive(Clone, Copy, Debug)]
+#[derive(Clone, Copy)]
 pub struct Literal {
     pub value: u64,
     pub width: u64,
 }
 
 /// A row of a table.
-#[derive(Debug, Drop)]
+#[derive(Drop)]
 pub struct SurfaceRow {
     pub keys: Vec<Literal>,
     pub values: Vec<Literal>,
 }
 
 /// A declaration. Widths and sizes stand as they are written, and may be of any size.
-#[derive(Debug, Drop)]
+#[derive(Drop)]
 pub enum SurfaceDecl {
     Table {
         name: Span,
@@ -61,7 +61,7 @@ pub enum SurfaceDecl {
 }
 
 /// A statement.
-#[derive(Debug, Drop)]
+#[derive(Drop)]
 pub enum SurfaceStmt {
     Let {
         local: Span,
@@ -109,7 +109,7 @@ pub enum SurfaceStmt {
 }
 
 /// An expression. Brackets around one leave no trace.
-#[derive(Debug, Drop)]
+#[derive(Drop)]
 pub enum SurfaceExpr {
     /// A number and the width that is written behind it, which may be none.
     Literal {

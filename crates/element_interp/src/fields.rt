@@ -11,7 +11,7 @@ use packet_fields::{FIELD_COUNT, Field, Shape, field_index, fields, get, set, wi
 use std::marker::Model;
 
 /// The value of each field that was assigned one, in field order. Each fits its field.
-#[derive(Debug, Drop)]
+#[derive(Drop)]
 pub(crate) struct AssignedFields {
     values: [Option<u64>; FIELD_COUNT],
 }

@@ -7,7 +7,7 @@ use element_lang::Local;
 use packet_fields::Shape;
 
 /// The declared locals, and the packet as it arrived, with its shape.
-#[derive(Clone, Copy, Debug)]
+#[derive(Clone, Copy)]
 pub(crate) struct Frame<'a> {
     pub locals: &'a [Local],
     pub port: u8,

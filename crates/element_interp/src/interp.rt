@@ -20,7 +20,7 @@ use state_store::{Put, Store};
 use std::alloc::Global;
 
 /// How a stretch of statements leaves a run.
-#[derive(Clone, Copy, Debug)]
+#[derive(Clone, Copy)]
 enum Flow {
     /// The run goes on behind the statements.
     Goes,

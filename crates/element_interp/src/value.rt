@@ -16,7 +16,7 @@ use gal_bits::{Op, Values, Width, eval};
 use gal_io::NoMemory;
 
 /// The variables of a run but for the store.
-#[derive(Debug, Drop)]
+#[derive(Drop)]
 pub(crate) struct Variables {
     pub locals: Vec<u64>,
     pub fields: AssignedFields,

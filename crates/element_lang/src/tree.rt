@@ -8,7 +8,7 @@ use state_store::Objects;
 use std::alloc::Global;
 
 /// A whole middlebox.
-#[derive(Debug, Drop)]
+#[derive(Drop)]
 pub struct Middlebox {
     /// The state that lasts from packet to packet.
     pub objects: Objects,
@@ -19,7 +19,7 @@ pub struct Middlebox {
 }
 
 /// A variable of a run.
-#[derive(Debug, Drop)]
+#[derive(Drop)]
 pub struct Local {
     pub name: Bytes,
     pub width: Width,
@@ -43,7 +43,7 @@ pub type Locals = Items<Local>;
 pub type Body = Vec<Stmt>;
 
 /// A statement. Objects and locals are named by their places.
-#[derive(Debug, Drop)]
+#[derive(Drop)]
 pub enum Stmt {
     /// Declares a local, and gives it a value.
     Let {
@@ -101,7 +101,7 @@ pub enum Stmt {
 }
 
 /// An expression.
-#[derive(Debug, Drop)]
+#[derive(Drop)]
 pub enum Expr {
     /// A number and its width in bits.
     Lit(u64, Width),

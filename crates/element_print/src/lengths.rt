@@ -17,7 +17,7 @@ use state_store::ObjectDecl;
 use std::alloc::Global;
 
 /// How many bytes the names have that statements use.
-#[derive(Clone, Copy, Debug)]
+#[derive(Clone, Copy)]
 pub struct NameLengths<'a> {
     /// The bytes of the name of each local, by its number. A local past the end has none.
     pub locals: &'a [u64],

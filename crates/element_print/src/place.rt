@@ -9,7 +9,7 @@ use element_lang::{Expr, Mark};
 use gal_bits::Op;
 
 /// Where an expression stands.
-#[derive(Clone, Copy, Debug)]
+#[derive(Clone, Copy)]
 pub enum Place {
     /// Between brackets, commas or other marks that can't be a part of it.
     Whole,

@@ -11,7 +11,7 @@ use std::alloc::Global;
 use std::marker::Model;
 
 /// A text of tokens, with a space behind each.
-#[derive(Debug, Drop)]
+#[derive(Drop)]
 pub(crate) struct Tokens {
     alloc: Global,
     bytes: Vec<u8>,

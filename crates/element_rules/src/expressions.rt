@@ -27,7 +27,7 @@ const BYTE_BITS: u64 = 8;
 const MAX_SHIFT: u64 = 63;
 
 /// What is wrong in an expression, or in one inside it.
-#[derive(Clone, Copy, Debug)]
+#[derive(Clone, Copy)]
 pub(crate) struct Faults {
     /// A width that is written isn't from 1 to 64.
     pub bad_width: bool,
@@ -42,14 +42,14 @@ pub(crate) struct Faults {
 }
 
 /// How wide an expression's value is, and what is wrong in it.
-#[derive(Clone, Copy, Debug)]
+#[derive(Clone, Copy)]
 pub(crate) struct Tested {
     pub width: u64,
     pub faults: Faults,
 }
 
 /// How wide the values of several are, and what is wrong in any of them.
-#[derive(Debug, Drop)]
+#[derive(Drop)]
 pub(crate) struct TestedList {
     pub widths: Vec<u64>,
     pub faults: Faults,

@@ -27,7 +27,7 @@ const PORT_BITS: u64 = 8;
 const MAX_TURNS: u64 = 64;
 
 /// What is wrong in a statement, apart from the statements inside it.
-#[derive(Clone, Copy, Debug)]
+#[derive(Clone, Copy)]
 pub(crate) struct StmtFaults {
     /// What is wrong in its expressions.
     pub exprs: Faults,
@@ -205,7 +205,7 @@ fn own_expressions(
 }
 
 // The widths of a key and of a value, and what is wrong in either.
-#[derive(Debug, Drop)]
+#[derive(Drop)]
 struct TestedRow {
     keys: Vec<u64>,
     values: Vec<u64>,

@@ -18,14 +18,14 @@ use packet_fields::width;
 use std::alloc::Global;
 
 /// An expression and the width of its value.
-#[derive(Debug, Drop)]
+#[derive(Drop)]
 pub(crate) struct TypedExpr {
     pub expr: Expr,
     pub width: Width,
 }
 
 /// Expressions and the widths of their values.
-#[derive(Debug, Drop)]
+#[derive(Drop)]
 pub(crate) struct TypedExprs {
     pub exprs: Vec<Expr>,
     pub widths: Vec<Width>,

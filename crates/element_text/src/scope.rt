@@ -14,7 +14,7 @@ use state_store::{ObjectDecl, Objects};
 use std::alloc::Global;
 
 /// A local in scope.
-#[derive(Clone, Copy, Debug)]
+#[derive(Clone, Copy)]
 pub(crate) struct KnownLocal {
     pub number: u32,
     pub width: Width,

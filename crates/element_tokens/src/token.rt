@@ -5,7 +5,7 @@ use lexer::Span;
 use packet_fields::Field;
 
 /// A token.
-#[derive(Clone, Copy, Debug)]
+#[derive(Clone, Copy)]
 pub enum Token {
     /// A keyword or a symbol.
     Fixed(Mark),

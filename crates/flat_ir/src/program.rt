@@ -9,7 +9,7 @@ use state_store::Objects;
 use std::alloc::Global;
 
 /// A result of an instruction.
-#[derive(Clone, Copy, Debug, PartialEq, Eq)]
+#[derive(Clone, Copy, PartialEq, Eq)]
 pub struct ValueId {
     /// The instruction's place in the code, from 0.
     pub instruction: u32,
@@ -18,7 +18,7 @@ pub struct ValueId {
 }
 
 /// A block below another one. It is live where that one is live and the condition, which has 1 bit, has the polarity.
-#[derive(Clone, Copy, Debug)]
+#[derive(Clone, Copy)]
 pub struct Block {
     pub parent: u32,
     pub cond: ValueId,
@@ -27,7 +27,7 @@ pub struct Block {
 }
 
 /// What an instruction does. A width is that of the result, in bits.
-#[derive(Debug, Drop)]
+#[derive(Drop)]
 pub enum InstrKind {
     /// A number of this width.
     Const(Width, u64),
@@ -74,7 +74,7 @@ pub enum InstrKind {
 }
 
 /// An instruction.
-#[derive(Debug, Drop)]
+#[derive(Drop)]
 pub struct Instr {
     /// The block that it stands in: 0 is the root, and each other one has its place in the list of blocks and 1.
     pub block: u32,
@@ -84,14 +84,14 @@ pub struct Instr {
 }
 
 /// A field that the packet leaves with, and its value.
-#[derive(Clone, Copy, Debug)]
+#[derive(Clone, Copy)]
 pub struct FieldValue {
     pub field: Field,
     pub value: ValueId,
 }
 
 /// What becomes of the packet.
-#[derive(Debug, Drop)]
+#[derive(Drop)]
 pub struct Out {
     /// 1 bit: 0 where the packet goes no further.
     pub send: ValueId,
@@ -102,7 +102,7 @@ pub struct Out {
 }
 
 /// A flat program.
-#[derive(Debug, Drop)]
+#[derive(Drop)]
 pub struct Flat {
     /// The state that lasts from packet to packet.
     pub objects: Objects,

@@ -10,7 +10,6 @@ use gal_io::NoMemory;
 use slot_table::SlotTable;
 use std::alloc::Global;
 use std::collections::BinaryHeap;
-use std::fmt::{self, Debug};
 use std::marker::Model;
 
 /// A register for each value that has a span, so that no two values are in one register at one step.
@@ -21,12 +20,6 @@ pub struct RegPlan {
     // The registers of the first values, so that these are found by index.
     first: Vec<Option<u32>>,
     count: u32,
-}
-
-impl Debug for RegPlan {
-    fn fmt<W: fmt::Write>(&self, f: &mut fmt::Formatter<W>) -> fmt::Result {
-        write!(f, "{} registers", self.count)
-    }
 }
 
 impl Model for RegPlan {

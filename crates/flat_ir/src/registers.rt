@@ -7,7 +7,7 @@ use crate::reading::Numbers;
 use gal_bits::Values;
 
 /// The results of an instruction, of which there is at least one.
-#[derive(Clone, Copy, Debug)]
+#[derive(Clone, Copy)]
 pub struct Results {
     pub first: u64,
     pub others: Values,
@@ -52,7 +52,7 @@ fn read(rows: &[Results], value: ValueId) -> u64
 }
 
 /// The numbers that a run has so far, from the results of its instructions.
-#[derive(Clone, Copy, Debug)]
+#[derive(Clone, Copy)]
 pub(crate) struct SoFar<'a> {
     pub rows: &'a [Results],
 }

@@ -5,7 +5,7 @@ ghost use Rattle.flat_ir.specs.Spans.{last_step};
 use gal_io::Items;
 
 /// A value that is written at one step and last read at another. A step reads before it writes.
-#[derive(Clone, Copy, Debug, PartialEq, Eq)]
+#[derive(Clone, Copy, PartialEq, Eq)]
 pub struct Span {
     pub value: u32,
     /// The step that writes it.

@@ -77,7 +77,7 @@ fn has_good_blocks(f: &Flat) -> bool
 }
 
 // The select of which an arm is asked for: its block, its condition and the side's polarity.
-#[derive(Clone, Copy, Debug)]
+#[derive(Clone, Copy)]
 struct Side {
     block: u32,
     cond: ValueId,

@@ -24,7 +24,7 @@ use packet_fields::{Shape, get};
 use state_store::{Put, Store};
 
 /// A packet as it arrived, with the places of its headers.
-#[derive(Clone, Copy, Debug)]
+#[derive(Clone, Copy)]
 pub struct Arrival<'a> {
     pub port: u8,
     pub bytes: &'a [u8],

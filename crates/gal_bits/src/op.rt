@@ -7,7 +7,7 @@ use crate::checksum::adjust;
 use crate::width::Width;
 
 /// An operator on numbers of 1 to 64 bits.
-#[derive(Clone, Copy, Debug, PartialEq, Eq)]
+#[derive(Clone, Copy, PartialEq, Eq)]
 pub enum Op {
     /// The sum, wrapping.
     Add,

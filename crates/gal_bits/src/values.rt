@@ -14,7 +14,7 @@ use std::hash::{Hash, Hasher};
 use std::marker::Model;
 
 /// A list of at most 8 numbers, which lie in the value itself. The order is that of lists, by the first difference.
-#[derive(Clone, Copy, Debug)]
+#[derive(Clone, Copy)]
 pub struct Values {
     places: [u64; 8],
     len: usize,

@@ -6,7 +6,7 @@ use std::marker::Model;
 
 /// A list of at most 8 widths in bits, which lie in the value itself. They are plain numbers, as a text gives them, and
 /// may be none that a `Width` has. The order is that of lists, by the first difference.
-#[derive(Clone, Copy, Debug, PartialEq, Eq, PartialOrd, Ord, Hash)]
+#[derive(Clone, Copy, PartialEq, Eq, PartialOrd, Ord, Hash)]
 pub struct Widths {
     bits: Values,
 }

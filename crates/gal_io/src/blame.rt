@@ -5,7 +5,7 @@ ghost use Rattle.gal_io.specs.Count.{one_more};
 use crate::Bytes;
 
 // How often something went wrong, and the name of the file of the last time. The count stands still at 2^64 - 1.
-#[derive(Debug, Drop)]
+#[derive(Drop)]
 pub struct Blame {
     pub count: u64,
     pub name: Option<Bytes>,

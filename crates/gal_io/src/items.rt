@@ -14,7 +14,7 @@ pub trait CopyIn: Sized {
 
 /// A list that grows at its end. Contracts see its items alone, so that two lists of the same items are equal, wherever
 /// in memory they lie.
-#[derive(Debug, Drop)]
+#[derive(Drop)]
 pub struct Items<T> {
     items: Vec<T>,
 }

@@ -22,7 +22,7 @@ use run_text::{LineKind, LinesError};
 use std::alloc::Global;
 
 /// A limit that a split exceeds.
-#[derive(Debug, Drop)]
+#[derive(Drop)]
 pub struct Excess {
     pub limit: LimitName,
     /// The name of the object, where the limit is for each object.
@@ -32,7 +32,7 @@ pub struct Excess {
 }
 
 /// Why the text of a split isn't taken.
-#[derive(Clone, Copy, Debug, PartialEq, Eq)]
+#[derive(Clone, Copy, PartialEq, Eq)]
 pub enum SplitFault {
     /// The first line with which no split text of the program goes on, counted from 1, or the number of lines and one
     /// more.
@@ -42,7 +42,7 @@ pub enum SplitFault {
 }
 
 /// Why a report isn't true.
-#[derive(Debug, Drop)]
+#[derive(Drop)]
 pub struct Untruth {
     /// The cause, which isn't want of memory.
     pub error: AuditError,
@@ -51,7 +51,7 @@ pub struct Untruth {
 }
 
 /// Why a chain isn't composed.
-#[derive(Debug, Drop)]
+#[derive(Drop)]
 pub struct Uncomposed {
     /// The cause, which isn't want of memory.
     pub error: ComposeError,
@@ -60,7 +60,7 @@ pub struct Uncomposed {
 }
 
 /// Why nothing is answered. A name is that of the file that is to blame.
-#[derive(Debug, Drop)]
+#[derive(Drop)]
 pub enum Refusal<'a> {
     /// The words have no known form.
     Usage,

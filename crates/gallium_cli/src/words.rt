@@ -7,7 +7,7 @@ use gal_io::number_up_to;
 use traffic_generator::Count;
 
 /// Whose split a replay goes by.
-#[derive(Clone, Copy, Debug)]
+#[derive(Clone, Copy)]
 pub enum SplitForm<'a> {
     /// Every instruction is left to the server, and so every packet is sent there.
     ServerAlone,
@@ -18,7 +18,7 @@ pub enum SplitForm<'a> {
 }
 
 /// What a command asks for. Each text is the name of a file, in the order in which the words name them.
-#[derive(Clone, Copy, Debug)]
+#[derive(Clone, Copy)]
 pub enum Form<'a> {
     /// Runs the middlebox of a source on the packets of a trace, one after the other.
     Run(&'a str, &'a str),

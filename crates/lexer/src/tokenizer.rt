@@ -10,7 +10,7 @@ use crate::token::Placed;
 use std::alloc::{AllocFailed, Global};
 
 /// Why a text has no list of tokens.
-#[derive(Clone, Copy, Debug, PartialEq, Eq)]
+#[derive(Clone, Copy, PartialEq, Eq)]
 pub enum TokenError {
     /// No token starts at this offset of the text.
     NoToken(usize),

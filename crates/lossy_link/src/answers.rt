@@ -1,7 +1,7 @@
 //! What the ends of a link answer.
 
 /// What a confirmation was.
-#[derive(Clone, Copy, Debug, PartialEq, Eq)]
+#[derive(Clone, Copy, PartialEq, Eq)]
 pub enum Confirm {
     /// The item wasn't known to be delivered, and is from now on.
     Known,
@@ -12,7 +12,7 @@ pub enum Confirm {
 }
 
 /// What a datagram was, with its number.
-#[derive(Clone, Copy, Debug, PartialEq, Eq)]
+#[derive(Clone, Copy, PartialEq, Eq)]
 pub enum Took {
     /// The item is delivered now. The number is to be confirmed.
     New(u32),

@@ -11,7 +11,7 @@ use std::marker::Model;
 const ALL: usize = 4294967296;
 
 /// Marks of the numbers from 0 on, of which some are set.
-#[derive(Debug, Drop)]
+#[derive(Drop)]
 pub(crate) struct Marks {
     marks: Vec<bool>,
     // 2^32 numbers fall into two halves, each of these into two, and so on. For each first half that ends within the

@@ -12,7 +12,7 @@ const MARKS_EACH: usize = 16;
 
 /// Some numbers. A number has a mark at its place, where the marks up to it are few for how many numbers there are: so
 /// one high number takes no memory for those below it. The other numbers are in an ordered set.
-#[derive(Debug, Drop)]
+#[derive(Drop)]
 pub(crate) struct Numbers {
     marks: Vec<bool>,
     others: BTreeSet<u32>,

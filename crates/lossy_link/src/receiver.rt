@@ -10,14 +10,14 @@ use std::alloc::Global;
 use std::marker::Model;
 
 /// An item that a receiver delivered, with its number.
-#[derive(Debug, Drop)]
+#[derive(Drop)]
 pub struct Delivered {
     pub number: u32,
     pub item: Bytes,
 }
 
 /// What was delivered over a link, in order. On an ordered link each item is delivered only as the next one.
-#[derive(Debug, Drop)]
+#[derive(Drop)]
 pub struct LinkReceiver {
     alloc: Global,
     ordered: bool,

@@ -12,7 +12,7 @@ use std::marker::Model;
 
 /// The items that were given to a link, and which of them are known to be delivered. An item is known by its place among
 /// them, from 0, which is its number.
-#[derive(Debug, Drop)]
+#[derive(Drop)]
 pub struct LinkSender {
     items: Vec<Bytes>,
     // Which numbers aren't known.

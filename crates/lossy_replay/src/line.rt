@@ -10,7 +10,7 @@ use std::alloc::Global;
 
 /// The two ends of a link, and what was sent on it. Of a datagram and of a confirmation its number alone is kept: the
 /// bytes are made when it arrives.
-#[derive(Debug, Drop)]
+#[derive(Drop)]
 pub struct Line {
     pub sender: LinkSender,
     pub receiver: LinkReceiver,

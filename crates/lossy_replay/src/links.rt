@@ -33,7 +33,7 @@ use std::collections::VecDeque;
 use switch_ir::SwitchPort;
 
 /// The links between the switch and the server.
-#[derive(Debug, Drop)]
+#[derive(Drop)]
 pub struct Links {
     pub up: Way,
     pub down: Way,

@@ -5,7 +5,7 @@ use run_model::Run;
 
 /// How many items were given to a link, how many datagrams were sent on it, how many items were delivered, and how many
 /// are known to be.
-#[derive(Clone, Copy, Debug, PartialEq, Eq)]
+#[derive(Clone, Copy, PartialEq, Eq)]
 pub struct Tally4 {
     pub items: u32,
     pub sent: u32,
@@ -14,7 +14,7 @@ pub struct Tally4 {
 }
 
 /// The two ends of a link.
-#[derive(Debug, Drop)]
+#[derive(Drop)]
 pub struct Ends {
     pub tally: Tally4,
     pub sender: LinkSender,
@@ -23,7 +23,7 @@ pub struct Ends {
 
 /// What is reported of a replay over links, and the links behind it: those of frames up and down, of commands, and of
 /// their acknowledgements.
-#[derive(Debug, Drop)]
+#[derive(Drop)]
 pub struct LossyRun {
     pub run: Run,
     pub up: Ends,

@@ -10,7 +10,7 @@ use gal_io::{Bytes, NoMemory};
 use std::alloc::Global;
 
 /// A link of frames that are taken one by one where they come out.
-#[derive(Debug, Drop)]
+#[derive(Drop)]
 pub struct Way {
     pub line: Line,
     /// The numbers of the frames that weren't taken, in the order in which they were given.

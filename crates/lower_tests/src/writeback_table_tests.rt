@@ -76,8 +76,7 @@ fn has_no_room(pair: &mut Pair, command: &Command) -> bool {
 
 // A map of one row.
 fn map_of_one(alloc: Global, writeback: u32) -> Result<Pair, NoMemory> {
-    let declared = of_bytes(alloc, Kind::Map, 1, 1)?;
-    Pair::new(alloc, &declared, writeback)
+    Pair::new(alloc, &of_bytes(alloc, Kind::Map, 1, 1)?, writeback)
 }
 
 // A map of one row, which is 1 -> 9.
@@ -202,23 +201,42 @@ fn two_commands_disturb_passes(rt: HostRuntime) {
     assert!(rt; disturbs(&clear(&[1]), false, false));
 }
 
+// A vector of two rows.
+fn vector_of_two(alloc: Global) -> Result<Pair, NoMemory> {
+    Pair::new(alloc, &of_bytes(alloc, Kind::Vector, 1, 2)?, 1)
+}
+
+const ZEROS: Wanted = &[(&[0], &[0]), (&[1], &[0])];
+
+const LAST_OF_5: Wanted = &[(&[0], &[0]), (&[1], &[5])];
+
+// A vector has no row beyond its length, and what is staged of it is seen where the bit is set.
+fn is_vector_staged(alloc: Global, vector: &mut Pair) -> Result<bool, NoMemory> {
+    let no_room = has_no_room(vector, &Command::Main(put(&[2], 5)));
+    let done = is_done(vector, &Command::Stage(put(&[1], 5)));
+    let main = sees(alloc, vector, false, ZEROS)?;
+    Ok(no_room && done && main && sees(alloc, vector, true, LAST_OF_5)?)
+}
+
 fn is_vector_kept(alloc: Global) -> Result<bool, NoMemory> {
-    let declared = of_bytes(alloc, Kind::Vector, 1, 2)?;
-    let mut vector = Pair::new(alloc, &declared, 1)?;
-    let no_room = has_no_room(&mut vector, &Command::Main(put(&[2], 5)));
-    let done = is_done(&mut vector, &Command::Stage(put(&[1], 5)));
-    let staged = sees(alloc, &vector, true, &[(&[0], &[0]), (&[1], &[5])])?;
-    let main = sees(alloc, &vector, false, &[(&[0], &[0]), (&[1], &[0])])?;
-    Ok(no_room && done && staged && main)
+    let mut vector = vector_of_two(alloc)?;
+    is_vector_staged(alloc, &mut vector)
 }
 
 // A number has the empty key, and a write-back table may have room for no row.
+fn number(alloc: Global) -> Result<Pair, NoMemory> {
+    Pair::new(alloc, &of_bytes(alloc, Kind::Int, 0, 1)?, 0)
+}
+
+fn is_number_put(alloc: Global, number: &mut Pair) -> Result<bool, NoMemory> {
+    let no_room = has_no_room(number, &Command::Stage(put(&[], 5)));
+    let done = is_done(number, &Command::Main(put(&[], 6)));
+    Ok(no_room && done && sees(alloc, number, true, &[(&[], &[6])])?)
+}
+
 fn is_number_kept(alloc: Global) -> Result<bool, NoMemory> {
-    let declared = of_bytes(alloc, Kind::Int, 0, 1)?;
-    let mut number = Pair::new(alloc, &declared, 0)?;
-    let no_room = has_no_room(&mut number, &Command::Stage(put(&[], 5)));
-    let done = is_done(&mut number, &Command::Main(put(&[], 6)));
-    Ok(no_room && done && sees(alloc, &number, true, &[(&[], &[6])])?)
+    let mut number = number(alloc)?;
+    is_number_put(alloc, &mut number)
 }
 
 #[test]

@@ -12,7 +12,7 @@ use writeback_table::Update;
 
 /// All changes in order, and the spans of their batches: first those of which a command was sent, and from `next` on
 /// those that wait. What lies between was taken up.
-#[derive(Debug, Drop)]
+#[derive(Drop)]
 pub struct Batches {
     pub updates: Vec<Update>,
     pub spans: Vec<Span>,
@@ -23,7 +23,7 @@ pub struct Batches {
 }
 
 /// The batches that one takes up: the span of all of them, and how many spans these are.
-#[derive(Clone, Copy, Debug)]
+#[derive(Clone, Copy)]
 pub struct Taken {
     pub span: Span,
     pub count: usize,

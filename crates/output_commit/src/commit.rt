@@ -18,7 +18,7 @@ use writeback_table::{Command, Updates};
 /// The outputs that wait, and all batches of changes, with how many of their commands were sent, applied and
 /// acknowledged. Lookups on the switch see the changes of a batch, which may be several versions, once its command that
 /// sets the bit is applied. A command is found by its place in its batch: none is stored.
-#[derive(Debug, Drop)]
+#[derive(Drop)]
 pub struct Commit {
     writeback: u32,
     batches: Batches,

@@ -3,7 +3,7 @@ use gal_io::Bytes;
 
 /// An output of the server: the number of its packet, the version that lookups on the switch must be known to see
 /// before it may go, and the frame that goes then.
-#[derive(Debug, Drop)]
+#[derive(Drop)]
 pub struct Output {
     pub number: u32,
     pub need: u32,
@@ -11,7 +11,7 @@ pub struct Output {
 }
 
 /// What is answered where an output is to go.
-#[derive(Debug, Drop)]
+#[derive(Drop)]
 pub enum Release {
     /// The number and the frame of the output, which goes and waits no longer.
     Frame { number: u32, frame: Bytes },

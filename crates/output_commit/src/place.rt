@@ -6,7 +6,7 @@ use crate::span::Span;
 
 /// A place between commands: so many of a batch stand before it, and all those of the batches before this one. Behind
 /// the last command of a batch it stays in that batch.
-#[derive(Clone, Copy, Debug)]
+#[derive(Clone, Copy)]
 pub struct Place {
     pub batch: usize,
     pub step: u32,

@@ -6,7 +6,7 @@ ghost use Rattle.output_commit.specs.Spans.{batch_in, has_bit, joined, span_len}
 use writeback_table::{Command, Update};
 
 /// A batch: the place of its first change among all changes, how many it has, and how many versions these are.
-#[derive(Clone, Copy, Debug)]
+#[derive(Clone, Copy)]
 pub struct Span {
     pub first: usize,
     pub changes: u32,

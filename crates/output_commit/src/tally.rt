@@ -10,7 +10,7 @@ use std::alloc::Global;
 use writeback_table::Update;
 
 /// How many changes there are of each object, by its number.
-#[derive(Debug, Drop)]
+#[derive(Drop)]
 pub struct Tally {
     pub counts: Vec<u32>,
 }

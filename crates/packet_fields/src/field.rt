@@ -6,7 +6,7 @@ ghost use Rattle.packet_fields.specs.Table.{field_index, field_count, row, all_f
 use gal_bits::Width;
 
 /// A header of a packet.
-#[derive(Clone, Copy, Debug, PartialEq, Eq)]
+#[derive(Clone, Copy, PartialEq, Eq)]
 pub enum Header {
     /// No header: what is known of the packet besides its bytes.
     Meta,
@@ -23,7 +23,7 @@ pub enum Header {
 }
 
 /// A field of a packet. The variants stand in field order.
-#[derive(Clone, Copy, Debug, PartialEq, Eq)]
+#[derive(Clone, Copy, PartialEq, Eq)]
 pub enum Field {
     /// The port by which the packet arrived.
     MetaPort,

@@ -18,7 +18,7 @@ pub fn is_short(bytes: &[u8]) -> bool
 }
 
 /// A packet: the port by which it arrives, and its bytes.
-#[derive(Debug, Drop)]
+#[derive(Drop)]
 pub struct Packet {
     pub port: u8,
     pub bytes: Bytes,
@@ -52,7 +52,7 @@ fn may_arrive(packet: &Packet)
 }
 
 /// A list of packets, in order of arrival.
-#[derive(Debug, Drop)]
+#[derive(Drop)]
 pub struct Packets {
     items: Vec<Packet>,
 }

@@ -23,7 +23,7 @@ const TCP: u64 = 6;
 const UDP: u64 = 17;
 
 /// The headers that a packet has: for each the byte of the packet at which it starts, if it is there.
-#[derive(Clone, Copy, Debug, PartialEq, Eq)]
+#[derive(Clone, Copy, PartialEq, Eq)]
 pub struct Shape {
     pub ethernet: Option<usize>,
     pub vlan: Option<usize>,

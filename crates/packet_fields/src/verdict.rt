@@ -3,7 +3,7 @@
 use gal_io::Bytes;
 
 /// What a middlebox does with a packet.
-#[derive(Debug, Drop)]
+#[derive(Drop)]
 pub enum Verdict {
     /// The packet goes no further.
     Drop,

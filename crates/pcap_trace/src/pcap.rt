@@ -2,7 +2,7 @@
 use crate::records::Records;
 
 /// A capture: what its header tells, and its records. Its link type is Ethernet's, and its version 2.4.
-#[derive(Debug, Drop)]
+#[derive(Drop)]
 pub struct Pcap {
     /// Whether its numbers stand in the file with the highest byte first, else with the lowest first.
     pub big: bool,

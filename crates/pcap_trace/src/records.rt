@@ -13,7 +13,7 @@ use std::marker::Model;
 pub const MAX_RECORDS: usize = 16_384;
 
 /// A captured packet.
-#[derive(Debug, Drop)]
+#[derive(Drop)]
 pub struct Record {
     /// When it was captured, in whole seconds since 1970.
     pub seconds: u32,
@@ -26,7 +26,7 @@ pub struct Record {
 }
 
 /// The records of a capture, in their order: at most 16,384.
-#[derive(Debug, Drop)]
+#[derive(Drop)]
 pub struct Records {
     items: Vec<Record>,
 }

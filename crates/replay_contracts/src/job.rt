@@ -9,7 +9,7 @@ use std::alloc::{AllocError, AllocFailed};
 use switch_ir::PortError;
 
 /// A split program, the packets of a trace, and a schedule.
-#[derive(Debug, Drop)]
+#[derive(Drop)]
 pub struct Job {
     pub flat: Flat,
     pub split: Split,
@@ -24,7 +24,7 @@ pub struct Job {
 }
 
 /// What came of a replay.
-#[derive(Debug, Drop)]
+#[derive(Drop)]
 pub struct Replayed {
     pub run: Run,
     /// How many commands there were for the switch, sent or not.
@@ -40,7 +40,7 @@ pub enum ReplayError {
 }
 
 /// Whether an event did anything.
-#[derive(Clone, Copy, Debug, PartialEq, Eq)]
+#[derive(Clone, Copy, PartialEq, Eq)]
 pub enum Stepped {
     Did,
     /// The event couldn't apply: it was counted, and nothing else changed.

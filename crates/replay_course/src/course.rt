@@ -37,7 +37,7 @@ use writeback_table::Command;
 
 /// The passes under way, the server, the frames on their way, the held outputs with the commands, and how far each
 /// packet has come.
-#[derive(Debug, Drop)]
+#[derive(Drop)]
 pub struct Course {
     /// How many stages a pass has left where it enters before the server, and behind it.
     pub pre_stages: u32,

@@ -11,7 +11,7 @@ use std::marker::Model;
 use writeback_table::Command;
 
 /// The passes under way on the switch, in the order in which they entered.
-#[derive(Debug, Drop)]
+#[derive(Drop)]
 pub struct PassQueue {
     passes: VecDeque<Pass>,
     // How many of them entered while the bit was set.

@@ -1,7 +1,7 @@
 //! Passes that are under way.
 
 /// A pass that is under way on the switch.
-#[derive(Clone, Copy, Debug)]
+#[derive(Clone, Copy)]
 pub struct Pass {
     /// Whether it comes before the server, and not behind it.
     pub pre: bool,

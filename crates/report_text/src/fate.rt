@@ -11,7 +11,7 @@ use run_text::read_body;
 use std::alloc::Global;
 
 /// The events that admitted and decided a packet, and the version that it was decided at.
-#[derive(Clone, Copy, Debug)]
+#[derive(Clone, Copy)]
 pub(crate) struct Stamps {
     pub(crate) admitted: u32,
     pub(crate) decided: u32,

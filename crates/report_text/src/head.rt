@@ -5,7 +5,7 @@ ghost use Rattle.report_text.specs.Parse.{counts_of, events_of, versions_of};
 use crate::piece::{labelled, whole};
 
 /// The second line: packets of the trace, and how many were admitted, decided and released.
-#[derive(Clone, Copy, Debug)]
+#[derive(Clone, Copy)]
 pub(crate) struct PacketCounts {
     pub(crate) total: u32,
     pub(crate) admitted: u32,
@@ -14,14 +14,14 @@ pub(crate) struct PacketCounts {
 }
 
 /// The third line: how many events happened, and how many of them were idle.
-#[derive(Clone, Copy, Debug)]
+#[derive(Clone, Copy)]
 pub(crate) struct EventCounts {
     pub(crate) events: u32,
     pub(crate) idle: u32,
 }
 
 /// The fourth line: the version of the server, and the one that the switch shows.
-#[derive(Clone, Copy, Debug)]
+#[derive(Clone, Copy)]
 pub(crate) struct Versions {
     pub(crate) version: u32,
     pub(crate) visible: u32,

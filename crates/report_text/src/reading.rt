@@ -24,7 +24,7 @@ use std::marker::Model;
 use std::mem;
 
 /// What the lines so far have told, and which line is awaited.
-#[derive(Debug, Drop)]
+#[derive(Drop)]
 pub(crate) struct Reading {
     counts: PacketCounts,
     events: EventCounts,

@@ -1,14 +1,14 @@
 //! What line of a report is awaited.
 
 /// Where a part tells of.
-#[derive(Clone, Copy, Debug, PartialEq, Eq)]
+#[derive(Clone, Copy, PartialEq, Eq)]
 pub(crate) enum Side {
     OnServer,
     OnSwitch,
 }
 
 /// The next line.
-#[derive(Clone, Copy, Debug)]
+#[derive(Clone, Copy)]
 pub(crate) enum Stage {
     /// `report 1`.
     Title,

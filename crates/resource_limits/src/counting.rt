@@ -19,7 +19,7 @@ use state_store::{Kind, ObjectDecl};
 use std::alloc::Global;
 
 /// What a split takes of the switch.
-#[derive(Debug, Drop)]
+#[derive(Drop)]
 pub struct Counts {
     /// For each object, the instructions of either pass that look it up. One that stands in both passes counts twice.
     pub accesses: Tally,

@@ -54,7 +54,7 @@ impl Key {
 }
 
 /// What a split may use. Each number is in the range of its key.
-#[derive(Clone, Copy, Debug, PartialEq, Eq)]
+#[derive(Clone, Copy, PartialEq, Eq)]
 pub struct Limits {
     /// Bits of all tables on the switch.
     pub table_bits: u64,

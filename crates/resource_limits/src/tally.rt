@@ -7,7 +7,7 @@ use std::alloc::Global;
 use std::marker::Model;
 
 /// A number for each object, in order of declaration.
-#[derive(Debug, Drop)]
+#[derive(Drop)]
 pub struct Tally {
     items: Vec<u32>,
 }

@@ -2,7 +2,7 @@
 use gal_io::Items;
 
 /// One action of one actor. An item is named by its place in a list, counted from 0.
-#[derive(Clone, Copy, Debug, PartialEq, Eq)]
+#[derive(Clone, Copy, PartialEq, Eq)]
 pub enum Event {
     /// The switch takes the next packet of the trace.
     Admit,

@@ -7,7 +7,7 @@ use packet_fields::Verdict;
 /// How far an admitted packet has come. `admitted`, `decided` and `released` are the numbers of events, counted from 1.
 /// `version` counts the turns of the server that changed objects which the switch looks up: for a packet that the server
 /// ran those up to its own, and for one that the switch finished those whose changes its lookups saw.
-#[derive(Debug, Drop)]
+#[derive(Drop)]
 pub enum Fate {
     /// The preprocessing is under way.
     Pass {

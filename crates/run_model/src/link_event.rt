@@ -3,7 +3,7 @@ use crate::event::Event;
 use gal_io::Items;
 
 /// A link between the switch and the server.
-#[derive(Clone, Copy, Debug, PartialEq, Eq)]
+#[derive(Clone, Copy, PartialEq, Eq)]
 pub enum Link {
     /// Frames to the server, in any order.
     Up,
@@ -16,7 +16,7 @@ pub enum Link {
 }
 
 /// One action of an actor, or of a link. What is named by a place is counted from 0.
-#[derive(Clone, Copy, Debug, PartialEq, Eq)]
+#[derive(Clone, Copy, PartialEq, Eq)]
 pub enum LinkEvent {
     /// The switch or the server acts.
     World(Event),

@@ -11,7 +11,7 @@ use std::alloc::Global;
 pub type Order = Items<u32>;
 
 /// The rows of one object, which is known by its place among the declared ones, from 0.
-#[derive(Debug, Drop)]
+#[derive(Drop)]
 pub struct ObjectRows {
     pub object: u32,
     pub rows: Rows,
@@ -41,7 +41,7 @@ pub fn store_rows(
 }
 
 /// A run as it is told.
-#[derive(Debug, Drop)]
+#[derive(Drop)]
 pub struct Run {
     /// The number of packets of the trace.
     pub total: u32,

@@ -9,7 +9,7 @@ use std::alloc::Global;
 
 /// Where a decided packet stands in the serial order: the version and the event that decided it, and its number. One
 /// stands before another by the first of these in which they differ.
-#[derive(Clone, Copy, Debug, PartialEq, Eq, PartialOrd, Ord)]
+#[derive(Clone, Copy, PartialEq, Eq, PartialOrd, Ord)]
 pub struct Decided {
     pub version: u32,
     pub event: u32,

@@ -11,7 +11,7 @@ use hex::FromHexError;
 use std::alloc::Global;
 
 /// What a body spells.
-#[derive(Debug, Drop)]
+#[derive(Drop)]
 pub struct Body {
     pub bytes: Bytes,
     /// Whether the bytes are printed as this body: its digits are lower-case.

@@ -24,7 +24,7 @@ use std::marker::Model;
 use transfer_header::{ReadyStep, Regs};
 
 /// A step that a run takes at an instruction, with the places of its operands and results among the registers.
-#[derive(Debug, Drop)]
+#[derive(Drop)]
 pub(crate) struct PlannedStep {
     /// The instruction's place in the code.
     pub instruction: u32,
@@ -32,7 +32,7 @@ pub(crate) struct PlannedStep {
 }
 
 /// A split program, and what is looked up in it at each packet.
-#[derive(Debug, Drop)]
+#[derive(Drop)]
 pub(crate) struct PreparedProgram {
     pub flat: Flat,
     pub split: Split,
@@ -56,7 +56,7 @@ pub(crate) struct PreparedProgram {
 }
 
 /// A legally split program, and the registers in which it is run. Contracts see the program and the split.
-#[derive(Debug, Drop)]
+#[derive(Drop)]
 pub(crate) struct ServerPlan {
     pub whole: PreparedProgram,
     pub values: Regs,

@@ -4,7 +4,7 @@ use transfer_header::Malformed;
 use writeback_table::Updates;
 
 /// What the server made of a packet.
-#[derive(Debug, Drop)]
+#[derive(Drop)]
 pub struct Served {
     /// The packet's number, as its frame had it.
     pub number: u32,
@@ -18,7 +18,7 @@ pub struct Served {
 }
 
 /// Why a frame came to nothing. The server is as it was before.
-#[derive(Clone, Copy, Debug, PartialEq, Eq)]
+#[derive(Clone, Copy, PartialEq, Eq)]
 pub enum ServeError {
     /// The bytes are no frame that goes up, by the layout of the split.
     Malformed,

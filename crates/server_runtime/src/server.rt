@@ -20,7 +20,7 @@ use std::alloc::Global;
 use writeback_table::Updates;
 
 /// The server's part of a split program at work, with the store that it keeps.
-#[derive(Debug, Drop)]
+#[derive(Drop)]
 pub struct Server {
     alloc: Global,
     plan: ServerPlan,

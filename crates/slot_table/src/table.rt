@@ -12,7 +12,7 @@ use std::alloc::Global;
 use std::marker::Model;
 
 /// What an insert did.
-#[derive(Clone, Copy, Debug, PartialEq, Eq)]
+#[derive(Clone, Copy, PartialEq, Eq)]
 pub enum Slot {
     /// The row is stored.
     Stored,

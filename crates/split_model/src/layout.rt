@@ -8,7 +8,7 @@ use gal_io::{CopyIn, Items, NoMemory};
 use std::alloc::Global;
 
 /// A value that crosses between switch and server.
-#[derive(Clone, Copy, Debug, PartialEq, Eq)]
+#[derive(Clone, Copy, PartialEq, Eq)]
 pub struct Crossing {
     pub value: ValueId,
     /// The value's place among all values of the flat program, in order of instruction and result, from 0.

@@ -202,7 +202,7 @@ impl Crossings {
 
 /// The values that preprocessing hands up to the server, and those that the server hands down to postprocessing, values
 /// that it was handed up among them.
-#[derive(Debug, Drop)]
+#[derive(Drop)]
 pub struct Layouts {
     pub up: Layout,
     pub down: Layout,

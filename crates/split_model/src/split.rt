@@ -9,7 +9,7 @@ use std::alloc::Global;
 use std::marker::Model;
 
 /// Who gives an instruction's results for a packet that visits the server.
-#[derive(Clone, Copy, Debug, PartialEq, Eq)]
+#[derive(Clone, Copy, PartialEq, Eq)]
 pub enum Slow {
     /// Preprocessing, which hands them up.
     Carried,
@@ -57,7 +57,7 @@ pub fn stage_or_zero(stage: Option<u32>) -> u32
 }
 
 /// What a split says of an instruction.
-#[derive(Clone, Copy, Debug, PartialEq, Eq)]
+#[derive(Clone, Copy, PartialEq, Eq)]
 pub struct Part {
     /// The stage in preprocessing, where it is computed there.
     pub pre: Option<u32>,
@@ -65,7 +65,7 @@ pub struct Part {
 }
 
 /// A part for each instruction, in order.
-#[derive(Debug, Drop)]
+#[derive(Drop)]
 pub struct Split {
     items: Vec<Part>,
 }

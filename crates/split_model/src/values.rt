@@ -17,7 +17,7 @@ pub fn is_value(one: ValueId, other: ValueId) -> bool
 }
 
 /// A set of values, by a mark for each of the first 9 results of each instruction. No instruction has more.
-#[derive(Debug, Drop)]
+#[derive(Drop)]
 pub struct ValueSet {
     marks: Vec<bool>,
 }

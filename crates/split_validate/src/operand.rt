@@ -9,7 +9,7 @@ use flat_ir::InstrKind;
 use split_model::Split;
 
 /// A pass over the switch.
-#[derive(Clone, Copy, Debug)]
+#[derive(Clone, Copy)]
 pub(crate) enum Pass {
     Before,
     After,
@@ -28,7 +28,7 @@ impl Pass {
 }
 
 /// What a rule forbids of an operand.
-#[derive(Clone, Copy, Debug)]
+#[derive(Clone, Copy)]
 pub(crate) enum Flaw {
     /// Preprocessing doesn't compute it.
     NotBefore,

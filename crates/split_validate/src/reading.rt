@@ -34,7 +34,7 @@ impl From<NoMemory> for SplitTextError {
 }
 
 // Which lines were read.
-#[derive(Clone, Copy, Debug)]
+#[derive(Clone, Copy)]
 enum Progress {
     Nothing,
     // the first line, and the lines of the parts so far
@@ -43,7 +43,7 @@ enum Progress {
 }
 
 // What the lines so far have told.
-#[derive(Debug, Drop)]
+#[derive(Drop)]
 struct Reading {
     progress: Progress,
     parts: Vec<Part>,

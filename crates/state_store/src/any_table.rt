@@ -11,7 +11,6 @@ use crate::packing::{number, words};
 use gal_io::NoMemory;
 use slot_table::{Slot, SlotTable};
 use std::alloc::Global;
-use std::fmt::{self, Debug};
 
 /// A table of one of the four sizes: the words of a key, and then those of a value.
 #[derive(Drop)]
@@ -20,12 +19,6 @@ pub enum AnyTable {
     OneTwo(SlotTable<1, 2>),
     TwoOne(SlotTable<2, 1>),
     TwoTwo(SlotTable<2, 2>),
-}
-
-impl Debug for AnyTable {
-    fn fmt<W: fmt::Write>(&self, f: &mut fmt::Formatter<W>) -> fmt::Result {
-        write!(f, "{} rows", len(self))
-    }
 }
 
 macro_rules! at_each {

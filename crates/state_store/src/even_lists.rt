@@ -7,7 +7,7 @@ use std::alloc::Global;
 use std::marker::Model;
 
 /// Lists of numbers that all have one length. They lie one behind the other, with nothing between them.
-#[derive(Debug, Drop)]
+#[derive(Drop)]
 pub struct EvenLists {
     width: usize,
     count: usize,

@@ -14,13 +14,13 @@ use std::alloc::Global;
 use std::marker::Model;
 
 /// Rows whose keys and values have declared widths. Those of a vector lie by place, others in a slot table.
-#[derive(Debug, Drop)]
+#[derive(Drop)]
 pub struct FittedRows {
     rows: Form,
 }
 
 /// How rows lie in memory.
-#[derive(Debug, Drop)]
+#[derive(Drop)]
 enum Form {
     Placed(PlacedRows),
     Packed(PackedRows),

@@ -19,7 +19,7 @@ use std::marker::Model;
 /// Rows, and how many there may be. Those of a vector lie by place, others in a slot table. Where the declared widths have
 /// no room there, from the first row on that hasn't these widths, and once a vector's row goes, they lie in the order of
 /// their keys instead, for which memory is kept.
-#[derive(Debug, Drop)]
+#[derive(Drop)]
 pub struct KeptRows {
     size: usize,
     packed: Option<FittedRows>,

@@ -8,13 +8,13 @@ use std::marker::Model;
 
 /// The rows of an object as they were when it was listed, in rising order of their keys. A row of a map or of a table
 /// takes 32 bytes, where its keys and its values have at most 128 bits each.
-#[derive(Debug, Drop)]
+#[derive(Drop)]
 pub struct Listing {
     rows: Listed,
 }
 
 /// Rows that are packed, or plain ones.
-#[derive(Debug, Drop)]
+#[derive(Drop)]
 enum Listed {
     Packed(PackedList),
     Plain(Rows),

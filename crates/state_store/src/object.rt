@@ -8,7 +8,7 @@ use gal_io::{Bytes, CopyIn, Items, NoMemory};
 use std::alloc::Global;
 
 /// What kind of object it is.
-#[derive(Clone, Copy, Debug, PartialEq, Eq)]
+#[derive(Clone, Copy, PartialEq, Eq)]
 pub enum Kind {
     /// Rows that are declared and never change.
     Table,
@@ -33,14 +33,14 @@ impl Kind {
 }
 
 /// A row: the numbers of its key, and those of its value.
-#[derive(Clone, Copy, Debug)]
+#[derive(Clone, Copy)]
 pub struct Row {
     pub keys: Values,
     pub values: Values,
 }
 
 /// A declared object.
-#[derive(Debug, Drop)]
+#[derive(Drop)]
 pub struct ObjectDecl {
     pub name: Bytes,
     pub kind: Kind,

@@ -12,7 +12,7 @@ use std::alloc::Global;
 use std::marker::Model;
 
 /// Rows whose keys and values have declared widths. A row takes 32 bytes.
-#[derive(Debug, Drop)]
+#[derive(Drop)]
 pub struct PackedList {
     keys: Widths,
     values: Widths,

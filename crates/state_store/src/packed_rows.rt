@@ -18,7 +18,7 @@ use std::alloc::Global;
 use std::marker::Model;
 
 /// What a put did.
-#[derive(Clone, Copy, Debug, PartialEq, Eq)]
+#[derive(Clone, Copy, PartialEq, Eq)]
 pub enum Kept {
     /// The row is stored.
     Stored,
@@ -29,7 +29,7 @@ pub enum Kept {
 }
 
 /// Rows whose keys and values have declared widths, each list in one word or two.
-#[derive(Debug, Drop)]
+#[derive(Drop)]
 pub struct PackedRows {
     keys: Widths,
     values: Widths,

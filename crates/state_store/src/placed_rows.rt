@@ -18,7 +18,7 @@ use std::marker::Model;
 
 /// A row for each number below a length, which is its key. The values of a row lie at its place, so no key is stored and
 /// none is looked for. All rows are there from the start, and no row goes.
-#[derive(Debug, Drop)]
+#[derive(Drop)]
 pub struct PlacedRows {
     keys: Widths,
     values: Widths,

@@ -14,14 +14,14 @@ use std::marker::Model;
 
 /// A list of rows. Where all have as many numbers in their keys, and in their values, it takes 8 bytes for each number and
 /// nothing else.
-#[derive(Debug, Drop)]
+#[derive(Drop)]
 pub struct Rows {
     alloc: Global,
     form: Form,
 }
 
 /// How rows lie in memory.
-#[derive(Debug, Drop)]
+#[derive(Drop)]
 enum Form {
     // The numbers of a row's key and then those of its values, as many for each row.
     Even {

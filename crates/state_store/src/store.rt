@@ -14,7 +14,7 @@ use std::alloc::Global;
 use std::marker::Model;
 
 /// What a put did.
-#[derive(Clone, Copy, Debug, PartialEq, Eq)]
+#[derive(Clone, Copy, PartialEq, Eq)]
 pub enum Put {
     /// The row is stored.
     Stored,
@@ -25,7 +25,7 @@ pub enum Put {
 }
 
 /// What a look found: the values, zeros where there are none.
-#[derive(Clone, Copy, Debug)]
+#[derive(Clone, Copy)]
 pub struct Found {
     pub found: bool,
     pub values: Values,
@@ -33,7 +33,7 @@ pub struct Found {
 
 /// The state of a middlebox. Objects are known by their numbers, from 0; a number of no object is an object without
 /// rows, and with room for none.
-#[derive(Debug, Drop)]
+#[derive(Drop)]
 pub struct Store {
     objects: Vec<StoredObject>,
 }

@@ -16,7 +16,7 @@ use std::alloc::Global;
 use std::marker::Model;
 
 /// An object at work, with memory that is enough for its size.
-#[derive(Debug, Drop)]
+#[derive(Drop)]
 pub struct StoredObject {
     kind: Kind,
     size: u32,

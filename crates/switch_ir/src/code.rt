@@ -12,7 +12,7 @@ use state_store::ObjectDecl;
 use std::alloc::Global;
 
 /// An instruction of a pass.
-#[derive(Debug, Drop)]
+#[derive(Drop)]
 pub struct PassStep {
     /// The place in the code of the flat program, from 0.
     pub instruction: u32,
@@ -52,7 +52,7 @@ fn copy_steps(alloc: Global, steps: &[PassStep]) -> Result<Steps, NoMemory>
 }
 
 /// A pass over a packet, before the server or after it.
-#[derive(Debug, Drop)]
+#[derive(Drop)]
 pub struct Pass {
     pub steps: Steps,
     /// The consts and fields that postprocessing reads and has from the code and the packet. Preprocessing has none.
@@ -88,7 +88,7 @@ impl Pass {
 }
 
 /// An object that a pass looks up.
-#[derive(Debug, Drop)]
+#[derive(Drop)]
 pub struct Table {
     /// The object's place among the declared ones, from 0.
     pub number: u32,
@@ -111,7 +111,7 @@ pub type Tables = Items<Table>;
 
 /// The code of a switch: the pass over a packet that arrives, the pass over one that comes down from the server, and
 /// what is handed between them.
-#[derive(Debug, Drop)]
+#[derive(Drop)]
 pub struct SwitchCode {
     pub pre: Pass,
     pub post: Pass,

@@ -54,7 +54,7 @@ pub fn emit(alloc: Global, f: &Flat, s: &Split, writeback: u32) -> Result<Switch
 }
 
 /// For how long the values of the two passes of a switch are needed.
-#[derive(Debug, Drop)]
+#[derive(Drop)]
 pub struct PassSpans {
     /// Of the pass over a packet that arrives.
     pub pre: Spans,

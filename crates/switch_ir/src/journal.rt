@@ -16,7 +16,7 @@ use writeback_table::{Command, To, Update};
 
 /// A call with what it was given and how it ended. A call that ended for want of memory has no entry; of those that
 /// failed, only packets, frames, stages and commands have one.
-#[derive(Debug, Drop)]
+#[derive(Drop)]
 pub enum Entry {
     Load,
     /// Room was asked for this many commands.
@@ -57,7 +57,7 @@ pub enum Entry {
 }
 
 /// A call by references to what its entry holds, in the order of the entry.
-#[derive(Clone, Copy, Debug)]
+#[derive(Clone, Copy)]
 pub enum Call<'a> {
     Load,
     Room(usize),
@@ -153,7 +153,7 @@ impl<'a> Call<'a> {
 }
 
 // What is kept of a call beside its numbers and its bytes.
-#[derive(Clone, Copy, Debug)]
+#[derive(Clone, Copy)]
 struct Mark {
     call: Outline,
     // How many bytes it has.
@@ -164,7 +164,7 @@ struct Mark {
 const _: () = prove!(size_of::<Mark>() <= 24);
 
 // A call without its numbers and its bytes. Of a packet or a frame that it was given it has the length.
-#[derive(Clone, Copy, Debug)]
+#[derive(Clone, Copy)]
 enum Outline {
     Load,
     Room(usize),
@@ -180,7 +180,7 @@ enum Outline {
 }
 
 // How a pass ends, without bytes. Only a packet that arrives goes up.
-#[derive(Clone, Copy, Debug)]
+#[derive(Clone, Copy)]
 enum End {
     Drop,
     Send(u8),
@@ -191,7 +191,7 @@ enum End {
 }
 
 // A command without its object and its numbers. What is staged, or changed, leaves values or no row.
-#[derive(Clone, Copy, Debug)]
+#[derive(Clone, Copy)]
 enum Form {
     Stage,
     StageGone,
@@ -476,7 +476,7 @@ fn put_bytes(bytes: &mut Vec<u8>, given: &[u8], answer: &[u8]) -> Result<usize, 
 
 /// The calls since the code was loaded, in order, with memory for some more. A call takes the memory of a mark, and of
 /// its numbers and its bytes.
-#[derive(Debug, Drop)]
+#[derive(Drop)]
 pub struct Journal {
     // A mark for each call, in order.
     marks: Vec<Mark>,

@@ -11,7 +11,7 @@ use std::marker::Model;
 
 /// The step that reads a value last, for each of the first 9 results of each instruction, and 0 where none does. No
 /// instruction has more results.
-#[derive(Debug, Drop)]
+#[derive(Drop)]
 pub(crate) struct LastReads {
     steps: Vec<u32>,
 }

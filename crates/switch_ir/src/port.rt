@@ -16,7 +16,7 @@ use std::alloc::Global;
 use writeback_table::Command;
 
 /// Why a call of a switch has no answer.
-#[derive(Clone, Copy, Debug, PartialEq, Eq)]
+#[derive(Clone, Copy, PartialEq, Eq)]
 pub enum PortError {
     /// The switch failed, and its count of faults rose by one. The code, the tables and the passes are as before.
     Failed,
@@ -35,7 +35,7 @@ impl From<NoMemory> for PortError {
 }
 
 /// How the pass over a packet that arrives ends.
-#[derive(Debug, Drop)]
+#[derive(Drop)]
 pub enum UpEnd {
     /// The switch finished the packet by itself.
     Finished(Verdict),
@@ -46,7 +46,7 @@ pub enum UpEnd {
 }
 
 /// How the pass over a packet that comes down ends.
-#[derive(Debug, Drop)]
+#[derive(Drop)]
 pub enum DownEnd {
     Verdict(Verdict),
     /// The pass has stages left. A pass of one call never ends so.

@@ -18,7 +18,7 @@ use std::collections::BTreeMap;
 use transfer_header::Regs;
 
 /// A pass between two of its stages.
-#[derive(Debug, Drop)]
+#[derive(Drop)]
 pub(crate) struct ActivePass {
     pub port: u8,
     pub packet: Bytes,

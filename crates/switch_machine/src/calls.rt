@@ -20,7 +20,7 @@ pub enum CallKind {
 }
 
 /// How many calls there were of each kind.
-#[derive(Clone, Copy, Debug)]
+#[derive(Clone, Copy)]
 pub(crate) struct Calls {
     pub load: u64,
     pub room: u64,

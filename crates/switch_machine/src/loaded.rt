@@ -17,7 +17,7 @@ use std::alloc::Global;
 use switch_ir::SwitchCode;
 
 /// Code with the passes of both sides.
-#[derive(Debug, Drop)]
+#[derive(Drop)]
 pub(crate) struct Loaded {
     pub code: SwitchCode,
     pub before: LoadedPass,

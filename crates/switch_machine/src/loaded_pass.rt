@@ -21,7 +21,7 @@ use transfer_header::Regs;
 
 /// The pass of a side: its instructions stage by stage, the numbers of their values, where it is computed, and the passes
 /// that are under way.
-#[derive(Debug, Drop)]
+#[derive(Drop)]
 pub(crate) struct LoadedPass {
     pub side: Side,
     pub stages: ReadyStages,

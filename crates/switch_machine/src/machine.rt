@@ -38,7 +38,7 @@ use switch_ir::{Call, DownEnd, Entry, Journal, PortError, SwitchCode, SwitchPort
 use writeback_table::Command;
 
 /// A switch in memory. It tells its tables, and a call fails where that was planned, and in no other case.
-#[derive(Debug, Drop)]
+#[derive(Drop)]
 pub struct ModelSwitch {
     pub(crate) loaded: Option<Loaded>,
     pub(crate) tables: SwitchTables,

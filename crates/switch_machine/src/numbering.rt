@@ -19,7 +19,7 @@ use switch_ir::{Pass, PassStep, Table};
 
 /// Where the values of an instruction stand among all values of the program: the number of the first, and how many
 /// there are.
-#[derive(Clone, Copy, Debug)]
+#[derive(Clone, Copy)]
 pub(crate) struct ValueRange {
     pub first: u32,
     pub count: u32,
@@ -39,7 +39,7 @@ impl ValueRange {
 }
 
 /// For each instruction where its values stand. There are none of an instruction that the pass doesn't know.
-#[derive(Debug, Drop)]
+#[derive(Drop)]
 pub(crate) struct Numbering {
     items: Vec<ValueRange>,
 }

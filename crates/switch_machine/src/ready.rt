@@ -14,7 +14,7 @@ use std::marker::Model;
 use switch_ir::{PassStep, Steps};
 
 /// The places of an instruction's results among the registers.
-#[derive(Debug, Drop)]
+#[derive(Drop)]
 pub(crate) enum Places {
     One(u32),
     Many(Vec<u32>),
@@ -34,14 +34,14 @@ impl Places {
 }
 
 /// An instruction whose operands are named by their places.
-#[derive(Debug, Drop)]
+#[derive(Drop)]
 pub(crate) struct ReadyStep {
     pub kind: InstrKind,
     pub places: Places,
 }
 
 /// The instructions of a stage.
-#[derive(Debug, Drop)]
+#[derive(Drop)]
 pub(crate) struct ReadyStage {
     items: Vec<ReadyStep>,
     // The places of all their results, in order.
@@ -113,7 +113,7 @@ fn targets(alloc: Global, steps: &[ReadyStep]) -> Result<Vec<u32>, NoMemory>
 }
 
 /// The instructions of a pass, stage by stage.
-#[derive(Debug, Drop)]
+#[derive(Drop)]
 pub(crate) struct ReadyStages {
     items: Vec<ReadyStage>,
 }

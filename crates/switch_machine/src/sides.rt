@@ -10,7 +10,7 @@ use gal_io::NoMemory;
 use switch_ir::{Call, DownEnd, Journal, PortError, UpEnd};
 
 /// A side of the server: packets that arrive pass the switch before the server, and those that come down behind it.
-#[derive(Clone, Copy, Debug)]
+#[derive(Clone, Copy)]
 pub(crate) enum Side {
     Before,
     Behind,
@@ -61,7 +61,7 @@ fn up_end(end: Result<DownEnd, PortError>) -> Result<UpEnd, PortError>
 }
 
 /// A call over a packet, but for its end.
-#[derive(Clone, Copy, Debug)]
+#[derive(Clone, Copy)]
 pub(crate) enum Event<'a> {
     /// A packet of this number arrives at this port. Its pass begins, or goes to its end at once where it is whole.
     Up(u32, u8, &'a [u8], bool),

@@ -16,7 +16,7 @@ use writeback_table::{Command, Pair};
 
 /// The main table and the write-back table of each object, by its number, and the bit that says whether lookups see the
 /// write-back tables. An object that no pass looks up has tables without rows, and with room for none.
-#[derive(Debug, Drop)]
+#[derive(Drop)]
 pub(crate) struct SwitchTables {
     pairs: Vec<Pair>,
     bit: bool,

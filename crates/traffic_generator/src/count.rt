@@ -2,7 +2,7 @@
 ghost use Rattle.std.specs.Prelude.{◌≡◌, ◌≤◌, MatchOption};
 
 /// How many packets are made: at least one, and at most as many as a trace may have.
-#[derive(Clone, Copy, Debug)]
+#[derive(Clone, Copy)]
 pub struct Count {
     pub packets: u32,
     pub ghost some: { 1 ≤ packets },

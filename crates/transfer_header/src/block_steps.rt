@@ -10,7 +10,7 @@ use std::alloc::Global;
 use std::marker::Model;
 
 /// A step for each block, the root first: the last one noted there. Contracts see the steps.
-#[derive(Debug, Drop)]
+#[derive(Drop)]
 pub struct BlockSteps {
     steps: Vec<u32>,
 }

@@ -26,7 +26,7 @@ const DOWN: u8 = 2;
 
 /// What a frame says besides its values: the number and the port of arrival of its packet, and the place of the
 /// packet's first byte.
-#[derive(Clone, Copy, Debug, PartialEq, Eq)]
+#[derive(Clone, Copy, PartialEq, Eq)]
 pub struct Head {
     pub number: u32,
     pub port: u8,
@@ -34,7 +34,7 @@ pub struct Head {
 }
 
 /// The bytes are no frame of the layout.
-#[derive(Clone, Copy, Debug, PartialEq, Eq)]
+#[derive(Clone, Copy, PartialEq, Eq)]
 pub struct Malformed;
 
 /// The frame that goes up to the server with a packet: a byte 1, the packet's number in four bytes, the highest first,

@@ -22,14 +22,14 @@ use state_store::Found;
 use std::alloc::Global;
 
 /// The places of an instruction's results among the registers, in order.
-#[derive(Debug, Drop)]
+#[derive(Drop)]
 pub enum Places {
     One(u32),
     Many(Vec<u32>),
 }
 
 /// An operator of up to three numbers, other than a shift and `Select`, with the places of these.
-#[derive(Clone, Copy, Debug)]
+#[derive(Clone, Copy)]
 pub enum PlacedOp {
     Unary(Op, Width, u32),
     Binary(Op, Width, u32, u32),
@@ -37,7 +37,7 @@ pub enum PlacedOp {
 }
 
 /// What an instruction does, where each operand is named by the place of its number.
-#[derive(Debug, Drop)]
+#[derive(Drop)]
 pub enum ReadyKind {
     Operator(PlacedOp),
     /// Any other instruction. The place of an operand is its value's instruction, and the value's result is 0.
@@ -45,7 +45,7 @@ pub enum ReadyKind {
 }
 
 /// An instruction whose operands and results are known by their places.
-#[derive(Debug, Drop)]
+#[derive(Drop)]
 pub struct ReadyStep {
     pub kind: ReadyKind,
     pub places: Places,

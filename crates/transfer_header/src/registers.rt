@@ -10,7 +10,7 @@ use std::marker::Model;
 /// Numbers of a flat program's values. Without a plan there is one for each value, at the value's place among all of
 /// them, in order of instruction and result. With a plan each value that has a register there has the number in it, so
 /// that two values with one register have one number.
-#[derive(Debug, Drop)]
+#[derive(Drop)]
 pub struct Regs {
     plan: Option<RegPlan>,
     items: Vec<u64>,

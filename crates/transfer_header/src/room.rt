@@ -12,7 +12,7 @@ use std::marker::Model;
 pub(crate) const FIXED_BYTES: usize = 6;
 
 /// Memory for one frame. Contracts see for how many bytes.
-#[derive(Debug, Drop)]
+#[derive(Drop)]
 pub struct FrameRoom {
     bytes: Vec<u8>,
 }

@@ -6,7 +6,7 @@ use gal_bits::Values;
 use gal_io::Items;
 
 /// What a change leaves under its key.
-#[derive(Clone, Copy, Debug)]
+#[derive(Clone, Copy)]
 pub enum To {
     /// The values that the key has from now on.
     Value(Values),
@@ -15,7 +15,7 @@ pub enum To {
 }
 
 /// A change of one row of an object.
-#[derive(Clone, Copy, Debug)]
+#[derive(Clone, Copy)]
 pub struct Update {
     /// The number of the object, which is its place among the declared ones, from 0.
     pub object: u32,
@@ -27,7 +27,7 @@ pub struct Update {
 pub type Updates = Items<Update>;
 
 /// What the switch is told, one at a time.
-#[derive(Clone, Copy, Debug)]
+#[derive(Clone, Copy)]
 pub enum Command {
     /// Puts a change into the write-back table of its object.
     Stage(Update),
@@ -56,7 +56,7 @@ impl Command {
 }
 
 /// What a command did.
-#[derive(Clone, Copy, Debug, PartialEq, Eq)]
+#[derive(Clone, Copy, PartialEq, Eq)]
 pub enum Applied {
     Done,
     /// The table that the command touches is at its capacity and the key is new, or a vector has no such index. Nothing

@@ -29,7 +29,7 @@ pub fn map_of_widths(alloc: Global, keys: &Widths, values: &Widths, size: u32) -
 }
 
 /// One object with the memory for its size.
-#[derive(Debug, Drop)]
+#[derive(Drop)]
 pub struct OneObject {
     store: Store,
 }

@@ -16,7 +16,7 @@ use std::marker::Model;
 
 /// The main table of an object and its write-back table. The bit that says whether lookups see the second is not kept
 /// here, since all objects share it.
-#[derive(Debug, Drop)]
+#[derive(Drop)]
 pub struct Pair {
     main: OneObject,
     staged: WriteBack,

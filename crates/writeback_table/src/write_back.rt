@@ -17,7 +17,7 @@ use std::marker::Model;
 
 /// Rows that are staged: under a key the values that it is to have, or none where it is to be gone. A key is in at most
 /// one of the two maps.
-#[derive(Debug, Drop)]
+#[derive(Drop)]
 pub struct WriteBack {
     values: OneObject,
     gone: OneObject,
