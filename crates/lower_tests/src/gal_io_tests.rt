@@ -25,15 +25,23 @@ fn write_numbers(text: &mut Text) -> Result<(), NoMemory> {
     text.push_spaced(&[67, u64::MAX])
 }
 
+// Whether an empty text has five bytes behind it, and then numbers.
+fn is_written_to(text: &mut Text) -> Result<bool, NoMemory> {
+    let is_new = text.is_empty();
+    write(text)?;
+    let len = text.len();
+    write_numbers(text)?;
+    Ok(is_new && len == 5)
+}
+
+fn is_copied(alloc: Global, text: &Text) -> Result<bool, NoMemory> {
+    let copy = text.copy(alloc)?;
+    Ok(copy.as_slice() == b"123450 67 18446744073709551615".as_slice())
+}
+
 fn is_text_written(alloc: Global) -> Result<bool, NoMemory> {
     let mut text = Text::new(alloc);
-    let is_new = text.is_empty();
-    write(&mut text)?;
-    let len = text.len();
-    write_numbers(&mut text)?;
-    let copy = text.copy(alloc)?;
-    let wanted = b"123450 67 18446744073709551615".as_slice();
-    Ok(is_new && len == 5 && copy.as_slice() == wanted)
+    Ok(is_written_to(&mut text)? && is_copied(alloc, &text)?)
 }
 
 fn is_text_of_bytes(alloc: Global) -> Result<bool, NoMemory> {
@@ -80,11 +88,15 @@ const IN_MEMORY: [Reading; 5] = [
 ];
 
 // The first file of a name is read, and the fourth call fails.
-fn first_missed_in_memory(alloc: Global) -> Result<usize, NoMemory> {
-    let mut files = MemFiles::new(alloc);
+fn plan_files(files: &mut MemFiles) -> Result<(), NoMemory> {
     files.add("five", b"1")?;
     files.add("five", b"12345")?;
-    files.fail_at(4)?;
+    files.fail_at(4)
+}
+
+fn first_missed_in_memory(alloc: Global) -> Result<usize, NoMemory> {
+    let mut files = MemFiles::new(alloc);
+    plan_files(&mut files)?;
     Ok(first_missed(alloc, &mut files, &IN_MEMORY))
 }
 
@@ -135,14 +147,25 @@ const OF_THE_SYSTEM: [Reading; 7] = [
     ("/dev/zero", 5000, ReadEnd::TooLong, b""),
 ];
 
+fn make_files(rt: &HostRuntime) -> io::Result<()> {
+    fs::write(rt, "five", "12345")?;
+    fs::write(rt, "five ", "1")
+}
+
+fn remove_files(rt: &HostRuntime) -> io::Result<()> {
+    fs::remove_file(rt, "five")?;
+    fs::remove_file(rt, "five ")
+}
+
+fn first_missed_of_the_system(rt: &HostRuntime) -> usize {
+    first_missed(rt.alloc(), &mut HostFiles::new(rt), &OF_THE_SYSTEM)
+}
+
 #[test]
 fn files_of_the_system(rt: HostRuntime) -> Result<(), Fail> {
-    fs::write(&rt, "five", "12345")?;
-    fs::write(&rt, "five ", "1")?;
-    let missed = first_missed(rt.alloc(), &mut HostFiles::new(&rt), &OF_THE_SYSTEM);
-    assert_eq!(rt; missed, 7);
-    fs::remove_file(&rt, "five")?;
-    fs::remove_file(&rt, "five ")?;
+    make_files(&rt)?;
+    assert_eq!(rt; first_missed_of_the_system(&rt), 7);
+    remove_files(&rt)?;
     Ok(())
 }
 

@@ -3,6 +3,7 @@ use crate::samples::{declared, values, widths};
 use gal_io::{CopyIn, NoMemory};
 use state_store::{Kind, Listing, ObjectDecl, Objects, Put, Row, Rows, Store};
 use std::alloc::Global;
+use std::process::Abort;
 use std::test::Fail;
 
 const TABLE: u32 = 0;
@@ -109,11 +110,14 @@ fn are_listed(listing: &Listing, wanted: Wanted) -> bool {
     all
 }
 
-// Whether an object has these rows, which are told in both ways.
-fn has(alloc: Global, store: &Store, object: u32, wanted: Wanted) -> Result<bool, NoMemory> {
-    let rows = store.rows(alloc, object)?;
-    let listing = store.list(alloc, object)?;
-    Ok(are_rows(&rows, wanted) && are_listed(&listing, wanted))
+// Whether an object has these rows, by a copy of them.
+fn holds(alloc: Global, store: &Store, object: u32, wanted: Wanted) -> Result<bool, NoMemory> {
+    Ok(are_rows(&store.rows(alloc, object)?, wanted))
+}
+
+// Whether they are listed so.
+fn lists(alloc: Global, store: &Store, object: u32, wanted: Wanted) -> Result<bool, NoMemory> {
+    Ok(are_listed(&store.list(alloc, object)?, wanted))
 }
 
 fn answers(store: &mut Store, call: &Call) -> bool {
@@ -130,18 +134,23 @@ fn answers(store: &mut Store, call: &Call) -> bool {
 
 fn is_answered(alloc: Global, store: &mut Store, call: &Call) -> Result<bool, NoMemory> {
     match call {
-        Lists(object, wanted) => has(alloc, store, *object, wanted),
+        Lists(object, wanted) => {
+            Ok(holds(alloc, store, *object, wanted)? && lists(alloc, store, *object, wanted)?)
+        }
         _ => Ok(answers(store, call)),
     }
 }
 
-const CALLS: [Call; 38] = [
-    // a table has its declared rows
+// A table has its declared rows.
+const OF_A_TABLE: [Call; 4] = [
     Lists(TABLE, &[(&[22], &[3, 4]), (&[80], &[1, 2])]),
     Finds(TABLE, &[80], &[1, 2]),
     Lacks(TABLE, &[79], &[0, 0]),
     Puts(TABLE, &[79], &[5, 6], Put::Full),
-    // a map starts empty, and is full at its capacity
+];
+
+// A map starts empty, and is full at its capacity.
+const OF_A_MAP: [Call; 12] = [
     Lists(MAP, &[]),
     Lacks(MAP, &[1, 1], &[0]),
     Dels(MAP, &[1, 1], false),
@@ -154,13 +163,15 @@ const CALLS: [Call; 38] = [
     Lacks(MAP, &[1, 1], &[0]),
     Puts(MAP, &[0, 9], &[9], Put::Stored),
     Lists(MAP, &[(&[0, 9], &[9]), (&[1, 2], &[102])]),
-    // a vector has a row for each index below its length
+];
+
+// A vector has a row for each index below its length. A row of it may go, and a row of other numbers may come.
+const OF_A_VECTOR: [Call; 10] = [
     Finds(VECTOR, &[2], &[0]),
     Lacks(VECTOR, &[3], &[0]),
     Puts(VECTOR, &[2], &[5], Put::Stored),
     Puts(VECTOR, &[3], &[6], Put::OutOfRange),
     Lists(VECTOR, &[(&[0], &[0]), (&[1], &[0]), (&[2], &[5])]),
-    // a row of it may go, and a row of other numbers may come
     Dels(VECTOR, &[1], true),
     Lacks(VECTOR, &[1], &[0]),
     Puts(VECTOR, &[1], &[4_294_967_296], Put::Stored),
@@ -169,43 +180,74 @@ const CALLS: [Call; 38] = [
         VECTOR,
         &[(&[0], &[7, 8]), (&[1], &[4_294_967_296]), (&[2], &[5])],
     ),
-    // an integer has one row
+];
+
+// An integer has one row, and a number of no object has no rows, and room for none.
+const OF_ONE_ROW_AND_OF_NONE: [Call; 7] = [
     Finds(INT, &[], &[7]),
     Puts(INT, &[], &[8], Put::Stored),
     Lists(INT, &[(&[], &[8])]),
-    // keys go by their first difference
-    Puts(WIDE, &[1, 2, 3, 4, 5, 6, 7, 9], &[1], Put::Stored),
-    Puts(WIDE, &[1, 2, 3, 4, 5, 6, 7, 8], &[2], Put::Stored),
-    Puts(WIDE, &[0, 9, 9, 9, 9, 9, 9, 9], &[3], Put::Stored),
-    Lacks(WIDE, &[1, 2, 3, 4, 5, 6, 8, 8], &[0]),
-    Finds(WIDE, &[1, 2, 3, 4, 5, 6, 7, 8], &[2]),
-    // a number of no object has no rows, and room for none
     Lacks(NONE, &[], &[]),
     Puts(NONE, &[], &[1], Put::Full),
     Dels(NONE, &[], false),
     Lists(NONE, &[]),
 ];
 
+// Keys go by their first difference.
+const OF_WIDE_KEYS: [Call; 5] = [
+    Puts(WIDE, &[1, 2, 3, 4, 5, 6, 7, 9], &[1], Put::Stored),
+    Puts(WIDE, &[1, 2, 3, 4, 5, 6, 7, 8], &[2], Put::Stored),
+    Puts(WIDE, &[0, 9, 9, 9, 9, 9, 9, 9], &[3], Put::Stored),
+    Lacks(WIDE, &[1, 2, 3, 4, 5, 6, 8, 8], &[0]),
+    Finds(WIDE, &[1, 2, 3, 4, 5, 6, 7, 8], &[2]),
+];
+
 // The place of the first call that isn't answered so, or how many they are.
-fn first_missed(alloc: Global, store: &mut Store) -> Result<usize, NoMemory> {
-    for (place, call) in CALLS.iter().enumerate() {
+fn first_missed(alloc: Global, store: &mut Store, calls: &[Call]) -> Result<usize, NoMemory> {
+    for (place, call) in calls.iter().enumerate() {
         if !is_answered(alloc, store, call)? {
             return Ok(place);
         }
     }
-    Ok(CALLS.len())
+    Ok(calls.len())
 }
 
-fn first_missed_of_a_store(alloc: Global) -> Result<usize, NoMemory> {
-    let objects = objects(alloc)?;
-    let mut store = Store::new(alloc, &objects)?;
-    first_missed(alloc, &mut store)
+fn new_store(alloc: Global) -> Result<Store, NoMemory> {
+    Store::new(alloc, &objects(alloc)?)
+}
+
+fn first_missed_of_a_store(alloc: Global, calls: &[Call]) -> Result<usize, NoMemory> {
+    first_missed(alloc, &mut new_store(alloc)?, calls)
+}
+
+fn all_are_answered(rt: &impl Abort, alloc: Global, calls: &[Call]) -> Result<(), NoMemory> {
+    assert_eq!(rt; first_missed_of_a_store(alloc, calls)?, calls.len());
+    Ok(())
 }
 
 #[test]
-fn calls_answer(rt: HostRuntime) -> Result<(), Fail> {
-    assert_eq!(rt; first_missed_of_a_store(rt.alloc())?, 38);
-    Ok(())
+fn a_table_answers(rt: HostRuntime) -> Result<(), Fail> {
+    Ok(all_are_answered(&rt, rt.alloc(), &OF_A_TABLE)?)
+}
+
+#[test]
+fn a_map_answers(rt: HostRuntime) -> Result<(), Fail> {
+    Ok(all_are_answered(&rt, rt.alloc(), &OF_A_MAP)?)
+}
+
+#[test]
+fn a_vector_answers(rt: HostRuntime) -> Result<(), Fail> {
+    Ok(all_are_answered(&rt, rt.alloc(), &OF_A_VECTOR)?)
+}
+
+#[test]
+fn one_row_and_none_answer(rt: HostRuntime) -> Result<(), Fail> {
+    Ok(all_are_answered(&rt, rt.alloc(), &OF_ONE_ROW_AND_OF_NONE)?)
+}
+
+#[test]
+fn wide_keys_answer(rt: HostRuntime) -> Result<(), Fail> {
+    Ok(all_are_answered(&rt, rt.alloc(), &OF_WIDE_KEYS)?)
 }
 
 fn are_objects_copied(alloc: Global) -> Result<bool, NoMemory> {
@@ -221,24 +263,34 @@ fn is_apart(store: &mut Store, copy: &Store) -> bool {
     answer == Put::Stored && is_left && gives(store, INT, &[], true, &[9])
 }
 
-fn is_copy_apart(alloc: Global) -> Result<bool, NoMemory> {
-    let objects = objects(alloc)?;
-    let mut store = Store::new(alloc, &objects)?;
-    let copy = store.copy(alloc)?;
-    Ok(is_apart(&mut store, &copy) && is_empty(alloc, &copy)?)
+// Whether a copy of the rows of a map has none.
+fn has_no_rows(alloc: Global, store: &Store) -> Result<bool, NoMemory> {
+    let copy = store.rows(alloc, MAP)?.copy(alloc)?;
+    Ok(copy.is_empty())
 }
 
-// Whether a map has no rows, in a copy of them and in what is listed.
-fn is_empty(alloc: Global, store: &Store) -> Result<bool, NoMemory> {
-    let rows = store.rows(alloc, MAP)?;
-    let copy = rows.copy(alloc)?;
-    let listing = store.list(alloc, MAP)?;
-    Ok(copy.is_empty() && listing.is_empty())
+// Whether a copy of a store has no rows of a map, and a put into the store leaves it.
+fn is_copied_apart(alloc: Global, store: &mut Store) -> Result<bool, NoMemory> {
+    let copy = store.copy(alloc)?;
+    Ok(is_apart(store, &copy) && has_no_rows(alloc, &copy)?)
+}
+
+fn is_copy_apart(alloc: Global) -> Result<bool, NoMemory> {
+    is_copied_apart(alloc, &mut new_store(alloc)?)
+}
+
+fn is_none_listed(alloc: Global, store: &Store) -> Result<bool, NoMemory> {
+    Ok(store.list(alloc, MAP)?.is_empty())
+}
+
+fn is_empty_map_listed(alloc: Global) -> Result<bool, NoMemory> {
+    is_none_listed(alloc, &new_store(alloc)?)
 }
 
 #[test]
 fn copies_are_apart(rt: HostRuntime) -> Result<(), Fail> {
     assert!(rt; are_objects_copied(rt.alloc())?);
     assert!(rt; is_copy_apart(rt.alloc())?);
+    assert!(rt; is_empty_map_listed(rt.alloc())?);
     Ok(())
 }

@@ -138,22 +138,20 @@ fn first_missed(alloc: Global, pair: &mut Pair) -> Result<usize, NoMemory> {
     Ok(8)
 }
 
-// The row of the first command that has another effect, or 8; and whether nothing is staged any more.
-fn pass(alloc: Global) -> Result<(usize, bool), NoMemory> {
-    let mut pair = full_map(alloc, 2)?;
-    if !sees(alloc, &pair, false, ONE)? {
-        return Ok((0, false));
-    }
-    let missed = first_missed(alloc, &mut pair)?;
-    Ok((
-        missed,
-        sees(alloc, &pair, true, TWO)? && lacks(&pair, true, &[1]),
-    ))
+// Whether each command has its effect, and nothing is staged any more then.
+fn is_passed(alloc: Global, pair: &mut Pair) -> Result<bool, NoMemory> {
+    let begins = sees(alloc, pair, false, ONE)?;
+    let missed = first_missed(alloc, pair)?;
+    Ok(begins && missed == 8 && sees(alloc, pair, true, TWO)? && lacks(pair, true, &[1]))
+}
+
+fn is_batch_passed(alloc: Global) -> Result<bool, NoMemory> {
+    is_passed(alloc, &mut full_map(alloc, 2)?)
 }
 
 #[test]
 fn a_batch_is_seen_at_once(rt: HostRuntime) -> Result<(), Fail> {
-    assert!(rt; pass(rt.alloc())? == (8, true));
+    assert!(rt; is_batch_passed(rt.alloc())?);
     Ok(())
 }
 
@@ -174,17 +172,19 @@ fn is_staged_again(alloc: Global, pair: &mut Pair) -> Result<bool, NoMemory> {
     Ok(done && sees(alloc, pair, true, &[(&[1], &[7])])? && sees(alloc, pair, false, ONE)?)
 }
 
-fn is_room_kept(alloc: Global) -> Result<bool, NoMemory> {
-    let mut pair = full_map(alloc, 1)?;
-    let refused = is_refused_when_full(alloc, &mut pair)?;
-    let once = is_staged_once(alloc, &mut pair)?;
-    let again = is_staged_again(alloc, &mut pair)?;
-    Ok(refused && once && again)
+fn is_room_kept(alloc: Global, pair: &mut Pair) -> Result<bool, NoMemory> {
+    let refused = is_refused_when_full(alloc, pair)?;
+    let once = is_staged_once(alloc, pair)?;
+    Ok(refused && once && is_staged_again(alloc, pair)?)
+}
+
+fn is_room_of_a_map_kept(alloc: Global) -> Result<bool, NoMemory> {
+    is_room_kept(alloc, &mut full_map(alloc, 1)?)
 }
 
 #[test]
 fn a_full_table_has_no_room(rt: HostRuntime) -> Result<(), Fail> {
-    assert!(rt; is_room_kept(rt.alloc())?);
+    assert!(rt; is_room_of_a_map_kept(rt.alloc())?);
     Ok(())
 }
 
@@ -219,8 +219,7 @@ fn is_vector_staged(alloc: Global, vector: &mut Pair) -> Result<bool, NoMemory> 
 }
 
 fn is_vector_kept(alloc: Global) -> Result<bool, NoMemory> {
-    let mut vector = vector_of_two(alloc)?;
-    is_vector_staged(alloc, &mut vector)
+    is_vector_staged(alloc, &mut vector_of_two(alloc)?)
 }
 
 // A number has the empty key, and a write-back table may have room for no row.
@@ -235,8 +234,7 @@ fn is_number_put(alloc: Global, number: &mut Pair) -> Result<bool, NoMemory> {
 }
 
 fn is_number_kept(alloc: Global) -> Result<bool, NoMemory> {
-    let mut number = number(alloc)?;
-    is_number_put(alloc, &mut number)
+    is_number_put(alloc, &mut number(alloc)?)
 }
 
 #[test]
@@ -255,14 +253,17 @@ fn are_done(pair: &mut Pair, updates: &[Update]) -> bool {
     all
 }
 
-fn is_list_done(alloc: Global) -> Result<bool, NoMemory> {
-    let mut pair = map_of_one(alloc, 2)?;
-    let done = are_done(&mut pair, &[gone(&[1]), put(&[2], 9)]);
-    Ok(done && sees(alloc, &pair, false, TWO)?)
+fn is_list_done(alloc: Global, pair: &mut Pair) -> Result<bool, NoMemory> {
+    let done = are_done(pair, &[gone(&[1]), put(&[2], 9)]);
+    Ok(done && sees(alloc, pair, false, TWO)?)
+}
+
+fn is_list_done_in_a_map(alloc: Global) -> Result<bool, NoMemory> {
+    is_list_done(alloc, &mut map_of_one(alloc, 2)?)
 }
 
 #[test]
 fn changes_are_made_in_order(rt: HostRuntime) -> Result<(), Fail> {
-    assert!(rt; is_list_done(rt.alloc())?);
+    assert!(rt; is_list_done_in_a_map(rt.alloc())?);
     Ok(())
 }

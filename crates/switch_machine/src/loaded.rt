@@ -1,9 +1,10 @@
 //! Code that is loaded.
-ghost use Rattle.std.specs.Prelude.{◌≡◌, ◌<◌, ◌^◌, IfOk};
+ghost use Rattle.std.specs.Prelude.{◌≡◌, ◌<◌, ◌^◌, ℕ, IfOk, None};
 ghost use Rattle.switch_ir.specs.Code.{code_of, pass_of};
 ghost use Rattle.switch_ir.specs.Once.{can_be_run_prop};
 ghost use Rattle.switch_ir.specs.Sound.{CanBeRun};
 ghost use Rattle.switch_ir.specs.UnderWay.{none_under_way};
+ghost use Rattle.switch_machine.specs.ActivePasses.{active_in};
 ghost use Rattle.switch_machine.specs.Ranges.{ordered_prop, AreOrdered};
 ghost use Rattle.switch_machine.specs.Ready.{ready_prop, AreReady};
 ghost use Rattle.switch_machine.specs.LoadedPasses.{made_prop, IsMadeBy};
@@ -43,18 +44,37 @@ impl Loaded {
         ensures code { IfOk result (λ loaded. code_of loaded.code ≡ code_of code.now) }
         ensures passes { IfOk result (λ loaded. under_way (Some loaded) ≡ none_under_way) }
     {
-        let copy = code.copy(alloc)?;
-        let tables = copy.tables.as_slice();
-        let before = LoadedPass::of(alloc, Side::Before, tables, &[], &copy.pre)?;
-        let down = copy.down.as_slice();
-        let behind = LoadedPass::of(alloc, Side::Behind, tables, down, &copy.post)?;
-        let numbering = &behind.numbering;
-        let given = ReadyStages::of(alloc, &copy.post.given, 0, numbering, &copy.post.plan)?;
+        let code = code.copy(alloc)?;
+        let before = before(alloc, &code)?;
+        let (behind, given) = behind(alloc, &code)?;
         Ok(Loaded {
-            code: copy,
+            code,
             before,
             behind,
             given,
         })
     }
+}
+
+// The pass of preprocessing.
+fn before(alloc: Global, code: &SwitchCode) -> Result<LoadedPass, NoMemory>
+    requires { CanBeRun (code_of code.now) }
+    ensures made { IfOk result (IsMadeBy Before (code_of code.now) code.now.pre.plan) }
+    ensures none { IfOk result (λ made. (n : ℕ) → active_in made.active n ≡ None) }
+{
+    LoadedPass::of(alloc, Side::Before, code.tables.as_slice(), &[], &code.pre)
+}
+
+// The pass of postprocessing, and what it is given from the code and the packet, in one stage.
+fn behind(alloc: Global, code: &SwitchCode) -> Result<(LoadedPass, ReadyStages), NoMemory>
+    requires { CanBeRun (code_of code.now) }
+    ensures made { IfOk result (λ both. IsMadeBy Behind (code_of code.now) code.now.post.plan both.0) }
+    ensures none { IfOk result (λ both. (n : ℕ) → active_in both.0.active n ≡ None) }
+    ensures given { IfOk result
+        (λ both. AreReady both.0.numbering code.now.post.plan (pass_of code.now.post).given 0 both.1) }
+{
+    let (tables, down) = (code.tables.as_slice(), code.down.as_slice());
+    let pass = LoadedPass::of(alloc, Side::Behind, tables, down, &code.post)?;
+    let given = ReadyStages::of(alloc, &code.post.given, 0, &pass.numbering, &code.post.plan)?;
+    Ok((pass, given))
 }

@@ -49,7 +49,17 @@ pub struct ModelSwitch {
     ghost safe: { AreSafe (code_in loaded) tables } by { safe_prop (code_in loaded) tables },
 }
 
+// That of a switch which has just been loaded.
+fn journal_of_load(alloc: Global) -> Result<Journal, NoMemory>
+    ensures { IfOk result (λ journal. journal ≡ record { entries = entry.Load ∷ []; spare = 0 }) }
+{
+    let mut journal = Journal::new(alloc);
+    journal.push(Entry::Load)?;
+    Ok(journal)
+}
+
 impl ModelSwitch {
+    ghost use Rattle.switch_machine.specs.UnderWay.{under_way};
     ghost use Rattle.switch_machine.specs.Views.{machine_of};
 
     /// A switch without code, and no fault planned. This takes no memory.
@@ -186,12 +196,25 @@ impl ModelSwitch {
         ensures err { OnErr result (machine_of self.new ≡ machine_of self.old) }
     {
         let tables = SwitchTables::start(alloc, code)?;
-        let mut journal = Journal::new(alloc);
-        journal.push(Entry::Load)?;
-        self.loaded = Some(Loaded::new(alloc, code)?);
+        let journal = journal_of_load(alloc)?;
+        let loaded = Loaded::new(alloc, code)?;
+        self.put_in(loaded, tables, journal);
+        Ok(())
+    }
+
+    // Puts code, its tables and a journal in the place of what was loaded.
+    fn put_in(&mut self, loaded: Loaded, tables: SwitchTables, journal: Journal)
+        requires { AreSafe (code_in (Some loaded)) tables }
+        ensures { let old = machine_of self.old in machine_of self.new ≡ record old {
+          code = Some (code_of loaded.code);
+          tables = tables;
+          passes = under_way (Some loaded);
+          journal = journal;
+        } }
+    {
+        self.loaded = Some(loaded);
         self.tables = tables;
         self.journal = journal;
-        Ok(())
     }
 
     fn try_room(&mut self, commands: usize) -> Result<(), NoMemory>

@@ -1,0 +1,6 @@
+use Rattle.std.proofs.Common.{refl, sym}
+use Rattle.switch_ir.specs.Code.{code_of}
+use Rattle.switch_machine.proofs.loaded.behind.Goals as goal
+
+pub returns-clause-made : goal.returns-clause-made
+returns-clause-made c = c.in_ok-pass.ensures.made (code_of c.args.code.now) (sym c.as_slice-tables.ensures) (sym c.as_slice-down.ensures) refl
