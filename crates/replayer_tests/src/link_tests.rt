@@ -10,30 +10,27 @@ use run_model::{Fate, LinkEvents};
 use run_text::{print_link_schedule, read_link_schedule};
 use std::alloc::Global;
 use std::test::Fail;
-use switch_ir::SwitchPort;
 use switch_machine::ModelSwitch;
 
-fn run_of<S: SwitchPort>(
-    alloc: Global,
-    job: &Job,
-    events: &LinkEvents,
-    port: &mut S,
-) -> Result<LossyRun, Fail>
+fn run_of(alloc: Global, job: &Job, events: &LinkEvents) -> Result<LossyRun, Fail>
     requires ready { IsReady job.now }
     requires fits { IsLinkSchedule events.now }
 {
-    match replay_lossy(alloc, job, events, port) {
-        Ok(run) => Ok(run),
-        Err(_) => Err(Fail::from("no replay")),
-    }
+    let mut port = ModelSwitch::new(alloc);
+    Ok(replay_lossy(alloc, job, events, &mut port)?)
+}
+
+fn run_by(alloc: Global, job: &Job, schedule: &[u8]) -> Result<LossyRun, Fail>
+    requires { IsReady job.now }
+{
+    let events = read_link_schedule(alloc, schedule)?;
+    run_of(alloc, job, &events)
 }
 
 // What comes of a schedule over packets of one byte each.
 fn replayed(alloc: Global, source: &str, bytes: &[u8], schedule: &[u8]) -> Result<LossyRun, Fail> {
     let job = job(alloc, source, of_bytes(alloc, bytes)?)?;
-    let events = read_link_schedule(alloc, schedule)?;
-    let mut port = ModelSwitch::new(alloc);
-    run_of(alloc, &job, &events, &mut port)
+    run_by(alloc, &job, schedule)
 }
 
 fn tally(items: u32, sent: u32, delivered: u32, known: u32) -> Tally4 {
@@ -87,13 +84,21 @@ fn delivered(ends: &Ends, numbers: &[u32]) -> bool {
 const REPEATED: &[u8] =
     b"a\nx up 0\nx up 0\nu 0\ny up 1\ny up 0\nu 0\nz up 0\nh 0\nx down 0\ny down 0\nd 0\n";
 
+fn runs_once(run: &LossyRun) -> bool {
+    told(run) == (4, 0, 1, 1)
+        && has_frames(run, tally(1, 2, 1, 1), tally(1, 1, 1, 0))
+        && has_commands(run, tally(0, 0, 0, 0), tally(0, 0, 0, 0))
+        && delivered(&run.up, &[0])
+        && delivered(&run.down, &[0])
+}
+
+fn is_repeated_frame_run_once(alloc: Global) -> Result<bool, Fail> {
+    Ok(runs_once(&replayed(alloc, FORWARDS, &[7], REPEATED)?))
+}
+
 #[test]
 fn a_repeated_frame_is_run_once(rt: HostRuntime) -> Result<(), Fail> {
-    let run = replayed(rt.alloc(), FORWARDS, &[7], REPEATED)?;
-    assert_eq!(rt; told(&run), (4, 0, 1, 1));
-    assert!(rt; has_frames(&run, tally(1, 2, 1, 1), tally(1, 1, 1, 0)));
-    assert!(rt; has_commands(&run, tally(0, 0, 0, 0), tally(0, 0, 0, 0)));
-    assert!(rt; delivered(&run.up, &[0]) && delivered(&run.down, &[0]));
+    assert!(rt; is_repeated_frame_run_once(rt.alloc())?);
     Ok(())
 }
 
@@ -106,7 +111,7 @@ fn printed_again(alloc: Global, schedule: &[u8]) -> Result<bool, Fail> {
 
 #[test]
 fn a_schedule_is_printed_back(rt: HostRuntime) -> Result<(), Fail> {
-    assert_eq!(rt; printed_again(rt.alloc(), REPEATED)?, true);
+    assert!(rt; printed_again(rt.alloc(), REPEATED)?);
     Ok(())
 }
 
@@ -122,13 +127,22 @@ fn decided(run: &LossyRun, number: usize) -> Option<u32> {
     }
 }
 
+fn runs_later(run: &LossyRun) -> bool {
+    told(run) == (7, 0, 2, 1)
+        && decided(run, 0) == Some(4)
+        && decided(run, 1) == Some(3)
+        && has_frames(run, tally(2, 3, 2, 0), tally(2, 1, 1, 0))
+        && delivered(&run.up, &[1, 0])
+        && delivered(&run.down, &[1])
+}
+
+fn is_lost_frame_run_later(alloc: Global) -> Result<bool, Fail> {
+    Ok(runs_later(&replayed(alloc, FORWARDS, &[7, 8], LOST)?))
+}
+
 #[test]
 fn a_lost_frame_comes_later(rt: HostRuntime) -> Result<(), Fail> {
-    let run = replayed(rt.alloc(), FORWARDS, &[7, 8], LOST)?;
-    assert_eq!(rt; told(&run), (7, 0, 2, 1));
-    assert_eq!(rt; (decided(&run, 0), decided(&run, 1)), (Some(4), Some(3)));
-    assert!(rt; has_frames(&run, tally(2, 3, 2, 0), tally(2, 1, 1, 0)));
-    assert!(rt; delivered(&run.up, &[1, 0]) && delivered(&run.down, &[1]));
+    assert!(rt; is_lost_frame_run_later(rt.alloc())?);
     Ok(())
 }
 
@@ -136,12 +150,20 @@ fn a_lost_frame_comes_later(rt: HostRuntime) -> Result<(), Fail> {
 const EARLY: &[u8] =
     b"a\nx up 0\ny up 0\nu 0\nc\nc\nx ctl 1\nx ctl 0\ny ctl 0\nw\ny ctl 1\nw\nw\ny ctl 0\nw\nh 0\nx ack 0\nx ack 1\ny ack 1\nk\ny ack 0\nk\nk\nh 0\ny ack 0\nk\ny ack 1\nk\nh 0\nz ctl 0\nz ctl 0\n";
 
+fn applies_in_order(run: &LossyRun) -> bool {
+    told(run) == (9, 0, 1, 0)
+        && run.run.visible == 1
+        && has_commands(run, tally(2, 2, 2, 1), tally(2, 2, 2, 0))
+        && delivered(&run.ctl, &[0, 1])
+        && delivered(&run.ack, &[0, 1])
+}
+
+fn are_early_commands_applied_in_order(alloc: Global) -> Result<bool, Fail> {
+    Ok(applies_in_order(&replayed(alloc, TELLS, &[7], EARLY)?))
+}
+
 #[test]
 fn commands_are_applied_in_order(rt: HostRuntime) -> Result<(), Fail> {
-    let run = replayed(rt.alloc(), TELLS, &[7], EARLY)?;
-    assert_eq!(rt; told(&run), (9, 0, 1, 0));
-    assert_eq!(rt; run.run.visible, 1);
-    assert!(rt; has_commands(&run, tally(2, 2, 2, 1), tally(2, 2, 2, 0)));
-    assert!(rt; delivered(&run.ctl, &[0, 1]) && delivered(&run.ack, &[0, 1]));
+    assert!(rt; are_early_commands_applied_in_order(rt.alloc())?);
     Ok(())
 }

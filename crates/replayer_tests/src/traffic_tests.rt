@@ -170,6 +170,12 @@ fn a_summary_of_packets_that_went_both_ways(rt: HostRuntime) {
 // dropped.
 fn all_kinds(alloc: Global) -> Result<Run, NoMemory> {
     let mut fates = Vec::new(alloc);
+    push_unreleased(&mut fates)?;
+    push_released(alloc, &mut fates)?;
+    Ok(run_of(alloc, 8, false, fates))
+}
+
+fn push_unreleased(fates: &mut Vec<Fate>) -> Result<(), NoMemory> {
     fates.push(Fate::Pass { admitted: 9 })?;
     fates.push(Fate::Up { admitted: 9 })?;
     fates.push(Fate::Held {
@@ -177,11 +183,15 @@ fn all_kinds(alloc: Global) -> Result<Run, NoMemory> {
         decided: 2,
         version: 1,
     })?;
+    Ok(())
+}
+
+fn push_released(alloc: Global, fates: &mut Vec<Fate>) -> Result<(), NoMemory> {
     fates.push(slow(Verdict::Drop))?;
     fates.push(slow(sent(alloc)))?;
     fates.push(fast(Verdict::Drop))?;
     fates.push(fast(sent(alloc)))?;
-    Ok(run_of(alloc, 8, false, fates))
+    Ok(())
 }
 
 fn tells_all_kinds(alloc: Global, want: &[u8]) -> Result<bool, NoMemory> {

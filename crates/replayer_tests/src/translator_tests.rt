@@ -81,6 +81,13 @@ struct Told {
     faults: u64,
 }
 
+impl Told {
+    // Whether the events did as planned, drain answered so, and so many calls failed.
+    fn is(&self, drained: Option<Result<u64, ReplayError>>, faults: u64) -> bool {
+        self.as_planned && self.drained == drained && self.faults == faults
+    }
+}
+
 fn performed_over(
     alloc: Global,
     job: &Job,
@@ -166,15 +173,14 @@ switch back 1
 end
 ";
 
+fn is_output_held(alloc: Global) -> Result<bool, Fail> {
+    let told = performed(alloc, one_flow(alloc, 1)?, &SCHEDULE, false, None)?;
+    Ok(told.is(None, 0) && told.report.as_slice() == ONE.as_bytes())
+}
+
 #[test]
 fn an_output_waits_for_its_commands(rt: HostRuntime) -> Result<(), Fail> {
-    let alloc = rt.alloc();
-    let told = performed(alloc, one_flow(alloc, 1)?, &SCHEDULE, false, None)?;
-    assert_eq!(rt;
-        (told.as_planned, told.drained, told.faults),
-        (true, None, 0)
-    );
-    assert_eq!(rt; told.report.as_slice() == ONE.as_bytes(), true);
+    assert!(rt; is_output_held(rt.alloc())?);
     Ok(())
 }
 
@@ -240,22 +246,16 @@ switch back 8
 end
 ";
 
+fn is_all_released(alloc: Global) -> Result<bool, Fail> {
+    let told = performed(alloc, eight_flows(alloc)?, &[], true, None)?;
+    let text = told.report.as_slice();
+    let is_whole = text.starts_with(FIRST.as_bytes()) && text.ends_with(LAST.as_bytes());
+    Ok(is_whole && told.is(Some(Ok(280)), 0))
+}
+
 #[test]
 fn drain_releases_every_packet(rt: HostRuntime) -> Result<(), Fail> {
-    let alloc = rt.alloc();
-    let told = performed(alloc, eight_flows(alloc)?, &[], true, None)?;
-    assert_eq!(rt;
-        (told.as_planned, told.drained, told.faults),
-        (true, Some(Ok(280)), 0)
-    );
-    let text = told.report.as_slice();
-    assert_eq!(rt;
-        (
-            text.starts_with(FIRST.as_bytes()),
-            text.ends_with(LAST.as_bytes())
-        ),
-        (true, true)
-    );
+    assert!(rt; is_all_released(rt.alloc())?);
     Ok(())
 }
 
@@ -266,14 +266,13 @@ const TWO_SERVED: [(Event, Stepped); 4] = [
     (Event::Serve(0), Stepped::Did),
 ];
 
+fn is_stopped_by_a_fault(alloc: Global) -> Result<bool, Fail> {
+    let told = performed(alloc, one_flow(alloc, 2)?, &TWO_SERVED, true, Some(3))?;
+    Ok(told.is(Some(Err(ReplayError::PortFault)), 1) && told.report.is_empty())
+}
+
 #[test]
 fn nothing_is_reported_after_a_fault(rt: HostRuntime) -> Result<(), Fail> {
-    let alloc = rt.alloc();
-    let told = performed(alloc, one_flow(alloc, 2)?, &TWO_SERVED, true, Some(3))?;
-    assert_eq!(rt;
-        (told.as_planned, told.drained, told.faults),
-        (true, Some(Err(ReplayError::PortFault)), 1)
-    );
-    assert_eq!(rt; told.report.is_empty(), true);
+    assert!(rt; is_stopped_by_a_fault(rt.alloc())?);
     Ok(())
 }

@@ -1,5 +1,5 @@
 //! Frames from outside, and what the server makes of them.
-ghost use Rattle.std.specs.Prelude.{◌≤◌};
+ghost use Rattle.std.specs.Prelude.{◌≡◌, ◌≤◌, [], IfOk};
 ghost use Rattle.flat_ir.specs.Program.{program_of};
 ghost use Rattle.split_model.specs.Bounds.{IsBounded};
 ghost use Rattle.split_model.specs.Legal.{IsLegal};
@@ -234,16 +234,23 @@ const ECHO: [Step; 4] = [
     Step::Field(Field::MetaPort),
 ];
 
-// Packets leave by the port by which they came; the server does all of it.
-#[tactic(auto, using(crate::proofs::Kept::begins_kept))]
-fn echo(alloc: Global) -> Result<Server, Fail> {
+// Packets leave by the port by which they came.
+fn echoing(alloc: Global) -> Result<Flat, Fail>
+    ensures { IfOk result (λ f. f.objects ≡ []) }
+{
     let code = code_of(alloc, &ECHO)?;
-    let f = Flat {
+    Ok(Flat {
         objects: Objects::new(alloc),
         blocks: Blocks::new(alloc),
         code,
         out: out(alloc, (1, 0), (3, 0)),
-    };
+    })
+}
+
+// A server that does all of it.
+#[tactic(auto, using(crate::proofs::Kept::begins_kept))]
+fn echo(alloc: Global) -> Result<Server, Fail> {
+    let f = echoing(alloc)?;
     alone(alloc, &f)
 }
 

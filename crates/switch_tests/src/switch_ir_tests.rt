@@ -1,4 +1,6 @@
 //! Code of a switch, and for how long its values are needed, worked out by hand.
+ghost use Rattle.std.specs.Prelude.{◌≤◌};
+
 use crate::samples::{chain, split_of};
 use flat_ir::{Flat, RegPlan, Spans};
 use gal_bits::Values;
@@ -8,7 +10,8 @@ use split_model::Layout;
 use std::alloc::Global;
 use std::test::Fail;
 use switch_ir::{
-    Call, DownEnd, Entry, Journal, Pass, PortError, Steps, SwitchCode, UpEnd, emit, spans_of_passes,
+    Call, DownEnd, Entry, Journal, Pass, PassSpans, PortError, Steps, SwitchCode, UpEnd, emit,
+    spans_of_passes,
 };
 use writeback_table::{Command, To, Update};
 
@@ -38,31 +41,69 @@ const ALL_BEFORE: [Needed; 11] = [
     (10, 4, 5),
 ];
 
-fn is_arriving(alloc: Global, f: &Flat) -> Result<bool, Fail> {
-    let split = split_of(alloc, f, 4, 64, false)?;
-    let spans = spans_of_passes(alloc, f, &split)?;
-    let code = emit(alloc, f, &split, 4)?;
-    Ok(are_spans(&spans.pre, &ALL_BEFORE) && code.pre.plan.count() == 7)
+// The spans of the values of a program that these limits split.
+fn spans_of(
+    alloc: Global,
+    f: &Flat,
+    stages: u32,
+    transfer_bytes: u32,
+    shrink: bool,
+) -> Result<PassSpans, Fail>
+    requires stages { stages ≤ 4096 }
+    requires least { 2 ≤ transfer_bytes }
+    requires most { transfer_bytes ≤ 65535 }
+{
+    let split = split_of(alloc, f, stages, transfer_bytes, shrink)?;
+    Ok(spans_of_passes(alloc, f, &split)?)
+}
+
+// The code of a program that these limits split.
+fn code_of(
+    alloc: Global,
+    f: &Flat,
+    stages: u32,
+    transfer_bytes: u32,
+    shrink: bool,
+) -> Result<SwitchCode, Fail>
+    requires stages { stages ≤ 4096 }
+    requires least { 2 ≤ transfer_bytes }
+    requires most { transfer_bytes ≤ 65535 }
+{
+    let split = split_of(alloc, f, stages, transfer_bytes, shrink)?;
+    Ok(emit(alloc, f, &split, 4)?)
+}
+
+fn is_needed_before(alloc: Global, f: &Flat) -> Result<bool, Fail> {
+    let spans = spans_of(alloc, f, 4, 64, false)?;
+    Ok(are_spans(&spans.pre, &ALL_BEFORE))
+}
+
+fn has_registers_before(alloc: Global, f: &Flat) -> Result<bool, Fail> {
+    let code = code_of(alloc, f, 4, 64, false)?;
+    Ok(code.pre.plan.count() == 7)
 }
 
 fn is_chain_arriving(alloc: Global) -> Result<bool, Fail> {
     let f = chain(alloc)?;
-    is_arriving(alloc, &f)
+    Ok(is_needed_before(alloc, &f)? && has_registers_before(alloc, &f)?)
 }
 
 // Of the same chain, whose last sum comes down and is cut then.
 const CUT_BEHIND: [Needed; 3] = [(1, 0, 2), (9, 0, 1), (10, 1, 2)];
 
-fn is_coming_down(alloc: Global, f: &Flat) -> Result<bool, Fail> {
-    let split = split_of(alloc, f, 3, 3, true)?;
-    let spans = spans_of_passes(alloc, f, &split)?;
-    let code = emit(alloc, f, &split, 4)?;
-    Ok(are_spans(&spans.post, &CUT_BEHIND) && code.post.plan.count() == 2)
+fn is_needed_behind(alloc: Global, f: &Flat) -> Result<bool, Fail> {
+    let spans = spans_of(alloc, f, 3, 3, true)?;
+    Ok(are_spans(&spans.post, &CUT_BEHIND))
+}
+
+fn has_registers_behind(alloc: Global, f: &Flat) -> Result<bool, Fail> {
+    let code = code_of(alloc, f, 3, 3, true)?;
+    Ok(code.post.plan.count() == 2)
 }
 
 fn is_chain_coming_down(alloc: Global) -> Result<bool, Fail> {
     let f = chain(alloc)?;
-    is_coming_down(alloc, &f)
+    Ok(is_needed_behind(alloc, &f)? && has_registers_behind(alloc, &f)?)
 }
 
 #[test]
@@ -135,15 +176,10 @@ fn is_copied(alloc: Global, code: &SwitchCode) -> Result<bool, NoMemory> {
     Ok(is_chain_code(&copy))
 }
 
-// The code of a program of which all that 3 stages and 3 bytes allow is done on the switch.
-fn code_of(alloc: Global, f: &Flat) -> Result<SwitchCode, Fail> {
-    let split = split_of(alloc, f, 3, 3, true)?;
-    Ok(emit(alloc, f, &split, 4)?)
-}
-
+// The code of the chain, of which all that 3 stages and 3 bytes allow is done on the switch.
 fn chain_code(alloc: Global) -> Result<SwitchCode, Fail> {
     let f = chain(alloc)?;
-    code_of(alloc, &f)
+    code_of(alloc, &f, 3, 3, true)
 }
 
 fn is_chain_emitted(alloc: Global) -> Result<bool, Fail> {
@@ -166,11 +202,14 @@ fn are_same_plans(one: &RegPlan, other: &RegPlan, values: u32) -> bool {
     all
 }
 
+fn is_copied_the_same(alloc: Global, plan: &RegPlan, values: u32) -> Result<bool, NoMemory> {
+    let copy = plan.copy(alloc)?;
+    Ok(are_same_plans(&copy, plan, values))
+}
+
 fn is_plan_copied(alloc: Global) -> Result<bool, Fail> {
     let code = chain_code(alloc)?;
-    let plan = &code.post.plan;
-    let copy = plan.copy(alloc)?;
-    Ok(are_same_plans(&copy, plan, code.values))
+    Ok(is_copied_the_same(alloc, &code.post.plan, code.values)?)
 }
 
 #[test]
@@ -179,17 +218,26 @@ fn a_copied_plan_gives_the_same_registers(rt: HostRuntime) -> Result<(), Fail> {
     Ok(())
 }
 
-fn is_journal_kept(alloc: Global) -> Result<bool, NoMemory> {
-    let mut journal = Journal::new(alloc);
+fn note_two(journal: &mut Journal) -> Result<(), NoMemory> {
     journal.reserve(1)?;
     journal.push(Entry::Load)?;
     journal.push_command(&Command::Off, Ok(()));
+    Ok(())
+}
+
+fn are_two_kept(alloc: Global, journal: &Journal) -> Result<bool, NoMemory> {
     let entries = journal.entries(alloc)?;
     let are_there = matches!(
         entries.as_slice(),
         [Entry::Load, Entry::Command(Command::Off, Ok(()))],
     );
     Ok(are_there && journal.spare() == 0)
+}
+
+fn is_journal_kept(alloc: Global) -> Result<bool, NoMemory> {
+    let mut journal = Journal::new(alloc);
+    note_two(&mut journal)?;
+    are_two_kept(alloc, &journal)
 }
 
 fn two_values(first: u64, second: u64) -> Values {
@@ -199,61 +247,101 @@ fn two_values(first: u64, second: u64) -> Values {
     values
 }
 
-// Three commands, with a call that is none between them.
-fn commanded(alloc: Global) -> Result<Journal, NoMemory> {
-    let staged = Command::Stage(Update {
-        object: 3,
-        key: two_values(1, 2),
+const STAGED: (u32, u64, u64) = (3, 1, 2);
+
+const GONE: (u32, u64, u64) = (4, 8, 9);
+
+// The command that puts 5 and 7 under a key of two numbers.
+fn staged() -> Command {
+    Command::Stage(Update {
+        object: STAGED.0,
+        key: two_values(STAGED.1, STAGED.2),
         to: To::Value(two_values(5, 7)),
-    });
-    let gone = Command::Main(Update {
-        object: 4,
-        key: two_values(8, 9),
-        to: To::Gone,
-    });
-    let mut journal = Journal::new(alloc);
-    journal.push(Entry::Command(staged, Ok(())))?;
-    journal.push(Entry::Visible(3))?;
-    journal.push(Entry::Command(gone, Err(PortError::Failed)))?;
-    journal.push(Entry::Command(Command::Clear(5, two_values(3, 4)), Ok(())))?;
-    Ok(journal)
-}
-
-fn is_staged(update: &Update) -> bool {
-    let is_left = match update.to {
-        To::Value(values) => values == two_values(5, 7),
-        To::Gone => false,
-    };
-    is_left && update.object == 3 && update.key == two_values(1, 2)
-}
-
-fn is_gone(update: &Update) -> bool {
-    matches!(update.to, To::Gone) && update.object == 4 && update.key == two_values(8, 9)
-}
-
-fn are_commands_kept(alloc: Global) -> Result<bool, NoMemory> {
-    let journal = commanded(alloc)?;
-    let entries = journal.entries(alloc)?;
-    Ok(match entries.as_slice() {
-        [
-            Entry::Command(Command::Stage(staged), Ok(())),
-            Entry::Visible(3),
-            Entry::Command(Command::Main(gone), Err(PortError::Failed)),
-            Entry::Command(Command::Clear(5, key), Ok(())),
-        ] => is_staged(staged) && is_gone(gone) && *key == two_values(3, 4),
-        _ => false,
     })
 }
 
-// A pass that goes on and then sends a frame up, and one that ends at once.
-fn passed(alloc: Global) -> Result<Journal, NoMemory> {
-    let frame = Ok(UpEnd::Up(Bytes::from_slice(alloc, &[7, 8])?));
-    let sent = Ok(DownEnd::Verdict(Verdict::Send(4, Bytes::from_slice(alloc, &[9])?)));
+fn gone() -> Command {
+    Command::Main(Update {
+        object: GONE.0,
+        key: two_values(GONE.1, GONE.2),
+        to: To::Gone,
+    })
+}
+
+// Three commands, with a call that is none between them.
+fn note_commands(journal: &mut Journal) -> Result<(), NoMemory> {
+    journal.push(Entry::Command(staged(), Ok(())))?;
+    journal.push(Entry::Visible(3))?;
+    journal.push(Entry::Command(gone(), Err(PortError::Failed)))?;
+    journal.push(Entry::Command(Command::Clear(5, two_values(3, 4)), Ok(())))
+}
+
+fn is_of(update: &Update, (object, first, second): (u32, u64, u64)) -> bool {
+    update.object == object && update.key == two_values(first, second)
+}
+
+fn is_staged(entry: &Entry) -> bool {
+    match entry {
+        Entry::Command(Command::Stage(update), Ok(())) => {
+            let is_left = match update.to {
+                To::Value(values) => values == two_values(5, 7),
+                To::Gone => false,
+            };
+            is_left && is_of(update, STAGED)
+        }
+        _ => false,
+    }
+}
+
+fn is_gone(entry: &Entry) -> bool {
+    match entry {
+        Entry::Command(Command::Main(update), Err(PortError::Failed)) => {
+            matches!(update.to, To::Gone) && is_of(update, GONE)
+        }
+        _ => false,
+    }
+}
+
+fn is_cleared(entry: &Entry) -> bool {
+    match entry {
+        Entry::Command(Command::Clear(5, key), Ok(())) => *key == two_values(3, 4),
+        _ => false,
+    }
+}
+
+fn are_commands(entries: &[Entry]) -> bool {
+    match entries {
+        [first, Entry::Visible(3), third, last] => {
+            is_staged(first) && is_gone(third) && is_cleared(last)
+        }
+        _ => false,
+    }
+}
+
+fn are_commands_kept(alloc: Global) -> Result<bool, NoMemory> {
     let mut journal = Journal::new(alloc);
+    note_commands(&mut journal)?;
+    let entries = journal.entries(alloc)?;
+    Ok(are_commands(entries.as_slice()))
+}
+
+// The entry of a pass that ends at its stage with a frame that goes up.
+fn note_up(alloc: Global, journal: &mut Journal) -> Result<(), NoMemory> {
+    let frame = Ok(UpEnd::Up(Bytes::from_slice(alloc, &[7, 8])?));
+    journal.note(Call::StageUp(3, &frame))
+}
+
+// The entry of a frame whose packet leaves at once.
+fn note_down(alloc: Global, journal: &mut Journal) -> Result<(), NoMemory> {
+    let sent = Ok(DownEnd::Verdict(Verdict::Send(4, Bytes::from_slice(alloc, &[9])?)));
+    journal.note(Call::Down(&[1], &sent))
+}
+
+// A pass that goes on and then sends a frame up, and one that ends at once.
+fn note_passes(alloc: Global, journal: &mut Journal) -> Result<(), NoMemory> {
     journal.note(Call::BeginUp(3, 2, &[5, 6], &Ok(UpEnd::Going)))?;
-    journal.note(Call::StageUp(3, &frame))?;
-    journal.note(Call::Down(&[1], &sent))?;
-    Ok(journal)
+    note_up(alloc, journal)?;
+    note_down(alloc, journal)
 }
 
 // Whether this is the entry of a packet that arrives, whose pass goes on.
@@ -298,22 +386,28 @@ fn leaves_by_4(verdict: &Verdict) -> bool {
     }
 }
 
-fn are_passes_kept(alloc: Global) -> Result<bool, NoMemory> {
-    let journal = passed(alloc)?;
-    let entries = journal.entries(alloc)?;
-    Ok(match entries.as_slice() {
+fn are_passes(entries: &[Entry]) -> bool {
+    match entries {
         [first, second, third] => is_begun(first) && is_sent_up(second) && is_released(third),
         _ => false,
-    })
+    }
 }
 
-fn are_answers_copied(alloc: Global) -> Result<bool, NoMemory> {
-    let up = UpEnd::Finished(Verdict::Drop).copy(alloc)?;
-    let down = DownEnd::Verdict(Verdict::Drop).copy(alloc)?;
-    Ok(
-        matches!(&up, UpEnd::Finished(Verdict::Drop))
-            && matches!(&down, DownEnd::Verdict(Verdict::Drop)),
-    )
+fn are_passes_kept(alloc: Global) -> Result<bool, NoMemory> {
+    let mut journal = Journal::new(alloc);
+    note_passes(alloc, &mut journal)?;
+    let entries = journal.entries(alloc)?;
+    Ok(are_passes(entries.as_slice()))
+}
+
+fn is_up_copied(alloc: Global) -> Result<bool, NoMemory> {
+    let copy = UpEnd::Finished(Verdict::Drop).copy(alloc)?;
+    Ok(matches!(&copy, UpEnd::Finished(Verdict::Drop)))
+}
+
+fn is_down_copied(alloc: Global) -> Result<bool, NoMemory> {
+    let copy = DownEnd::Verdict(Verdict::Drop).copy(alloc)?;
+    Ok(matches!(&copy, DownEnd::Verdict(Verdict::Drop)))
 }
 
 #[test]
@@ -321,6 +415,7 @@ fn a_journal_keeps_its_calls(rt: HostRuntime) -> Result<(), Fail> {
     assert!(rt; is_journal_kept(rt.alloc())?);
     assert!(rt; are_commands_kept(rt.alloc())?);
     assert!(rt; are_passes_kept(rt.alloc())?);
-    assert!(rt; are_answers_copied(rt.alloc())?);
+    assert!(rt; is_up_copied(rt.alloc())?);
+    assert!(rt; is_down_copied(rt.alloc())?);
     Ok(())
 }
